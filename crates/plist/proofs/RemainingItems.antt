@@ -57,7 +57,7 @@ of-items f (Some bytes) items answer e h = subst (λ o. IsReadIfKnown o answer) 
 -- the items that remain
 abbrev pub ascii_coming : {R : Type 0} → (R → Option (List ℕ)) → AsciiReader R → Option (List Item)
 ascii_coming known reader =
-    option_map (λ bytes. items_of_ascii (ascii.stops_of reader) bytes (ascii.place_of reader))
+    option_map (λ bytes. items_of_ascii (ends_bare (ascii.dialect_of reader)) bytes (ascii.place_of reader))
     (ascii.untaken_bytes known reader)
 
 pub ascii-shows : (now then : Dialect) (k l : Option (List ℕ)) (p q : ℕ) (item : Given) → then ≡ now

@@ -4,7 +4,7 @@ use Rattle.std.proofs.lemmas.List.{take-append-le, drop-append-le}
 use Rattle.std.specs.Option.{option_map_or}
 use Rattle.std.specs.Result.{result_flatten, result_map_both}
 use Rattle.std.specs.Str.{is_utf8}
-use Rattle.std.specs.Prelude.{not, slice_get}
+use Rattle.std.specs.Prelude.{not, slice_get, if◌then◌else◌}
 use Rattle.plist_base.specs.declared.event.Event.{Event}
 use Rattle.plist_base.specs.Events.{Item, ScalarEvent, event_of}
 use Rattle.plist_base.specs.Trees.{Integer, String}
@@ -14,7 +14,7 @@ use Rattle.plist_ascii.specs.declared.stop.Stop.TheVariants as stop
 use Rattle.plist_ascii.specs.Ascii.{is_blank, lead_of, token_by, IfBracket, IsAsciiEvent}
 use Rattle.plist_ascii.specs.declared.input.Input.{Input}
 use Rattle.plist_ascii.specs.declared.reader.AsciiReader.{AsciiReader}
-use Rattle.plist_ascii.specs.AsciiReader.{GivesAscii, bytes_to_come}
+use Rattle.plist_ascii.specs.AsciiReader.{GivesAscii}
 use Rattle.plist_ascii.specs.TokenPrefixes.{Taken, past_one, run, taken}
 use Rattle.plist_ascii.specs.Texts.{ends_run, quoted, run_end, bare_event, quoted_event, scalar_of_text}
 use Rattle.plist_ascii.specs.Unread.{IfKnown, stops, unread}
@@ -185,7 +185,7 @@ borrowed_gives known failed old new count text event is ahead going bytes place 
             (borrowed_item _ xs _ _ count text (ahead xs e) place),
       );
       dialect = refl;
-      rises = omega arith;
+      rises = (omega arith, omega arith);
       offset = tt;
       kinds = subst IsAsciiEvent (sym is) tt;
       brackets = subst (λ e. IfBracket e (new.peeked ≡ None)) (sym is) tt;
@@ -198,7 +198,7 @@ borrowed_gives known failed old new count text event is ahead going bytes place 
 
 -- fewer items remain after bytes are taken
 pub borrowed_falls : (ended later : Bool) (p q : ℕ) → (ended ≡ true → ⊥) → p < q → q < 2 ^ 64
-    → bytes_to_come later q < bytes_to_come ended p
+    → (if later then 0 else 2 ^ 64 - q) < (if ended then 0 else 2 ^ 64 - p)
 borrowed_falls true later p q going rises fits = absurd (going refl)
 borrowed_falls false true p q going rises fits = omega arith
 borrowed_falls false false p q going rises fits = omega arith

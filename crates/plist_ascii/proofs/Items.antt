@@ -6,14 +6,17 @@ use Rattle.std.specs.Prelude.{IfSome, MatchOption, not, ⊤}
 use Rattle.std.specs.Option.{option_map}
 use Rattle.plist_ascii.specs.declared.fault.TokenFault.{TokenFault}
 use Rattle.plist_ascii.specs.declared.fault.TokenFault.TheVariants as broken
-use Rattle.plist_ascii.specs.inner.Inputs.{kind_in_bytes, fault_after}
+use Rattle.plist_ascii.specs.declared.input.Input.{Input}
+use Rattle.plist_ascii.specs.Unread.{RisesIfCounted}
+use Rattle.plist_ascii.specs.inner.Inputs.{CountsFailed, kind_in_bytes, fault_after}
+use Rattle.plist_base.specs.declared.event.Event.{Event}
 use Rattle.plist_base.specs.Events.{PlainEvent, Item}
 use Rattle.plist_ascii.specs.TokenPrefixes.{taken, run}
 use Rattle.plist_ascii.specs.Texts.{Token}
 use Rattle.plist_ascii.proofs.TokenOutcomes.{TakesFront}
 use Rattle.plist_ascii.specs.declared.token.Lead.{Lead}
 use Rattle.plist_ascii.specs.declared.token.Lead.TheVariants as lead
-use Rattle.plist_ascii.specs.Ascii.{PlacedItem, placed, begins_nothing, is_blank, item_then, items_in, items_of_ascii, placed_items, token, token_by, lead_of, IsTextToken, BeginsWithText, FirstIsQuoted}
+use Rattle.plist_ascii.specs.Ascii.{PlacedItem, placed, is_blank, item_then, items_in, items_of_ascii, placed_items, token, token_by, lead_of, IsFaultOfBytes, IsTextToken, BeginsWithText, FirstIsQuoted}
 use Rattle.plist_ascii.specs.AsciiReader.{BeginsWithItem}
 
 then_same : (l : Lead) (q : ℕ) (g : Result (Option PlainEvent) FaultKind) (xs ys : List PlacedItem)
@@ -78,8 +81,8 @@ begins : (stops : ℕ → Bool) (xs : List ℕ) (p : ℕ) (l : Lead) (x : Item) 
 begins stops xs p l x ys q e d =
     (ap (map (λ i. i.item)) e, record { lead = l; ends = e; rest = d })
 
-blank_leads : (l : Lead) → begins_nothing l ≡ true → l ≡ lead.Blank
-blank_leads l e = search rules
+blank_leads : (c : ℕ) → is_blank c ≡ true → lead_of c ≡ lead.Blank
+blank_leads c e = rw e refl
 
 blank_gives : (stops : ℕ → Bool) (c : ℕ) (cs : List ℕ) → lead_of c ≡ lead.Blank
     → token_by stops (lead_of c) c cs ≡ taken 0 (Ok None)
@@ -192,7 +195,7 @@ going_blanks {stops} {xs} {p} {ys = c ∷ cs} {m} h =
     by_test true e on =
         let one : 1 + n ≡ suc n = omega arith in
         let sum : m + suc n ≡ m + 1 + n = omega arith in
-        let blank = blank_gives stops c cs (blank_leads (lead_of c) e) in
+        let blank = blank_gives stops c cs (blank_leads c e) in
         let bytes : m + 1 ≡ m + 1 + (token_by stops (lead_of c) c cs).bytes =
         rw blank (omega arith) in
         let next : Going stops xs p (drop (token_by stops (lead_of c) c cs).bytes cs) (m + 1) =
@@ -204,3 +207,70 @@ pub going_none : {stops : ℕ → Bool} {xs : List ℕ} {p : ℕ} {ys : List ℕ
     → Going stops xs p ys m → ys ≡ [] → items_of_ascii stops xs p ≡ []
 going_none {stops} {xs} {p} {ys} {m} h e =
     ap (map (λ i. i.item)) (h.all ∙ ap (λ z. placed_items stops z m) e ∙ items_nil _ 0 m)
+
+-- ---- what an error says
+
+module _ (f : TokenFault) (p : ℕ) (x : Fault) (is : x ≡ fault_after f p) where
+  -- a fact for each kind of error
+  pub by_fault : {A B C : Type 0} → (f ≡ broken.Io → A) → (f ≡ broken.OutOfMemory → B) → C
+      → MatchFault x.kind A B C
+  by_fault {A} {B} {C} a b d =
+      subst (λ (x : Fault). MatchFault x.kind A B C) (sym is) (by f a b d)
+    where
+      by : (f : TokenFault) → (f ≡ broken.Io → A) → (f ≡ broken.OutOfMemory → B) → C
+          → MatchFault (fault_after f p).kind A B C
+      by broken.Io a b d = a refl
+      by broken.OutOfMemory a b d = b refl
+      by f a b d = d
+
+  -- an error in the bytes is one of those that bytes can have
+  pub fault_kind : MatchFault x.kind ⊤ ⊤ (IsFaultOfBytes x.kind)
+  fault_kind = subst (λ (x : Fault). MatchFault x.kind ⊤ ⊤ (IsFaultOfBytes x.kind)) (sym is) (by f)
+    where
+      by : (f : TokenFault) → let kind = (fault_after f p).kind in
+          MatchFault kind ⊤ ⊤ (IsFaultOfBytes kind)
+      by broken.Io = tt
+      by broken.OutOfMemory = tt
+      by broken.UnclosedString = tt
+      by broken.IncompleteComment = tt
+      by broken.InvalidUtf8 = tt
+      by broken.InvalidOctal = tt
+      by broken.InvalidUtf16 = tt
+
+  -- an error is at the offset up to which bytes were taken, unless it is `OutOfMemory`
+  pub fault_place : (q : ℕ) → q ≡ p
+      → MatchFault x.kind (x.offset ≡ Some q) (x.offset ≡ None) (x.offset ≡ Some q)
+  fault_place q same =
+      subst (λ (x : Fault). MatchFault x.kind (x.offset ≡ Some q) (x.offset ≡ None) (x.offset ≡ Some q))
+      (sym is) (rw same (by f))
+    where
+      by : (f : TokenFault) → let x = fault_after f p in
+          MatchFault x.kind (x.offset ≡ Some p) (x.offset ≡ None) (x.offset ≡ Some p)
+      by broken.Io = refl
+      by broken.OutOfMemory = refl
+      by broken.UnclosedString = refl
+      by broken.IncompleteComment = refl
+      by broken.InvalidUtf8 = refl
+      by broken.InvalidOctal = refl
+      by broken.InvalidUtf16 = refl
+
+-- only `Io` is counted
+pub fault_counts : {R : Type 0} (failures : R → Option ℕ) (mid new : Input R) (f : TokenFault)
+    (p : ℕ) (x : Fault) (before after : Option ℕ) → x ≡ fault_after f p
+    → CountsFailed {A = Option Event} failures mid (Err f) new → failures mid.inner ≡ before
+    → after ≡ failures new.inner
+    → MatchFault x.kind (RisesIfCounted before after) (after ≡ before) (after ≡ before)
+fault_counts failures mid new broken.Io p x before after is counts old now =
+    rw (is, ← old, now) counts.0
+fault_counts failures mid new broken.OutOfMemory p x before after is counts old now =
+    rw is (now ∙ counts ∙ old)
+fault_counts failures mid new broken.UnclosedString p x before after is counts old now =
+    rw is (now ∙ counts ∙ old)
+fault_counts failures mid new broken.IncompleteComment p x before after is counts old now =
+    rw is (now ∙ counts ∙ old)
+fault_counts failures mid new broken.InvalidUtf8 p x before after is counts old now =
+    rw is (now ∙ counts ∙ old)
+fault_counts failures mid new broken.InvalidOctal p x before after is counts old now =
+    rw is (now ∙ counts ∙ old)
+fault_counts failures mid new broken.InvalidUtf16 p x before after is counts old now =
+    rw is (now ∙ counts ∙ old)

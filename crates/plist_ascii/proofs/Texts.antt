@@ -10,13 +10,13 @@ use Rattle.plist_base.specs.Events.{PlainEvent, ScalarEvent, event_of}
 use Rattle.plist_base.specs.Trees.{Integer, Scalar, String}
 use Rattle.std.specs.Option.{option_map_or}
 use Rattle.std.specs.Result.{result_flatten, result_map_both}
-use Rattle.std.specs.Prelude.{ℤ, SomeIff, ⊤, ◌==◌, length, encode_utf8, slice_get}
+use Rattle.std.specs.Prelude.{ℤ, SomeIff, ⊤, ◌==◌, encode_utf8, slice_get}
 use Rattle.plist_ascii.specs.Texts.{Token, utf8_or_fault, bare, bare_event, quoted_event, escape_then, run_end, quoted_by, quoted_in, quoted, quoted_token, slash}
 use Rattle.plist_ascii.specs.Ascii.{IsTextEvent, IsTextFault, IsTextToken, lead_of, token_by}
 use lib.Utf8.{low_scalar}
 use Rattle.std.specs.Char.{IsScalar, is_digit}
-use Rattle.plist_ascii.specs.TokenPrefixes.{Taken, taken, past_one, followed, front, run}
-use Rattle.plist_ascii.specs.Escapes.{is_surrogate, bad_unit, escape, escape_by, simple_escape, octal_text, unit, first_unit, second_unit, second_letter, second_digits, pair_text}
+use Rattle.plist_ascii.specs.TokenPrefixes.{Taken, taken, past_one, followed, needs, run}
+use Rattle.plist_ascii.specs.Escapes.{is_surrogate, bad_unit, escape, escape_by, simple_escape, octal_text, unit, unit_of, first_unit, second_unit, second_letter, second_digits, pair_text}
 use Rattle.plist_ascii.specs.declared.token.Lead.{Lead}
 use Rattle.plist_ascii.specs.Unread.{IfKnown}
 use Rattle.std.proofs.lemmas.Bool.{ne_eqb}
@@ -59,12 +59,12 @@ bare_wants stops c xs =
 
 -- ---- the parts of a quoted string
 
-needs_in : {A : Type 0} (n : ℕ) (xs : List ℕ) (o : Option (List ℕ))
-    (meaning : List ℕ → Result A FaultKind) → ((ds : List ℕ) → InText (meaning ds))
-    → InText (option_map_or (λ digits. taken n (meaning digits)) o
-    (taken (length xs) (Err UnclosedString))).gives
-needs_in n xs None meaning h = tt
-needs_in n xs (Some ds) meaning h = h ds
+needs_in : {A : Type 0} (n : ℕ) (meaning : List ℕ → Result A FaultKind) (xs : List ℕ)
+    → ((ds : List ℕ) → InText (meaning ds)) → InText (needs n meaning xs).gives
+needs_in zero meaning xs h = h []
+needs_in (suc n) meaning [] h = tt
+needs_in (suc n) meaning (c ∷ xs) h =
+    needs_in n (λ ds. meaning (c ∷ ds)) xs (λ ds. h (c ∷ ds))
 
 followed_in : {A B : Type 0} (xs : List ℕ) (n : ℕ) (g : Result A FaultKind)
     (next : A → List ℕ → Taken B) → InText g → ((a : A) (ys : List ℕ) → InText (next a ys).gives)
@@ -83,7 +83,7 @@ either_in true r s h k = h
 either_in false r s h k = k
 
 unit_in : (xs : List ℕ) → InText (unit xs).gives
-unit_in xs = needs_in 4 xs _ (λ ds. Ok _) (λ ds. tt)
+unit_in xs = needs_in 4 (λ ds. Ok (unit_of ds)) xs (λ ds. tt)
 
 pair_in : (high : ℕ) (low : Option ℕ) → InText (pair_text high low)
 pair_in high None = tt
@@ -122,7 +122,7 @@ octal_in digits = either_in _ (Ok _) (Err _) tt tt
 by_in : (c : ℕ) (xs : List ℕ) → InText (escape_by c xs).gives
 by_in c xs =
     let u = followed_in xs (unit xs).bytes (unit xs).gives first_unit (unit_in xs) first_in in
-    let o = needs_in 2 xs (front 2 xs) (λ ds. octal_text (c ∷ ds)) (λ ds. octal_in (c ∷ ds)) in
+    let o = needs_in 2 (λ ds. octal_text (c ∷ ds)) xs (λ ds. octal_in (c ∷ ds)) in
     let s = simple_in (simple_escape c) in
     cond_in _ _ _ u (cond_in (is_digit c 8) _ _ o s)
 

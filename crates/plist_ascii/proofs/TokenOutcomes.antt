@@ -6,7 +6,7 @@ use Rattle.std.specs.Result.{IsErrAnd, IfErr, OnOk}
 use Rattle.plist_base.specs.Faults.{FaultKind, UnclosedString}
 use Rattle.plist_ascii.specs.declared.fault.TokenFault.{TokenFault}
 use Rattle.plist_ascii.specs.Unread.{IfKnown}
-use Rattle.plist_ascii.specs.TokenPrefixes.{Taken, taken, past_one, front}
+use Rattle.plist_ascii.specs.TokenPrefixes.{Taken, taken, past_one}
 use Rattle.plist_ascii.specs.inner.Inputs.{kind_in_bytes, said}
 
 -- from offset p to offset q, what is at the front of the old bytes was taken, with this meaning or

@@ -1,10 +1,7 @@
 -- The tokens of an old-style ASCII property list, their items, and the events and faults there are.
-use Rattle.std.specs.Prelude.{◌≡◌, ◌⊎◌, ℕ, zero, suc, ◌+◌, Bool, true, false, if◌then◌else◌, List, [], ◌∷◌, length, drop, map, Option, None, Some, Result, Ok, Err, IfOk, IfSome, ⊤}
-use Rattle.plist_base.specs.declared.error.Error.{Error}
-use Rattle.plist_base.specs.declared.event.Event.{Event}
-use Rattle.plist_base.specs.Events.{PlainEvent, StartArray, StartDictionary, EndCollection, Item, ScalarEvent, event_of}
+use Rattle.std.specs.Prelude.{◌≡◌, ◌⊎◌, ℕ, zero, suc, ◌+◌, Bool, if◌then◌else◌, List, [], ◌∷◌, length, drop, map, slice_get, Option, None, Some, Result, Ok, Err, IsSomeAnd, MatchResult, ⊤}
+use Rattle.plist_base.specs.Events.{PlainEvent, StartArray, StartDictionary, EndCollection, Item, ScalarEvent}
 use Rattle.plist_base.specs.Faults.{FaultKind, IncompleteComment, InvalidOctalString, InvalidUtf16String, InvalidUtf8AsciiStream, UnclosedString, fault_at}
-use Rattle.plist_base.specs.FirstItems.{MatchItem}
 use Rattle.plist_base.specs.Trees.{Integer, String}
 use Rattle.plist_ascii.specs.declared.token.Lead.{Lead}
 use Rattle.plist_ascii.specs.declared.token.Lead.TheVariants as lead
@@ -13,21 +10,16 @@ use Rattle.plist_ascii.specs.Texts.{Token, bare, lax_stops, quoted_token, slash}
 
 -- ---- tokens
 
--- what a byte begins: a start, an end, nothing, a quoted string, a comment or a bare string
-abbrev pub lead_of : ℕ → Lead
-lead_of c =
-    if is_one_of "(" c then lead.ArrayStart else if is_one_of "{" c then lead.DictionaryStart
-    else if is_one_of ")}" c then lead.End else if is_one_of ",;= \r\t\n" c then lead.Blank
-    else if is_one_of "'\"" c then lead.Quote else if is_one_of "/" c then lead.Slash else lead.Bare
-
--- does a byte with this lead begin nothing, as a separator or white space does?
-abbrev pub begins_nothing : Lead → Bool
-begins_nothing lead.Blank = true
-begins_nothing other = false
-
 -- is the byte a separator or white space?
 abbrev pub is_blank : ℕ → Bool
-is_blank c = begins_nothing (lead_of c)
+is_blank c = is_one_of ",;= \r\t\n" c
+
+-- what a byte begins: nothing, a start, an end, a quoted string, a comment or a bare string
+abbrev pub lead_of : ℕ → Lead
+lead_of c =
+    if is_blank c then lead.Blank else if is_one_of "(" c then lead.ArrayStart
+    else if is_one_of "{" c then lead.DictionaryStart else if is_one_of ")}" c then lead.End
+    else if is_one_of "'\"" c then lead.Quote else if is_one_of "/" c then lead.Slash else lead.Bare
 
 -- the token that c begins, without c itself
 abbrev pub token_by : (stops : ℕ → Bool) → Lead → ℕ → List ℕ → Token
@@ -113,34 +105,21 @@ IsAsciiEvent (StartDictionary None) = ⊤
 IsAsciiEvent EndCollection = ⊤
 IsAsciiEvent event = IsTextEvent event
 
--- the item, if there is one, is one of these events or faults
-abbrev pub IsAsciiItem : Option (Result Event Error) → Type 0
-IsAsciiItem item =
-    MatchItem item ⊤ (λ event. IsAsciiEvent (event_of event)) ⊤ ⊤ (λ f. IsFaultOfBytes f.kind)
-
 -- if the event is a start or an end, the fact is true
 abbrev pub IfBracket : PlainEvent → (fact : Type 0) → Type 0
 IfBracket (ScalarEvent scalar) fact = ⊤
 IfBracket other fact = fact
 
--- if the item is a start or an end, the fact is true
-abbrev pub IfBracketItem : Option (Result Event Error) → (fact : Type 0) → Type 0
-IfBracketItem item fact =
-    IfSome item (λ answer. IfOk answer (λ event. IfBracket (event_of event) fact))
-
 -- ---- where memory may run out
 
 -- the token is a string, an integer or a string's fault
 abbrev pub IsTextToken : Result (Option PlainEvent) FaultKind → Type 0
-IsTextToken (Ok None) = ⊥
-IsTextToken (Ok (Some event)) = IsTextEvent event
-IsTextToken (Err kind) = IsTextFault kind
+IsTextToken token = MatchResult token (λ event. IsSomeAnd event IsTextEvent) IsTextFault
 
 -- the first item is a string, an integer or a string's fault
 abbrev pub BeginsWithText : List Item → Type 0
-BeginsWithText [] = ⊥
-BeginsWithText (Ok event ∷ items) = IsTextEvent event
-BeginsWithText (Err fault ∷ items) = IsTextFault fault.kind
+BeginsWithText items = IsSomeAnd (slice_get items 0)
+    (λ item. MatchResult item IsTextEvent (λ fault. IsTextFault fault.kind))
 
 -- ---- what follows an item
 

@@ -1,17 +1,17 @@
 -- A reader as contracts describe it: the bytes that it hasn't taken yet, and their items.
-use Rattle.std.specs.Prelude.{◌≡◌, ℕ, ◌-◌, ◌^◌, ◌<◌, ◌≤◌, Bool, true, if◌then◌else◌, List, [], ◌∷◌, take, drop, Option, None, Some, Result, Ok, Err, IfErr, IfSome, OnOk, ⊤}
+use Rattle.std.specs.Prelude.{◌≡◌, ℕ, ◌-◌, ◌^◌, ◌<◌, ◌≤◌, Bool, true, if◌then◌else◌, List, [], ◌∷◌, take, drop, Option, None, Some, Result, Ok, Err, IfOk, IfErr, IfSome, OnOk, ⊤}
 use Rattle.std.specs.Option.{option_map}
 use Rattle.plist_base.specs.declared.error.Error.{Error}
 use Rattle.plist_base.specs.declared.event.Event.{Event}
-use Rattle.plist_base.specs.Faults.{MatchFault, fault_of}
+use Rattle.plist_base.specs.Faults.{MatchFault, fault_of, offset_of}
 use Rattle.plist_base.specs.Events.{Item, event_of}
 use Rattle.plist_base.specs.FirstItems.{GivesFirst, MatchItem}
 use Rattle.plist_ascii.specs.declared.reader.AsciiReader.{AsciiReader}
 use Rattle.plist_ascii.specs.declared.dialect.Dialect.{Dialect}
 use Rattle.plist_ascii.specs.Texts.{ends_bare}
 use Rattle.plist_ascii.specs.declared.token.Lead.{Lead}
-use Rattle.plist_ascii.specs.Ascii.{PlacedItem, placed, placed_items, items_of_ascii, BeginsWithText, FirstIsQuoted, IsAsciiItem, IsFaultOfBytes, IfBracketItem}
-use Rattle.plist_ascii.specs.Unread.{ItemCountsIoIfCounted, unread, IfKnown}
+use Rattle.plist_ascii.specs.Ascii.{placed, placed_items, items_of_ascii, BeginsWithText, FirstIsQuoted, IsAsciiEvent, IsFaultOfBytes, IfBracket}
+use Rattle.plist_ascii.specs.Unread.{RisesIfCounted, unread, IfKnown}
 
 -- the inner reader
 abbrev pub device_of : {R : Type 0} → AsciiReader R → R
@@ -28,10 +28,6 @@ place_of reader = reader.input.taken
 -- the reader's dialect
 abbrev pub dialect_of : {R : Type 0} → AsciiReader R → Dialect
 dialect_of reader = reader.dialect
-
--- the bytes that end a bare string in this dialect
-abbrev pub stops_of : {R : Type 0} → AsciiReader R → ℕ → Bool
-stops_of reader = ends_bare (dialect_of reader)
 
 -- the reader has ended, and yields nothing more
 abbrev pub HasEndedAscii : {R : Type 0} → AsciiReader R → Type 0
@@ -65,51 +61,38 @@ GivesAsciiItem stops bytes p item rest q =
     (rest ≡ []) ((rest ≡ []) × BeginsWithText items)
     (λ fault. BeginsWithItem stops bytes p (Err fault) rest q)
 
--- at least one byte is taken for an event or a fault in the bytes, and no byte is put back
-abbrev pub TakesBytes : Option (Result Event Error) → (p q : ℕ) → Type 0
-TakesBytes item p q = MatchItem item (p ≤ q) (λ _. p < q) (p ≤ q) (p ≤ q) (λ _. p < q)
-
--- the offset of `Io` and of a fault in the bytes is the number of bytes taken; `OutOfMemory` has
--- none
-abbrev pub FaultIsAt : Option (Result Event Error) → ℕ → Type 0
-FaultIsAt item place = IfSome item (λ answer. IfErr answer (λ error.
-    let fault = fault_of error in
-    MatchFault fault.kind (fault.offset ≡ Some place) (fault.offset ≡ None)
-    (IsFaultOfBytes fault.kind × (fault.offset ≡ Some place))))
-
--- if the item is an event and the first of these items is a quoted string, the fact is true
-abbrev pub IfQuotedItem : List PlacedItem → Option (Result Event Error) → (fact : Type 0) → Type 0
-IfQuotedItem items item fact = IfSome item (λ answer. OnOk answer (FirstIsQuoted items → fact))
-
--- after `Io`, `OutOfMemory` and `None`, the reader has ended
-abbrev pub EndsAfterIoOrMemory : Option (Result Event Error) → (ended : Type 0) → Type 0
-EndsAfterIoOrMemory item ended = MatchItem item ended (λ _. ⊤) ended ended (λ _. ⊤)
-
 -- what one call of `next` does: it returns the first item of the bytes not taken yet; a reader that
 -- has ended doesn't call the inner reader, and after a start, an end or a quoted string no further
 -- byte has been looked at
 pub record GivesAscii {R : Type 0} (known : R → Option (List ℕ)) (failed : R → Option ℕ)
     (old : AsciiReader R) (item : Option (Result Event Error)) (new : AsciiReader R) : Type 0 where
   pub items : IfKnown (untaken_bytes known old) (λ bytes. (rest : List ℕ)
-      × (untaken_bytes known new ≡ Some rest)
-      × GivesAsciiItem (stops_of old) bytes (place_of old) item rest (place_of new))
+      × (untaken_bytes known new ≡ Some rest) × GivesAsciiItem (ends_bare (dialect_of old)) bytes
+      (place_of old) item rest (place_of new))
   pub dialect : dialect_of new ≡ dialect_of old
-  pub rises : TakesBytes item (place_of old) (place_of new)
-  pub offset : FaultIsAt item (place_of new)
-  pub kinds : IsAsciiItem item
-  pub brackets : IfBracketItem item (peeked_byte new ≡ None)
-  pub quotes : IfKnown (untaken_bytes known old)
-      (λ bytes. IfQuotedItem (placed_items (stops_of old) bytes (place_of old)) item
-      (peeked_byte new ≡ None))
-  pub failures : ItemCountsIoIfCounted item (failed (device_of old)) (failed (device_of new))
+  -- at least one byte is taken for an event or a fault in the bytes, and no byte is put back
+  pub rises : (place_of old ≤ place_of new) × MatchItem item ⊤
+      (λ _. place_of old < place_of new) ⊤ ⊤ (λ _. place_of old < place_of new)
+  pub kinds : MatchItem item ⊤ (λ event. IsAsciiEvent (event_of event)) ⊤ ⊤
+      (λ fault. IsFaultOfBytes fault.kind)
+  -- the offset of a fault is the number of bytes taken; `OutOfMemory` has none
+  pub offset : IfSome item (λ answer. IfErr answer (λ error.
+      let taken = offset_of error ≡ Some (place_of new) in
+      MatchFault (fault_of error).kind taken (offset_of error ≡ None) taken))
+  pub brackets : IfSome item (λ answer. IfOk answer (λ event.
+      IfBracket (event_of event) (peeked_byte new ≡ None)))
+  pub quotes : IfKnown (untaken_bytes known old) (λ bytes. IfSome item (λ answer. OnOk answer
+      (FirstIsQuoted (placed_items (ends_bare (dialect_of old)) bytes (place_of old))
+      → peeked_byte new ≡ None)))
+  -- the count of failures rose if the item is `Io`, and otherwise is unchanged
+  pub failures : let same = failed (device_of new) ≡ failed (device_of old) in
+      MatchItem item same (λ _. same)
+      (RisesIfCounted (failed (device_of old)) (failed (device_of new))) same (λ _. same)
   pub ended : HasEndedAscii old → item ≡ None
   pub unasked : HasEndedAscii old → device_of new ≡ device_of old
-  pub ends : EndsAfterIoOrMemory item (HasEndedAscii new)
-
--- an upper bound on the number of remaining items, given the number of bytes taken
-abbrev pub bytes_to_come : (ended : Bool) → (taken : ℕ) → ℕ
-bytes_to_come ended taken = if ended then 0 else 2 ^ 64 - taken
+  -- the reader has ended after `None`, `Io` and `OutOfMemory`
+  pub ends : let over = HasEndedAscii new in MatchItem item over (λ _. ⊤) over over (λ _. ⊤)
 
 -- an upper bound on the number of a reader's remaining items
 abbrev pub ascii_steps : {R : Type 0} → AsciiReader R → ℕ
-ascii_steps reader = bytes_to_come reader.input.ended reader.input.taken
+ascii_steps reader = if reader.input.ended then 0 else 2 ^ 64 - place_of reader

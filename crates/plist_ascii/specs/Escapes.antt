@@ -41,7 +41,7 @@ octal_text digits =
 
 -- an octal escape: the digit c, and the two bytes after it
 abbrev pub octal : ℕ → List ℕ → Taken (List ℕ)
-octal c rest = needs 2 rest (λ digits. octal_text (c ∷ digits))
+octal c = needs 2 (λ digits. octal_text (c ∷ digits))
 
 -- the number that hexadecimal digits spell, or `None` if one of the bytes isn't a digit
 abbrev pub unit_of : List ℕ → Option ℕ
@@ -50,7 +50,7 @@ unit_of digits =
 
 -- four bytes, and the unit that they spell, if they are digits
 abbrev pub unit : List ℕ → Taken (Option ℕ)
-unit rest = needs 4 rest (λ digits. Ok (unit_of digits))
+unit = needs 4 (λ digits. Ok (unit_of digits))
 
 -- is the unit a surrogate, which is half of a pair?
 abbrev pub is_surrogate : ℕ → Bool

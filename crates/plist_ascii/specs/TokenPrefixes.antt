@@ -1,8 +1,7 @@
 -- How many bytes are taken from the front of a list, and what they mean.
-use Rattle.std.specs.Prelude.{ℕ, suc, zero, ◌+◌, Bool, not, ◌==◌, codes, List, [], ◌∷◌, length, drop, Option, None, Some, Result, Ok, Err}
+use Rattle.std.specs.Prelude.{ℕ, suc, zero, ◌+◌, Bool, not, ◌==◌, codes, List, [], ◌∷◌, drop, Result, Ok, Err}
 use Prim.Native.String.{String}
 use Rattle.std.specs.List.{list_any, prefix_len}
-use Rattle.std.specs.Option.{option_map, option_map_or}
 use Rattle.plist_base.specs.Faults.{FaultKind, UnclosedString}
 
 -- the number of bytes taken, and their meaning or fault
@@ -29,22 +28,16 @@ abbrev pub followed : {A B : Type 0} → List ℕ → ℕ → Result A FaultKind
 followed bytes n (Ok a) next = past n (next a (drop n bytes))
 followed bytes n (Err fault) next = taken n (Err fault)
 
--- the first n bytes, or `None` if there are fewer
-abbrev pub front : ℕ → List ℕ → Option (List ℕ)
-front zero bytes = Some []
-front (suc n) [] = None
-front (suc n) (c ∷ bytes) = option_map (λ cs. c ∷ cs) (front n bytes)
-
--- `count` bytes are taken with their meaning; if there are fewer, all are taken, and the string is
--- unclosed
-abbrev pub needs : {A : Type 0} → ℕ → List ℕ → (List ℕ → Result A FaultKind) → Taken A
-needs count bytes meaning = option_map_or (λ digits. taken count (meaning digits))
-    (front count bytes) (taken (length bytes) (Err UnclosedString))
-
 -- one byte is taken, and then what `next` takes; if there is no byte, the string is unclosed
 abbrev pub after_byte : {A : Type 0} → (ℕ → List ℕ → Taken A) → List ℕ → Taken A
 after_byte next [] = taken 0 (Err UnclosedString)
 after_byte next (c ∷ rest) = past_one (next c rest)
+
+-- `count` bytes are taken with their meaning; if there are fewer, all are taken, and the string is
+-- unclosed
+abbrev pub needs : {A : Type 0} → (count : ℕ) → (List ℕ → Result A FaultKind) → List ℕ → Taken A
+needs zero meaning = λ rest. taken 0 (meaning [])
+needs (suc count) meaning = after_byte (λ c. needs count (λ bytes. meaning (c ∷ bytes)))
 
 -- is the byte one of these characters?
 abbrev pub is_one_of : String → ℕ → Bool

@@ -1,11 +1,9 @@
 -- The bytes that an input hasn't taken yet, what a read or a part of a token takes of them, and how
 -- the count of failures changes.
-use Rattle.std.specs.Prelude.{◌≡◌, ℕ, ◌-◌, ◌^◌, Bool, true, false, not, ◌==◌, List, [], ◌∷◌, take, Option, Some, Result, IfSome, IsSomeAnd, MatchOption}
+use Rattle.std.specs.Prelude.{◌≡◌, ℕ, ◌-◌, ◌^◌, Bool, true, false, not, ◌==◌, List, [], ◌∷◌, take, Option, Some, IfSome, IsSomeAnd, MatchOption}
 use Rattle.std.specs.Io.KnownBytes.{Consumes, IsAtEnd}
 use Rattle.std.specs.List.{cons_option}
 use Rattle.std.specs.Option.{option_map}
-use Rattle.plist_base.specs.declared.error.Error.{Error}
-use Rattle.plist_base.specs.FirstItems.{MatchItem}
 use Rattle.plist_base.specs.Sources.{Rises}
 use Rattle.plist_ascii.specs.declared.input.Input.{Input}
 use Rattle.plist_ascii.specs.declared.stop.Stop.{Stop}
@@ -21,13 +19,6 @@ GivesByte old byte new = MatchOption byte (Consumes old new [] × IsAtEnd new)
 -- if failures are counted, their count rose or is at its maximum
 abbrev pub RisesIfCounted : Option ℕ → Option ℕ → Type 0
 RisesIfCounted old new = IfSome old (λ old. IsSomeAnd new (Rises old))
-
--- the count of failures rose if the iterator yielded `Io`, and otherwise is unchanged
-abbrev pub ItemCountsIoIfCounted : {A : Type 0} → Option (Result A Error) → Option ℕ → Option ℕ
-    → Type 0
-ItemCountsIoIfCounted item old new =
-    let same = new ≡ old in
-    MatchItem item same (λ _. same) (RisesIfCounted old new) same (λ _. same)
 
 -- ---- bytes that were not taken yet
 

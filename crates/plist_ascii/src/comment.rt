@@ -4,7 +4,7 @@ ghost use Rattle.std.specs.Prelude.{◌≡◌, ◌+◌, ◌^◌, ◌<◌, ◌≤
 ghost use Rattle.plist_ascii.specs.TokenPrefixes.{run};
 ghost use Rattle.plist_ascii.specs.Unread.{IfKnown, stops, unread};
 ghost use Rattle.plist_ascii.specs.Texts.{line_comment, block_comment};
-ghost use Rattle.plist_ascii.specs.inner.Inputs.{CountsFailed, CountsRead, GivesBy, IfCame, TakesPast};
+ghost use Rattle.plist_ascii.specs.inner.Inputs.{CountsFailed, GivesBy, IfCame, TakesPast};
 
 use crate::byte_reader::ByteReader;
 use crate::fault::TokenFault;
@@ -19,9 +19,11 @@ impl<R: ByteReader> Input<R> {
         ensures value { OnOk result (IfKnown (unread R.remaining self.old) (λ xs.
             (unread R.remaining self.new ≡ Some (drop (run (stops stop) xs) xs))
             × (self.new.taken ≡ self.old.taken + run (stops stop) xs))) }
+        // Errors.
+        ensures fault { IfErr result (λ f. f ≡ TokenFault.Io) }
         // State afterwards.
         ensures place { self.old.taken ≤ self.new.taken }
-        ensures failures { CountsRead R.failures self.old result self.new }
+        ensures failures { CountsFailed R.failures self.old result self.new }
     {
         'run: loop {
             match self.peek()? {
@@ -41,12 +43,14 @@ impl<R: ByteReader> Input<R> {
     pub fn take_past(&mut self, stop: Stop) -> Result<Option<u8>, TokenFault>
         // Result.
         ensures value { IfOk result (λ byte. TakesPast R.remaining stop self.old byte self.new) }
+        // Errors.
+        ensures fault { IfErr result (λ f. f ≡ TokenFault.Io) }
         // State afterwards.
         ensures peeked { IfCame result (λ _. self.new.peeked ≡ None) }
         ensures rises { IfCame result (λ _. self.old.taken < self.new.taken) }
         ensures place { self.old.taken ≤ self.new.taken }
         ensures countable { IfCame result (λ _. self.new.taken < 2 ^ 64) }
-        ensures failures { CountsRead R.failures self.old result self.new }
+        ensures failures { CountsFailed R.failures self.old result self.new }
     {
         self.skip_run(stop)?;
         self.take()

@@ -3,7 +3,7 @@
 ghost use Rattle.std.specs.Prelude.{◌≡◌, ◌+◌, ◌++◌, ◌^◌, ◌<◌, ◌≤◌, ℕ, List, [], drop, length, None, Some, true, false, IfOk, IfErr, IfSome, IsSome, OnOk, ⊤};
 ghost use Rattle.plist_ascii.specs.Unread.{IfKnown, unread};
 ghost use Rattle.plist_base.specs.Faults.{UnclosedString, fault_of};
-ghost use Rattle.plist_ascii.specs.inner.Inputs.{fault_after, kind_in_bytes, CountsByte, CountsFailed, CountsRead, EndsInput, IfCame, Looks, TakesHand, TakesIf, TakesNext, TakesOneMore, TakesPart, hand};
+ghost use Rattle.plist_ascii.specs.inner.Inputs.{fault_after, kind_in_bytes, CountsByte, CountsFailed, EndsInput, IfCame, Looks, TakesHand, TakesIf, TakesNext, TakesOneMore, TakesPart, hand};
 
 use crate::byte_reader::ByteReader;
 use crate::fault::TokenFault;
@@ -115,10 +115,12 @@ impl<R: ByteReader> Input<R> {
         requires { hand R.window self.old ≡ [] }
         // Result.
         ensures next { IfOk result (λ byte. Looks R.remaining self.old byte self.new) }
+        // Errors.
+        ensures fault { IfErr result (λ f. f ≡ TokenFault.Io) }
         // State afterwards.
         ensures hand { IfCame result (λ _. 0 < length (hand R.window self.new)) }
         ensures place { self.new.taken ≡ self.old.taken }
-        ensures failures { CountsRead R.failures self.old result self.new }
+        ensures failures { CountsFailed R.failures self.old result self.new }
     {
         if self.ended {
             return Ok(None);
@@ -148,10 +150,12 @@ impl<R: ByteReader> Input<R> {
     pub fn peek(&mut self) -> Result<Option<u8>, TokenFault>
         // Result.
         ensures next { IfOk result (λ byte. Looks R.remaining self.old byte self.new) }
+        // Errors.
+        ensures fault { IfErr result (λ f. f ≡ TokenFault.Io) }
         // State afterwards.
         ensures hand { IfCame result (λ _. 0 < length (hand R.window self.new)) }
         ensures place { self.new.taken ≡ self.old.taken }
-        ensures failures { CountsRead R.failures self.old result self.new }
+        ensures failures { CountsFailed R.failures self.old result self.new }
     {
         let bytes = self.at_hand();
         if bytes.is_empty() {
@@ -165,10 +169,12 @@ impl<R: ByteReader> Input<R> {
     pub fn take(&mut self) -> Result<Option<u8>, TokenFault>
         // Result.
         ensures next { IfOk result (λ byte. TakesNext R.remaining self.old byte self.new) }
+        // Errors.
+        ensures fault { IfErr result (λ f. f ≡ TokenFault.Io) }
         // State afterwards.
         ensures peeked { IfCame result (λ _. self.new.peeked ≡ None) }
         ensures place { CountsByte self.old result self.new }
-        ensures failures { CountsRead R.failures self.old result self.new }
+        ensures failures { CountsFailed R.failures self.old result self.new }
     {
         match self.peek()? {
             Some(byte) => {
@@ -184,12 +190,14 @@ impl<R: ByteReader> Input<R> {
     pub fn take_if(&mut self, expected: u8) -> Result<bool, TokenFault>
         // Result.
         ensures next { IfOk result (λ is. TakesIf R.remaining expected self.old is self.new) }
+        // Errors.
+        ensures fault { IfErr result (λ f. f ≡ TokenFault.Io) }
         // State afterwards.
         ensures peeked { IfOk result (λ is. is ≡ true → self.new.peeked ≡ None) }
         ensures rises { IfOk result (λ is. is ≡ true → TakesOneMore self.old self.new) }
         ensures same { IfOk result (λ is. is ≡ false → self.new.taken ≡ self.old.taken) }
         ensures unmoved { IfErr result (λ _. self.new.taken ≡ self.old.taken) }
-        ensures failures { CountsRead R.failures self.old result self.new }
+        ensures failures { CountsFailed R.failures self.old result self.new }
     {
         match self.peek()? {
             Some(byte) => {

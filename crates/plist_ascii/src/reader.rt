@@ -1,9 +1,6 @@
 //! The reader of ASCII property lists.
 
-ghost use Rattle.std.specs.Prelude.{◌≡◌, ◌-◌, ◌<◌, ℕ, List, None, Some, true, IfSome};
-ghost use Rattle.plist_ascii.specs.Ascii.{IsAsciiItem, IfBracketItem, placed_items};
-ghost use Rattle.plist_ascii.specs.Unread.{ItemCountsIoIfCounted, IfKnown, stops, unread};
-ghost use Rattle.plist_ascii.specs.AsciiReader.{GivesAsciiItem, TakesBytes, FaultIsAt, IfQuotedItem, EndsAfterIoOrMemory, bytes_to_come, readable};
+ghost use Rattle.plist_ascii.specs.AsciiReader.{readable};
 
 use crate::byte_reader::ByteReader;
 use crate::dialect::Dialect;
@@ -13,50 +10,6 @@ use plist_base::{Error, EventVisitor, OwnedEvent};
 use std::alloc::Global;
 use std::borrow::CowStr;
 use std::ops::ControlFlow;
-
-impl<R: ByteReader> Input<R> {
-    // Takes tokens up to and including the first that has an item, and returns this item, or `None`
-    // if no item remains.
-    fn item(&mut self, alloc: Global, stop: Stop) -> Option<Result<OwnedEvent, Error>>
-        // Result.
-        ensures items { IfKnown (unread R.remaining self.old) (λ xs. (ys : List ℕ)
-            × (unread R.remaining self.new ≡ Some ys)
-            × GivesAsciiItem (stops stop) xs self.old.taken result ys self.new.taken) }
-        ensures kinds { IsAsciiItem result }
-        ensures brackets { IfBracketItem result (self.new.peeked ≡ None) }
-        ensures quotes { IfKnown (unread R.remaining self.old) (λ xs. IfQuotedItem
-            (placed_items (stops stop) xs self.old.taken) result (self.new.peeked ≡ None)) }
-        // Errors.
-        ensures offset { FaultIsAt result self.new.taken }
-        // State afterwards.
-        ensures rises { TakesBytes result self.old.taken self.new.taken }
-        ensures ended { self.old.ended ≡ true → result ≡ None }
-        ensures unasked { self.old.ended ≡ true → self.new.inner ≡ self.old.inner }
-        ensures ends { EndsAfterIoOrMemory result (self.new.ended ≡ true) }
-        ensures falls { IfSome result (λ _. bytes_to_come self.new.ended self.new.taken
-            < bytes_to_come self.old.ended self.old.taken) }
-        ensures failures { ItemCountsIoIfCounted result (R.failures self.old.inner)
-            (R.failures self.new.inner) }
-    {
-        if self.has_ended() {
-            return None;
-        }
-        'tokens: loop {
-            match self.take_past(Stop::Lead) {
-                Ok(Some(byte)) => match self.token_by(alloc, stop, byte) {
-                    Ok(Some(event)) => return Some(Ok(event)),
-                    Ok(None) => {}
-                    Err(fault) => return Some(Err(self.error(fault))),
-                },
-                Ok(None) => {
-                    self.end();
-                    return None;
-                }
-                Err(fault) => return Some(Err(self.error(fault))),
-            }
-        }
-    }
-}
 
 /// Reads an ASCII property list as events, from its first byte on.
 ///
@@ -153,7 +106,24 @@ impl<R: ByteReader + Drop> Iterator for AsciiReader<R> {
     ghost remaining = { λ s. at_most (ascii_steps s) };
 
     fn next(&mut self) -> Option<Result<OwnedEvent, Error>> {
-        self.input.item(self.alloc, Stop::Bare(self.dialect))
+        if self.input.has_ended() {
+            return None;
+        }
+        let stop = Stop::Bare(self.dialect);
+        'tokens: loop {
+            match self.input.take_past(Stop::Lead) {
+                Ok(Some(byte)) => match self.input.token_by(self.alloc, stop, byte) {
+                    Ok(Some(event)) => return Some(Ok(event)),
+                    Ok(None) => {}
+                    Err(fault) => return Some(Err(self.input.error(fault))),
+                },
+                Ok(None) => {
+                    self.input.end();
+                    return None;
+                }
+                Err(fault) => return Some(Err(self.input.error(fault))),
+            }
+        }
     }
 }
 

@@ -40,10 +40,10 @@ pub fn lead_of(byte: u8) -> Lead
     ensures { result ≡ lead_of byte }
 {
     match byte {
+        b',' | b';' | b'=' | b' ' | b'\r' | b'\t' | b'\n' => Lead::Blank,
         b'(' => Lead::ArrayStart,
         b'{' => Lead::DictionaryStart,
         b')' | b'}' => Lead::End,
-        b',' | b';' | b'=' | b' ' | b'\r' | b'\t' | b'\n' => Lead::Blank,
         b'\'' | b'"' => Lead::Quote,
         b'/' => Lead::Slash,
         _ => Lead::Bare,

@@ -15,7 +15,7 @@ use Rattle.plist.specs.Events.{remaining_events}
 use Rattle.plist.specs.ValueTrees.{tree_of}
 use Rattle.plist_keyed.specs.declared.check.Check.{Check}
 use Rattle.plist_keyed.specs.declared.error.WalkError.{WalkError}
-use Rattle.plist_keyed.specs.inner.States.{IsCheck, IsCheckOf, IsCheckWith, IsOpened, IsReached, Leaves, objects_seen, open_uids, unchecked_from, unchecked_steps, unchecked_steps_in, unchecked_with}
+use Rattle.plist_keyed.specs.inner.States.{IsCheck, IsCheckOf, IsCheckWith, IsReached, Leaves, objects_seen, open_uids, unchecked_after, unchecked_steps, steps_in_levels, unchecked_with}
 use Rattle.plist_keyed.specs.inner.Walks.{IsIn, settled_in, PassesEvents, given_by, steps_from}
 use Rattle.plist_keyed.proofs.CheckSteps.{any_reversed, first-check, found-key, opened-check, passes-opened, reverse-snoc}
 
@@ -46,6 +46,20 @@ settles ends new uid end out is =
     by None p = p
     by (Some e) p = absurd (out (member ends uid (ap is_some p)))
 
+-- this object was opened, and is now the innermost one
+abbrev pub IsOpened : Check → ℕ → Value → Check → Type 0
+IsOpened old uid object new =
+    (new.objects ≡ old.objects) × (new.path.keys ≡ old.path.keys ++ uid ∷ [])
+    × ((level : Events) × (new.levels.items ≡ old.levels.items ++ level ∷ [])
+    × (remaining_events level ≡ bracketing (tree_of object)))
+    × (new.ends ≡ old.ends)
+
+-- facts for `Ok` are one fact
+pub all_ok : {X E : Type 0} (A B C D : Type 0) (r : Result X E) → OnOk r A → OnOk r B → OnOk r C
+    → OnOk r D → OnOk r (A × B × C × D)
+all_ok A B C D (Ok x) a b c d = (a, b, c, d)
+all_ok A B C D (Err e) a b c d = tt
+
 module _ (old new : Check) (uid : ℕ) (object : Value)
     (o : IsCheckWith old [] (ScalarEvent (Uid uid) ∷ []))
     (at : slice_get (objects_seen old.objects.now) uid ≡ Some (bracketing (tree_of object)))
@@ -55,10 +69,10 @@ module _ (old new : Check) (uid : ℕ) (object : Value)
   off_path = any_reversed (nat_eq uid) old.path.keys ∙ closed
 
   pub opened-passes : {A : Type 0} (r : Result A WalkError) → OnOk r (IsOpened old uid object new)
-      → OnOk r (PassesEvents (unchecked_from old uid) (unchecked_steps new))
+      → OnOk r (PassesEvents (unchecked_after old (ScalarEvent (Uid uid))) (unchecked_steps new))
   opened-passes (Ok a) (same, keys, (level, items, is), ends) =
       rw (same, keys, reverse-snoc old.path.keys uid, items, reverse-snoc old.levels.items level)
-      (passes-opened (objects_seen old.objects.now) _ (open_uids old) uid level _ o.is_path at off_path is)
+      (passes-opened (objects_seen old.objects.now) (reverse old.levels.items) (open_uids old) uid level _ o.is_path at off_path is)
   opened-passes (Err e) h = tt
 
   pub opened-checks : {A : Type 0} (r : Result A WalkError) → OnOk r (IsOpened old uid object new)
@@ -84,7 +98,7 @@ module _ (start : Check) (uid : ℕ) (keys : start.path.keys ≡ []) (levels : s
     begins-checked entries =
         rw (keys, levels, entries) (first-check (objects_seen start.objects.now) uid (λ u. None))
 
-    pub begins-with : given_by (unchecked_from start uid)
+    pub begins-with : given_by (unchecked_after start (ScalarEvent (Uid uid)))
         ≡ given_by (steps_from (objects_seen start.objects.now) uid)
     begins-with = rw (keys, levels) (ap given_by (append-nil (steps_from (objects_seen start.objects.now) uid)))
 
@@ -112,10 +126,10 @@ with-left check below left had o = rw (ap reverse had ∙ reverse-snoc below lef
 
 pub steps-with : (check : Check) (below : List Events) (left : Events)
     → check.levels.items ≡ below ++ left ∷ []
-    → unchecked_steps check ≡ unchecked_steps_in (objects_seen check.objects.now) (left ∷ reverse below)
+    → unchecked_steps check ≡ steps_in_levels (objects_seen check.objects.now) (left ∷ reverse below)
     (open_uids check)
 steps-with check below left had =
-    ap (λ l. unchecked_steps_in (objects_seen check.objects.now) l (open_uids check))
+    ap (λ l. steps_in_levels (objects_seen check.objects.now) l (open_uids check))
     (ap reverse had ∙ reverse-snoc below left)
 
 -- ---- leaving an object
@@ -126,5 +140,5 @@ module _ (old new : Check) where
       → OnOk r (new.objects ≡ old.objects)
       → OnOk r (PassesEvents (unchecked_with old (left ∷ [])) (unchecked_steps new))
   left-passes left none (Ok a) (uid, open_before, settled_after, levels) same =
-      rw (open_before, none, levels, same) (omega arith, ([], refl))
+      rw (open_before, none, levels, same) ([], (omega arith, refl))
   left-passes left none (Err e) h same = tt

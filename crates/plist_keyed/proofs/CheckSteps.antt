@@ -21,7 +21,7 @@ use Rattle.plist.specs.Events.{remaining_events}
 use Rattle.plist.specs.ValueTrees.{tree_of}
 use Rattle.plist_keyed.specs.declared.error.WalkError.{WalkError}
 use Rattle.plist_keyed.specs.declared.error.WalkError.TheVariants as walk
-use Rattle.plist_keyed.specs.inner.States.{Covers, IsCheckOf, objects_seen, unchecked_steps_in}
+use Rattle.plist_keyed.specs.inner.States.{Covers, IsCheckOf, objects_seen, steps_in_levels}
 use Rattle.plist_keyed.specs.inner.Walks.{AreSettled, IsEndOf, IsIn, IsNoUid, LeadsOnlyTo, NameOnly, Given, Step, IsFirstFaultOf, PassesEvents, follow_in, given_by, steps_of_event, steps_of_events, uid_of_event}
 use Rattle.plist_keyed.proofs.TreeItems.{given_by-append}
 use Rattle.plist_keyed.proofs.SettledUids.{more-ends, more-named, named-append, named-member, opened_in, out_of_range, own-end, further-end, recursive, settled-faultless, settled-same, some_step}
@@ -137,9 +137,9 @@ module _ (objects : List (List PlainEvent)) where
       let (es, is) = settled-faultless objects uids o.are_settled uid member in
       let same = settled-same objects uids o.are_settled uid member path o.is_path o.are_apart in
       let some : 0 < length (follow_in objects path uid) = some_step objects _ path uid in (
-        rw (length-append (follow_in objects path uid) rest) (omega (arith, some)),
+        es,
         (
-          es,
+          rw (length-append (follow_in objects path uid) rest) (omega (arith, some)),
           given_by-append (follow_in objects path uid) rest
               ∙ ap (λ l. given_by l ++ given_by rest) same ∙ ap (λ l. l ++ given_by rest) is,
         ),
@@ -175,15 +175,15 @@ module _ (objects : List (List PlainEvent)) where
   pub passes-opened : (levels : List Events) (path : List ℕ) (uid : ℕ) (level : Events)
       (es : List PlainEvent) → IsPath (length objects) path → slice_get objects uid ≡ Some es
       → list_any (nat_eq uid) path ≡ false → remaining_events level ≡ es
-      → PassesEvents (follow_in objects path uid ++ unchecked_steps_in objects levels path)
-      (unchecked_steps_in objects (level ∷ levels) (uid ∷ path))
+      → PassesEvents (follow_in objects path uid ++ steps_in_levels objects levels path)
+      (steps_in_levels objects (level ∷ levels) (uid ∷ path))
   passes-opened levels path uid level es o at new left =
-      let rest = unchecked_steps_in objects levels path in
+      let rest = steps_in_levels objects levels path in
       let inside = steps_of_events (follow_in objects (uid ∷ path)) es in
       let is : follow_in objects path uid ++ rest ≡ None ∷ (inside ++ None ∷ rest) =
       ap (λ l. l ++ rest) (opened_in objects path uid es o at new)
       ∙ ap (λ l. None ∷ l) (append_assoc inside (None ∷ []) rest) in
-      rw (is, left) (omega arith, ([], refl))
+      rw (is, left) ([], (omega arith, refl))
 
   pub opened-check : (path uids : List ℕ) (levels : List Events) (find : ℕ → Option ℕ) (uid : ℕ)
       (level : Events) (es : List PlainEvent)
@@ -295,17 +295,16 @@ module _ (objects : List (List PlainEvent)) where
 -- the event is taken
 pub takes : (objects : List (List PlainEvent)) (left after : Events) (below : List Events)
     (path : List ℕ) (e : PlainEvent)
-    → length (left ∷ below) ≡ length path → remaining_events left ≡ e ∷ remaining_events after
-    → unchecked_steps_in objects (left ∷ below) path ≡ steps_of_event (follow_in objects path) e
-    ++ unchecked_steps_in objects (after ∷ below) path
-takes objects left after below [] e n is = absurd (omega (arith, n))
-takes objects left after below (uid ∷ path) e n is =
-    rw is (append_assoc (steps_of_event (follow_in objects (uid ∷ path)) e) _ _)
+    → remaining_events left ≡ e ∷ remaining_events after
+    → steps_in_levels objects (left ∷ below) path ≡ steps_of_event (follow_in objects path) e
+    ++ steps_in_levels objects (after ∷ below) path
+takes objects left after below path e is =
+    rw is (append_assoc (steps_of_event (follow_in objects path) e) _ _)
 
 -- the step of an event that isn't a Uid is done
 pub passes-plain : (f : ℕ → List Step) (e : PlainEvent) (rest : List Step) → uid_of_event e ≡ None
     → PassesEvents (steps_of_event f e ++ rest) rest
-passes-plain f e rest none = rw (plain_steps f e none) (omega arith, (e ∷ [], refl))
+passes-plain f e rest none = rw (plain_steps f e none) (e ∷ [], (omega arith, refl))
 
 after_events : (first before : List Step) (events more : List PlainEvent) (rest : List Given)
     → given_by first ≡ map Ok events ++ given_by before → given_by before ≡ map Ok more ++ rest
@@ -318,7 +317,7 @@ after_events first before events more rest is p =
 pub passes-on : (first before after : List Step) (events : List PlainEvent)
     → given_by first ≡ map Ok events ++ given_by before → PassesEvents before after
     → (all : List PlainEvent) × (given_by first ≡ map Ok all ++ given_by after)
-passes-on first before after events is (shorter, (more, p)) =
+passes-on first before after events is (more, (shorter, p)) =
     (events ++ more, after_events first before events more (given_by after) is p)
 
 -- the first fault of the remaining steps is the first fault of all steps

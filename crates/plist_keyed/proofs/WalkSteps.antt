@@ -1,7 +1,9 @@
 -- The remaining steps of the walk over settled Uids, after each kind of step.
-use Rattle.std.proofs.Common.{◌≡◌, ℕ, ◌<◌, List, [], ◌∷◌, ◌++◌, length, map, Option, Some, None, Ok, Err, ap, sym, ◌∙◌, append_assoc, append-nil, arith, subst}
+use Rattle.std.proofs.Common.{◌≡◌, ℕ, ◌<◌, List, [], ◌∷◌, ◌++◌, length, map, Option, Some, None, Ok, Err, ap, sym, ◌∙◌, append-nil, arith, subst}
 use Rattle.std.specs.Prelude.{slice_get}
+use Rattle.std.specs.List.{filter_map}
 use Rattle.std.specs.Option.{unwrap_or}
+use Rattle.std.specs.Result.{result_ok}
 use Rattle.std.proofs.lemmas.List.{length-append, length-map}
 use Rattle.std.proofs.lemmas.Option.{slice_get_within}
 use Rattle.plist_base.specs.Events.{PlainEvent, Item}
@@ -13,8 +15,8 @@ use Rattle.plist.specs.Events.{remaining_events}
 use Rattle.plist.specs.ValueTrees.{tree_of}
 use Rattle.plist_base.specs.Bracketing.{bracketing}
 use Rattle.plist_keyed.specs.declared.walk.Walk.{Walk}
-use Rattle.plist_keyed.specs.inner.States.{objects_seen, Skips, IsWalk, remaining_steps, steps_in_levels, items_of_steps}
-use Rattle.plist_keyed.specs.inner.Walks.{AreEnds, AreSettled, IsEndOf, IsIn, IsSettledIn, NameOnly, Step, events_given, given_by, steps_from, steps_of_event, steps_of_events, uid_of_event}
+use Rattle.plist_keyed.specs.inner.States.{objects_seen, IsWalk, remaining_steps, steps_in_levels, items_of_steps}
+use Rattle.plist_keyed.specs.inner.Walks.{AreEnds, AreSettled, IsEndOf, IsIn, IsSettledIn, NameOnly, Step, StepsGive, given_by, steps_from, steps_of_event, steps_of_events, uid_of_event}
 use Rattle.plist_keyed.proofs.TreeItems.{given_by-append}
 use Rattle.plist_keyed.proofs.CheckSteps.{uid_steps}
 use Rattle.plist_keyed.proofs.SettledUids.{settled-unfolds, some_step}
@@ -45,31 +47,25 @@ module _ (objects : List (List PlainEvent)) where
   pub skips-entered : (uids : List ℕ) (s : AreSettled objects uids) (uid end : ℕ)
       → IsEndOf objects uids uid end → (levels : List Events) (level : Events)
       → slice_get objects end ≡ Some (remaining_events level)
-      → Skips (from uid ++ steps_in_levels objects levels) (steps_in_levels objects (level ∷ levels))
+      → StepsGive [] (from uid ++ steps_in_levels objects levels [])
+      (steps_in_levels objects (level ∷ levels) [])
       × NameOnly (remaining_events level) uids
   skips-entered uids s uid end (member, plain, same, fewer) levels level at =
       let (es, found, names, is) = settled-unfolds objects uids s end member in
       let e : es ≡ remaining_events level = cc in
-      let rest = steps_in_levels objects levels in
+      let rest = steps_in_levels objects levels [] in
       let inside = steps_of_events from (remaining_events level) in
       let into : from end ≡ None ∷ (inside ++ None ∷ []) = rw e at is in
       let give : given_by (from uid) ≡ given_by inside =
       same ∙ ap given_by into ∙ given_by-append inside (None ∷ []) ∙ append-nil (given_by inside) in (
         (
-          given_by-append (from uid) rest ∙ ap (λ l. l ++ given_by rest) give
-              ∙ sym (given_by-append inside (None ∷ rest)),
           rw (length-append inside (None ∷ rest), length-append (from uid) rest)
               (omega (arith, (rw (into, length-append inside (None ∷ [])) at fewer))),
+          given_by-append (from uid) rest ∙ ap (λ l. l ++ given_by rest) give
+              ∙ sym (given_by-append inside (None ∷ rest)),
         ),
         subst (λ l. NameOnly l uids) e names,
       )
-
-  -- the next event of a level is taken
-  pub takes : (left after : Events) (below : List Events) (e : PlainEvent)
-      → remaining_events left ≡ e ∷ remaining_events after
-      → steps_in_levels objects (left ∷ below) ≡ steps_of_event from e
-      ++ steps_in_levels objects (after ∷ below)
-  takes left after below e is = rw is (append_assoc (steps_of_event from e) _ _)
 
   -- following a Uid takes at least one step
   pub shorter : (e : PlainEvent) (uid : ℕ) (rest left : List Step) → uid_of_event e ≡ Some uid
@@ -80,14 +76,14 @@ module _ (objects : List (List PlainEvent)) where
 
 -- the items that remain of a walk that began with a Uid are those of the Uid
 pub begun : (start walk : Walk) (objects : List Value) (uid : ℕ) → start.objects.now ≡ objects
-    → start.levels.items ≡ [] → Skips (steps_from (objects_seen start.objects.now) uid ++ remaining_steps start)
+    → start.levels.items ≡ [] → StepsGive [] (steps_from (objects_seen start.objects.now) uid ++ remaining_steps start)
     (remaining_steps walk)
     → items_of_steps (remaining_steps walk) ≡ items_of_steps (steps_from (objects_seen objects) uid)
-begun start walk objects uid seen none (given, fewer) =
+begun start walk objects uid seen none (fewer, given) =
     let from_start : given_by (steps_from (objects_seen start.objects.now) uid ++ remaining_steps start)
     ≡ given_by (steps_from (objects_seen objects) uid) =
     rw (seen, none) (ap given_by (append-nil (steps_from (objects_seen objects) uid))) in
-    ap (λ g. map Ok (events_given g)) (sym given ∙ from_start)
+    ap (λ g. map Ok (filter_map result_ok g)) (sym given ∙ from_start)
 
 -- a walk whose Uids are settled is consistent before its first step
 pub first-walk : (start : Walk) (objects : List Value) (ends : _) → start.objects.now ≡ objects

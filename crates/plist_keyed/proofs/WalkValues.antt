@@ -1,6 +1,8 @@
 -- What the value that was read from the steps of a walk says about the tree.
 use Rattle.std.proofs.Common.{◌≡◌, ℕ, List, [], ◌∷◌, ◌++◌, length, map, Option, Some, None, Result, Ok, Err, IfOk, refl, sym, ap, ◌∙◌, append-nil, subst, arith}
 use Rattle.std.specs.Prelude.{◌-◌, slice_get, option_map}
+use Rattle.std.specs.List.{filter_map}
+use Rattle.std.specs.Result.{result_ok}
 use Rattle.std.proofs.lemmas.List.{length-map}
 use Rattle.std.proofs.lemmas.Option.{slice_get-map, same_Some}
 use Rattle.plist_base.specs.Events.{PlainEvent, Item}
@@ -19,7 +21,7 @@ use Rattle.plist_keyed.specs.declared.error.WalkError.{WalkError}
 use Rattle.plist_keyed.specs.declared.error.WalkError.TheVariants as walk
 use Rattle.plist_keyed.specs.Archives.{ArchiveFault, UidOutOfRange, RecursiveUid, resolved_tree, IsFaultOf, error_of_walk}
 use Rattle.plist_keyed.specs.inner.States.{objects_seen, items_of_steps}
-use Rattle.plist_keyed.specs.inner.Walks.{Given, Step, IsFaultless, IsFirstFaultOf, events_given, given_by, steps_at, steps_from}
+use Rattle.plist_keyed.specs.inner.Walks.{Given, Step, IsFaultless, IsFirstFaultOf, given_by, steps_at, steps_from}
 use Rattle.plist_keyed.proofs.TreeItems.{Gives, uid-gives, resolved-once}
 
 -- ---- what the steps yield
@@ -42,7 +44,7 @@ same-fault (x ∷ es) (y ∷ events) fault other more left p =
     same-fault es events fault other more left (cc)
 
 -- if all items are events, these are the events among them
-pub events_of : (events : List PlainEvent) → events_given (map Ok events) ≡ events
+pub events_of : (events : List PlainEvent) → filter_map (result_ok {E = ArchiveFault}) (map Ok events) ≡ events
 events_of [] = refl
 events_of (e ∷ events) = ap (λ l. e ∷ l) (events_of events)
 
@@ -68,11 +70,11 @@ same_of all t u (events, same, alike) (others, also, like) =
 -- tree
 tree-answered : (answer : Result Tree ArchiveFault) (given : List Given) (events : List PlainEvent)
     (tree : Tree) → Gives answer given → given ≡ map Ok events
-    → IsValueOf (map Ok (events_given given)) (Ok tree) → IfOk answer HasKeysOnce → answer ≡ Ok tree
+    → IsValueOf (map Ok (filter_map result_ok given)) (Ok tree) → IfOk answer HasKeysOnce → answer ≡ Ok tree
 tree-answered (Ok t) given events tree (es, is, alike) p (whole, of, last) once =
-    let items = map Ok (events_given given) in
+    let items = map Ok (filter_map result_ok given) in
     let own : AreItemsOfTree items t =
-    (es, ap (λ g. map Ok (events_given g)) is ∙ ap (map Ok) (events_of es), alike) in
+    (es, ap (λ g. map Ok (filter_map result_ok g)) is ∙ ap (map Ok) (events_of es), alike) in
     ap Ok (sym ((keys-once t).0 once) ∙ ap last_wins (same_of items t whole own of) ∙ sym last)
 tree-answered (Err f) given events tree (es, more, is, begins) p read once =
     no-fault events es f more (sym p ∙ is)

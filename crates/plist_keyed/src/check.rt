@@ -15,7 +15,7 @@ ghost use Rattle.plist.specs.Events.{remaining_events};
 ghost use Rattle.plist.specs.ValueTrees.{tree_of};
 ghost use Rattle.plist_keyed.specs.declared.error.WalkError.TheVariants.{OutOfMemory as NoMemory};
 ghost use Rattle.plist_keyed.specs.inner.States.{objects_seen};
-ghost use Rattle.plist_keyed.specs.inner.Walks.{IsSettledBelow, LeadsOnlyTo, settled_in, IsFirstFaultOf, follow_in, steps_from, steps_of_event, uid_of_event};
+ghost use Rattle.plist_keyed.specs.inner.Walks.{IsSettledBelow, LeadsOnlyTo, settled_in, IsFirstFaultOf, steps_from, uid_of_event};
 
 use crate::error::WalkError;
 use indexmap::{IndexMap, IndexSet};
@@ -62,7 +62,7 @@ struct Check<'a> {
 }
 
 impl<'a> Check<'a> {
-    ghost use Rattle.plist_keyed.specs.inner.States.{HasEnd, IsCheck, IsOpened, IsReached, KeepsReached, IsCheckWith, Leaves, open_uids, unchecked_steps, unchecked_from, unchecked_with};
+    ghost use Rattle.plist_keyed.specs.inner.States.{HasEnd, IsCheck, IsReached, IsCheckWith, Leaves, unchecked_steps, unchecked_after, unchecked_with};
     ghost use Rattle.plist_keyed.specs.inner.Walks.{PassesEvents};
 
     fn new(alloc: Global, objects: &'a [Value]) -> Check<'a>
@@ -90,8 +90,15 @@ impl<'a> Check<'a> {
     // Opens the object of a Uid that isn't open.
     fn open(&mut self, uid: u64, object: &'a Value) -> Result<(), WalkError>
         requires { contains nat_eq self.old.path uid ≡ false }
-        ensures opened { OnOk result (IsOpened self.old uid object.now self.new) }
+        // Errors.
         ensures memory { IfErr result (λ e. e ≡ NoMemory) }
+        // State afterwards.
+        ensures path { OnOk result (self.new.path.keys ≡ self.old.path.keys ++ uid ∷ []) }
+        ensures levels { OnOk result ((level : PlainEvents)
+            × (self.new.levels.items ≡ self.old.levels.items ++ level ∷ [])
+            × (remaining_events level ≡ bracketing (tree_of object.now))) }
+        ensures objects { OnOk result (self.new.objects ≡ self.old.objects) }
+        ensures ends { OnOk result (self.new.ends ≡ self.old.ends) }
     {
         self.path.insert(uid)?;
         self.levels.push(object.events(self.alloc))?;
@@ -102,15 +109,16 @@ impl<'a> Check<'a> {
     fn follow(&mut self, uid: u64) -> Result<(), WalkError>
         requires { IsCheckWith self.old [] (ScalarEvent (PlainUid uid) ∷ []) }
         // Result.
-        ensures passed { OnOk result (PassesEvents (unchecked_from self.old uid)
-            (unchecked_steps self.new)) }
+        ensures passed { OnOk result (PassesEvents
+            (unchecked_after self.old (ScalarEvent (PlainUid uid))) (unchecked_steps self.new)) }
         ensures reached { OnOk result (IsReached self.new uid) }
         // Errors.
-        ensures refused { IfErr result (IsFirstFaultOf (unchecked_from self.old uid)) }
+        ensures refused { IfErr result
+            (IsFirstFaultOf (unchecked_after self.old (ScalarEvent (PlainUid uid)))) }
         // State afterwards.
         ensures check { OnOk result (IsCheck self.new) }
         ensures objects { OnOk result (self.new.objects ≡ self.old.objects) }
-        ensures kept { OnOk result (KeepsReached self.old self.new) }
+        ensures kept { OnOk result ((u : ℕ) → IsReached self.old u → IsReached self.new u) }
     {
         if self.ends.contains_key(&uid) {
             return Ok(());
@@ -127,15 +135,13 @@ impl<'a> Check<'a> {
     // Takes an event of the innermost object, and follows it if it is a Uid.
     fn pass(&mut self, event: &Event<'a>) -> Result<(), WalkError>
         requires { IsCheckWith self.old [] (event_of event.now ∷ []) }
-        ensures passed { OnOk result (PassesEvents
-            (steps_of_event (follow_in (objects_seen self.old.objects.now) (open_uids self.old))
-            (event_of event.now) ++ unchecked_steps self.old) (unchecked_steps self.new)) }
-        ensures refused { IfErr result (IsFirstFaultOf
-            (steps_of_event (follow_in (objects_seen self.old.objects.now) (open_uids self.old))
-            (event_of event.now) ++ unchecked_steps self.old)) }
+        ensures passed { OnOk result (PassesEvents (unchecked_after self.old (event_of event.now))
+            (unchecked_steps self.new)) }
+        ensures refused { IfErr result
+            (IsFirstFaultOf (unchecked_after self.old (event_of event.now))) }
         ensures check { OnOk result (IsCheck self.new) }
         ensures objects { OnOk result (self.new.objects ≡ self.old.objects) }
-        ensures kept { OnOk result (KeepsReached self.old self.new) }
+        ensures kept { OnOk result ((u : ℕ) → IsReached self.old u → IsReached self.new u) }
     {
         match uid_of(event) {
             None => Ok(()),
@@ -189,7 +195,7 @@ impl<'a> Check<'a> {
             (IsFirstFaultOf (unchecked_with self.old (left.entry ∷ []))) }
         ensures check { OnOk result (IsCheck self.new) }
         ensures objects { OnOk result (self.new.objects ≡ self.old.objects) }
-        ensures kept { OnOk result (KeepsReached self.old self.new) }
+        ensures kept { OnOk result ((u : ℕ) → IsReached self.old u → IsReached self.new u) }
     {
         let mut rest = left;
         match rest.next() {

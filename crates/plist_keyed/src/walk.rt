@@ -42,8 +42,8 @@ struct Walk<'a> {
 }
 
 impl<'a> Walk<'a> {
-    ghost use Rattle.plist_keyed.specs.inner.States.{GivesItemOfUid, IsWalk, KeepsArchive, Skips, Yields, remaining_steps};
-    ghost use Rattle.plist_keyed.specs.inner.Walks.{IsIn, NameOnly, settled_in};
+    ghost use Rattle.plist_keyed.specs.inner.States.{GivesItemOfUid, IsWalk, KeepsArchive, Yields, remaining_steps};
+    ghost use Rattle.plist_keyed.specs.inner.Walks.{IsIn, NameOnly, StepsGive, settled_in};
     ghost use Rattle.std.specs.Option.{unwrap_or};
 
     fn new(alloc: Global, objects: &'a [Value], ends: IndexMap<u64, u64>) -> Walk<'a>
@@ -84,7 +84,7 @@ impl<'a> Walk<'a> {
     fn enter(&mut self, uid: u64) -> Result<(), Error>
         requires walk { IsWalk self.old }
         requires settled { IsIn uid (settled_in self.old.ends) }
-        ensures entered { OnOk result (Skips (steps_from (objects_seen self.old.objects.now) uid
+        ensures entered { OnOk result (StepsGive [] (steps_from (objects_seen self.old.objects.now) uid
             ++ remaining_steps self.old) (remaining_steps self.new)) }
         ensures memory { OnlyMemory result }
         ensures path { IsWalk self.new }

@@ -5,14 +5,14 @@ use Rattle.std.proofs.lemmas.List.{take-take}
 use Rattle.plist_base.specs.declared.source.Source.{Ghosts}
 use Rattle.plist_reader.specs.declared.bytes.BufferedSource.{BufferedSource}
 use Rattle.plist_base.specs.Events.{Item, event_of}
-use Rattle.std.specs.Prelude.{⊤}
+use Rattle.std.specs.Prelude.{IfErr, ⊤}
 use Rattle.plist_base.specs.declared.limited_items.LimitedItems.{LimitedItems}
 use Rattle.plist_base.specs.declared.limits.Limit.{Limit}
 use Rattle.plist_base.specs.declared.limits.Limits.{Limits}
 use Rattle.plist_base.specs.declared.limits.LimitCounter.{LimitCounter}
 use Rattle.plist_base.specs.Allowances.{PassesNext as PassesAllowed, iterator_of}
 use Rattle.plist_base.specs.Limits.{GivesLimited, IsLimitReached, items_admitted, limited_items, limited_by}
-use Rattle.plist_base.specs.Faults.{FaultKind, Fault, Io, OutOfMemory, LimitReached, MatchFault, XmlUnsupported, kind_of, error_kind_of, fault_of}
+use Rattle.plist_base.specs.Faults.{FaultKind, Fault, Io, OutOfMemory, LimitReached, MatchFault, XmlUnsupported, kind_of, error_kind_of, fault_of, offset_of}
 use Rattle.plist_base.specs.Sequential.{from_place}
 use Rattle.plist_base.specs.Sources.{ItemCountsIo}
 use Rattle.plist_base.specs.FirstItems.{GivesFirstIfKnown, MatchItem}
@@ -21,9 +21,9 @@ use Rattle.plist_base.proofs.Refusals.{MatchFault-weaker}
 use Rattle.plist_binread.proofs.LimitedSteps.{limits_remain}
 use Rattle.plist_decode.specs.FaultOffsets.{HasOffset, MatchGiven}
 use Rattle.plist_binread.specs.Remaining.{SomeRemain}
-use Rattle.plist_ascii.specs.Ascii.{items_of_ascii, items_in, BeginsWithText, IsAsciiItem, IsFaultOfBytes}
+use Rattle.plist_ascii.specs.Ascii.{items_of_ascii, items_in, BeginsWithText, IsAsciiEvent, IsFaultOfBytes}
 use Rattle.plist_ascii.specs.AsciiReader as ascii
-use Rattle.plist_ascii.specs.Unread as incoming
+use Rattle.plist_ascii.specs.Unread.{RisesIfCounted}
 use Rattle.plist_ascii.specs.declared.dialect.Dialect.{Dialect}
 use Rattle.plist_ascii.specs.Texts.{ends_bare}
 use Rattle.plist_reader.specs.declared.reader.State.{State}
@@ -76,7 +76,12 @@ ascii-stops stops now (Some bytes) l p q item h =
     by (Some (Err error)) ends h = MatchFault-weaker (kind_of (error_kind_of error)) ends
         (λ m. (ends m.0, text-remain (items_of_ascii stops bytes p) m.1)) (λ _. tt) h
 
-ascii-ends : (E : Type 0) (item : Given) → ascii.EndsAfterIoOrMemory item E → IsAsciiItem item
+-- the item, if there is one, is an event or a fault that the bytes of ASCII can have
+abbrev HasKind : Given → Type 0
+HasKind item =
+    MatchItem item ⊤ (λ event. IsAsciiEvent (event_of event)) ⊤ ⊤ (λ f. IsFaultOfBytes f.kind)
+
+ascii-ends : (E : Type 0) (item : Given) → MatchItem item E (λ _. ⊤) E E (λ _. ⊤) → HasKind item
     → EndsAfter item E
 ascii-ends E None h k = h
 ascii-ends E (Some (Ok event)) h k = tt
@@ -96,24 +101,27 @@ same-count a b e = cc
 some-place : (offset : Option ℕ) (place : ℕ) → offset ≡ Some place → HasOffset offset
 some-place offset place is = rw is tt
 
-ascii-faults : (limited : Bool) (place : ℕ) (item : Given) → ascii.FaultIsAt item place
+ascii-faults : (limited : Bool) (place : ℕ) (item : Given) → HasKind item
+    → IfSome item (λ answer. IfErr answer (λ error. let taken = offset_of error ≡ Some place in
+    MatchFault (fault_of error).kind taken (offset_of error ≡ None) taken))
     → IsReaderItem limited item
-ascii-faults limited place None h = tt
-ascii-faults limited place (Some (Ok event)) h = tt
-ascii-faults limited place (Some (Err error)) h = by (fault_of error).kind (fault_of error).offset h
+ascii-faults limited place None k h = tt
+ascii-faults limited place (Some (Ok event)) k h = tt
+ascii-faults limited place (Some (Err error)) k h =
+    by (fault_of error).kind (fault_of error).offset k h
   where
-    by : (kind : FaultKind) (offset : Option ℕ)
-        → MatchFault kind (offset ≡ Some place) (offset ≡ None)
-        (IsFaultOfBytes kind × (offset ≡ Some place))
+    by : (kind : FaultKind) (offset : Option ℕ) → MatchFault kind ⊤ ⊤ (IsFaultOfBytes kind)
+        → MatchFault kind (offset ≡ Some place) (offset ≡ None) (offset ≡ Some place)
         → (((kind ≡ XmlUnsupported) ⊎ IsFaultOfBytes kind) × HasOffset offset)
         ⊎ MatchGiven kind (HasOffset offset) (offset ≡ None) (HasOffset offset)
         ((limited ≡ true) × (offset ≡ None))
-    by Io offset p = inr (some-place offset place p)
-    by OutOfMemory offset p = inr p
-    by kind offset p = inl (inr p.0, some-place offset place p.1)
+    by Io offset k p = inr (some-place offset place p)
+    by OutOfMemory offset k p = inr p
+    by kind offset k p = inl (inr k, some-place offset place p)
 
 -- if both counts exist, a fact about optional counts is one about them
-counted-failures : (a b : ℕ) (item : Given) → incoming.ItemCountsIoIfCounted item (Some a) (Some b)
+counted-failures : (a b : ℕ) (item : Given) → let same = Some b ≡ Some a in
+    MatchItem item same (λ _. same) (RisesIfCounted (Some a) (Some b)) same (λ _. same)
     → ItemCountsIo item a b
 counted-failures a b None h = same-count a b h
 counted-failures a b (Some (Ok event)) h = same-count a b h
@@ -228,11 +236,11 @@ module _ {R : Type 0} {g : Ghosts R} (known : R → Option (List ℕ)) (failed :
         state_items known before))
         item (option_map (λ bytes. items_of_ascii (ends_bare d) bytes (ascii.place_of new))
         (ascii.untaken_bytes (stream_bytes_left known) new))) (sym h.dialect)
-        (ascii-goes (ascii.stops_of old) (ascii.untaken_bytes (stream_bytes_left known) old)
+        (ascii-goes (ends_bare (ascii.dialect_of old)) (ascii.untaken_bytes (stream_bytes_left known) old)
         (ascii.untaken_bytes (stream_bytes_left known) new) (ascii.place_of old)
         (ascii.place_of new) item
         h.items);
-    stops = ascii-stops (ascii.stops_of old) (ascii.stops_of new)
+    stops = ascii-stops (ends_bare (ascii.dialect_of old)) (ends_bare (ascii.dialect_of new))
         (ascii.untaken_bytes (stream_bytes_left known) old)
         (ascii.untaken_bytes (stream_bytes_left known) new) (ascii.place_of old)
         (ascii.place_of new) item h.items;
@@ -240,7 +248,7 @@ module _ {R : Type 0} {g : Ghosts R} (known : R → Option (List ℕ)) (failed :
         (failed (stream_source (ascii.device_of new))) item h.failures;
     ended = h.ended;
     ends = ascii-ends (ascii.HasEndedAscii new) item h.ends h.kinds;
-    faults = ascii-faults false (ascii.place_of new) item h.offset;
+    faults = ascii-faults false (ascii.place_of new) item h.kinds h.offset;
     limits = λ none. refl;
     inside = h;
   }
@@ -291,7 +299,7 @@ module _ {R : Type 0} {g : Ghosts R} (known : R → Option (List ℕ)) (failed :
             ended = λ over. (let no : false ≡ true → item ≡ None = λ q. cc in no (cc));
             ends = passes-ends new.ended old.limiter new.limiter asked item passes;
             faults = passes-faults new.ended old.limiter new.limiter asked item
-                (ascii-faults true (ascii.place_of new.inner) asked gave.offset) passes;
+                (ascii-faults true (ascii.place_of new.inner) asked gave.kinds gave.offset) passes;
             limits = λ none. none;
             inside = h;
           }

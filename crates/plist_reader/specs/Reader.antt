@@ -86,7 +86,8 @@ AsciiReaderOf R = AsciiReader (BufferedSource R)
 abbrev pub ascii_items_to_come : {R : Type 0} (known : R → Option (List ℕ)) → AsciiReaderOf R
     → Option (List Item)
 ascii_items_to_come known reader =
-    option_map (λ bytes. items_of_ascii (ascii.stops_of reader) bytes (ascii.place_of reader))
+    let stops = ends_bare (ascii.dialect_of reader) in
+    option_map (λ bytes. items_of_ascii stops bytes (ascii.place_of reader))
     (ascii.untaken_bytes (stream_bytes_left known) reader)
 
 module _ {R : Type 0} {g : Ghosts R} (known : R → Option (List ℕ)) where

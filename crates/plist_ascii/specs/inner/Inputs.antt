@@ -48,20 +48,13 @@ Means answer outcome = MatchResult answer
     (λ event. (outcome ≡ Ok (Some (event_of event))) × IsTextEvent (event_of event))
     (λ f. (f ≡ fault.InvalidUtf8) × (outcome ≡ Err InvalidUtf8AsciiStream))
 
-module _ {R : Type 0} (failures : R → Option ℕ) (old : Input R) where
-  -- the inner reader's count of failures rose, and the error of the read that failed is stored
-  abbrev pub ReadFailed : Input R → Type 0
-  ReadFailed new = RisesIfCounted (failures old.inner) (failures new.inner) × IsSome new.failure
-
-  -- the count rose if the fault is `Io`, and otherwise is unchanged
-  abbrev pub CountsFailed : {A : Type 0} → Result A TokenFault → Input R → Type 0
-  CountsFailed (Err fault.Io) new = ReadFailed new
-  CountsFailed other new = failures new.inner ≡ failures old.inner
-
-  -- the only fault is `Io`, which is counted
-  abbrev pub CountsRead : {A : Type 0} → Result A TokenFault → Input R → Type 0
-  CountsRead answer new = MatchResult answer (λ _. failures new.inner ≡ failures old.inner)
-      (λ f. (f ≡ fault.Io) × ReadFailed new)
+-- if the fault is `Io`, the inner reader's count of failures rose, and the error of the read that
+-- failed is stored; otherwise the count is unchanged
+abbrev pub CountsFailed : {R A : Type 0} → (failures : R → Option ℕ) → (old : Input R)
+    → Result A TokenFault → (new : Input R) → Type 0
+CountsFailed failures old (Err fault.Io) new =
+    RisesIfCounted (failures old.inner) (failures new.inner) × IsSome new.failure
+CountsFailed failures old other new = failures new.inner ≡ failures old.inner
 
 -- ---- the bytes at hand, and the number of bytes taken
 

@@ -1,8 +1,9 @@
 -- The states of the two walks over an archive, and their remaining steps: of the one that settles
 -- its Uids, and of the one over settled Uids. In lists of levels and of open Uids the innermost one
 -- is first.
-use Rattle.std.specs.Prelude.{◌≡◌, ◌⊎◌, ℕ, ◌<◌, List, [], ◌∷◌, ◌++◌, length, map, Option, Some, None, Result, Ok, Err, reverse, nat_eq, slice_get, ⊤}
-use Rattle.std.specs.List.{AllByRecursion}
+use Rattle.std.specs.Prelude.{◌≡◌, ◌⊎◌, ℕ, ◌<◌, List, [], ◌∷◌, ◌++◌, length, drop, map, Option, Some, None, Result, Ok, Err, reverse, nat_eq, slice_get, ⊤}
+use Rattle.std.specs.List.{AllByRecursion, filter_map}
+use Rattle.std.specs.Result.{result_ok}
 use Rattle.indexmap.specs.IndexMap.{get}
 use Rattle.plist_base.specs.Bracketing.{bracketing}
 use Rattle.plist_base.specs.inner.Paths.{IsPath}
@@ -20,21 +21,21 @@ use Rattle.plist_keyed.specs.declared.check.Check.{Check}
 use Rattle.plist_keyed.specs.declared.walk.WalkStep.{WalkStep}
 use Rattle.plist_keyed.specs.declared.walk.WalkStep.TheVariants as walk_step
 use Rattle.plist_keyed.specs.declared.walk.Walk.{Walk}
-use Rattle.plist_keyed.specs.inner.Walks.{AreApart, AreEnds, AreSettled, IsIn, IsNoUid, IsSettledIn, NameOnly, Step, events_given, follow_in, given_by, settled_in, steps_from, steps_of_events}
+use Rattle.plist_keyed.specs.inner.Walks.{AreApart, AreEnds, AreSettled, IsIn, IsNoUid, IsSettledIn, NameOnly, Step, StepsGive, follow_in, given_by, settled_in, steps_of_event, steps_of_events}
 
 -- the events of each object
 abbrev pub objects_seen : List Value → List (List PlainEvent)
 objects_seen objects = map bracketing (map tree_of objects)
 
 module _ (objects : List (List PlainEvent)) where
-  -- the remaining steps of the open objects: those of the remaining events of the innermost one,
-  -- its end, and the remaining steps of the others
-  abbrev pub unchecked_steps_in : List Events → (path : List ℕ) → List Step
-  unchecked_steps_in [] path = []
-  unchecked_steps_in (level ∷ below) [] = []
-  unchecked_steps_in (level ∷ below) (uid ∷ path) =
-      steps_of_events (follow_in objects (uid ∷ path)) (remaining_events level)
-      ++ None ∷ unchecked_steps_in below path
+  -- the remaining steps of the levels: those of the remaining events of the innermost one, its end,
+  -- and the remaining steps of the others; the path is that of the open Uids, or empty if all Uids
+  -- are settled
+  abbrev pub steps_in_levels : List Events → (path : List ℕ) → List Step
+  steps_in_levels [] path = []
+  steps_in_levels (level ∷ below) path =
+      steps_of_events (follow_in objects path) (remaining_events level)
+      ++ None ∷ steps_in_levels below (drop 1 path)
 
   -- In each open object, the events that were taken last precede the remaining ones, and the Uids
   -- before them are settled. In an outer object, the event that was taken last is the Uid of the
@@ -78,33 +79,22 @@ IsCheck check = IsCheckWith check [] []
 abbrev pub IsReached : Check → ℕ → Type 0
 IsReached check uid = IsIn uid (open_uids check) ⊎ IsIn uid (settled_in check.ends)
 
--- each Uid that was open or settled still is one of the two
-abbrev pub KeepsReached : (before after : Check) → Type 0
-KeepsReached before after = (uid : ℕ) → IsReached before uid → IsReached after uid
-
 -- the remaining steps, given the remaining events of the innermost object that were removed from the
 -- state
 abbrev pub unchecked_with : Check → (removed : List Events) → List Step
 unchecked_with check removed =
-    unchecked_steps_in (objects_seen check.objects.now) (removed ++ reverse check.levels.items)
+    steps_in_levels (objects_seen check.objects.now) (removed ++ reverse check.levels.items)
     (open_uids check)
 
 -- the remaining steps
 abbrev pub unchecked_steps : Check → List Step
 unchecked_steps check = unchecked_with check []
 
--- the steps of a Uid, and then the remaining steps
-abbrev pub unchecked_from : Check → ℕ → List Step
-unchecked_from check uid =
-    follow_in (objects_seen check.objects.now) (open_uids check) uid ++ unchecked_steps check
-
--- this object was opened, and is now the innermost one
-abbrev pub IsOpened : Check → ℕ → Value → Check → Type 0
-IsOpened old uid object new =
-    (new.objects ≡ old.objects) × (new.path.keys ≡ old.path.keys ++ uid ∷ [])
-    × ((level : Events) × (new.levels.items ≡ old.levels.items ++ level ∷ [])
-    × (remaining_events level ≡ bracketing (tree_of object)))
-    × (new.ends ≡ old.ends)
+-- the steps of an event of the innermost object, and then the remaining steps
+abbrev pub unchecked_after : Check → PlainEvent → List Step
+unchecked_after check event =
+    steps_of_event (follow_in (objects_seen check.objects.now) (open_uids check)) event
+    ++ unchecked_steps check
 
 -- the innermost object is left, and its Uid is settled
 abbrev pub Leaves : (before after : Check) → Type 0
@@ -122,18 +112,6 @@ HasEnd check uid end =
 
 -- ---- the walk over settled Uids
 
--- one or more steps are done, none of which yields an item
-abbrev pub Skips : (before after : List Step) → Type 0
-Skips before after = (given_by before ≡ given_by after) × (length after < length before)
-
--- the remaining steps of the levels: those of the remaining events of the innermost one, its end,
--- and the remaining steps of the others
-abbrev pub steps_in_levels : (objects : List (List PlainEvent)) → List Events → List Step
-steps_in_levels objects [] = []
-steps_in_levels objects (level ∷ below) =
-    steps_of_events (steps_from objects) (remaining_events level)
-    ++ None ∷ steps_in_levels objects below
-
 -- each Uid among the remaining events is settled
 abbrev pub IsWalk : Walk → Type 0
 IsWalk walk =
@@ -147,20 +125,20 @@ KeepsArchive before after = (after.objects ≡ before.objects) × (after.ends �
 
 -- the remaining steps
 abbrev pub remaining_steps : Walk → List Step
-remaining_steps walk = steps_in_levels (objects_seen walk.objects.now) (reverse walk.levels.items)
+remaining_steps walk =
+    steps_in_levels (objects_seen walk.objects.now) (reverse walk.levels.items) []
 
 -- a step is done, or memory ran out in it
 abbrev pub Yields : (before : List Step) → Result WalkStep Error → (after : List Step) → Type 0
 Yields before (Ok walk_step.End) after = (before ≡ []) × (after ≡ [])
-Yields before (Ok (walk_step.Event event)) after =
-    (given_by before ≡ Ok (event_of event) ∷ given_by after) × (length after < length before)
-Yields before (Ok walk_step.Skip) after = Skips before after
+Yields before (Ok (walk_step.Event event)) after = StepsGive (event_of event ∷ []) before after
+Yields before (Ok walk_step.Skip) after = StepsGive [] before after
 Yields before (Err error) after =
     (length after < length before) × (fault_of error ≡ fault_without_offset OutOfMemory)
 
 -- the items that these steps yield, without faults
 abbrev pub items_of_steps : List Step → List Item
-items_of_steps steps = map Ok (events_given (given_by steps))
+items_of_steps steps = map Ok (filter_map result_ok (given_by steps))
 
 -- the remaining items begin with this one
 abbrev pub GivesItemOfUid : Walk → Option (Result Event Error) → Walk → Type 0

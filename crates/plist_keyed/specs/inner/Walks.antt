@@ -4,7 +4,6 @@
 use Rattle.std.specs.Prelude.{◌≡◌, ℕ, zero, suc, ◌-◌, ◌<◌, ◌≤◌, Bool, true, false, List, [], ◌∷◌, ◌++◌, length, map, reverse, Option, Some, None, Result, Ok, Err, nat_eq, slice_get, ⊤}
 use Rattle.std.specs.List.{AllByRecursion, filter_map, flat_map, list_any}
 use Rattle.std.specs.Option.{option_map_or}
-use Rattle.std.specs.Result.{result_ok}
 use Rattle.indexmap.specs.IndexMap.{IndexMap, get, keys}
 use Rattle.plist_base.specs.Events.{PlainEvent, ScalarEvent}
 use Rattle.plist_base.specs.Trees.{Uid}
@@ -22,10 +21,6 @@ Step = Option Given
 -- what these steps yield
 abbrev pub given_by : List Step → List Given
 given_by steps = filter_map (λ (step : Step). step) steps
-
--- the events among what steps yield
-abbrev pub events_given : List Given → List PlainEvent
-events_given given = filter_map result_ok given
 
 -- the number of the Uid that an event is, if it is one
 abbrev pub uid_of_event : PlainEvent → Option ℕ
@@ -63,11 +58,14 @@ module _ (objects : List (List PlainEvent)) where
   abbrev pub steps_from : ℕ → List Step
   steps_from uid = follow_in [] uid
 
+-- one or more steps are done, which yield these events and no fault
+abbrev pub StepsGive : (events : List PlainEvent) → (before after : List Step) → Type 0
+StepsGive events before after =
+    (length after < length before) × (given_by before ≡ map Ok events ++ given_by after)
+
 -- one or more steps are done, which yield events and no fault
 abbrev pub PassesEvents : (before after : List Step) → Type 0
-PassesEvents before after =
-    (length after < length before)
-    × ((events : List PlainEvent) × (given_by before ≡ map Ok events ++ given_by after))
+PassesEvents before after = (events : List PlainEvent) × StepsGive events before after
 
 -- the steps yield no fault
 abbrev pub IsFaultless : List Step → Type 0

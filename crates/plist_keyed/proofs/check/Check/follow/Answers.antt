@@ -5,7 +5,7 @@ use Rattle.plist_base.specs.Bracketing.{bracketing}
 use Rattle.plist.specs.ValueTrees.{tree_of}
 use Rattle.plist_keyed.specs.inner.Walks.{settled_in}
 use Rattle.plist_keyed.specs.inner.States.{open_uids, unchecked_steps, objects_seen}
-use Rattle.plist_keyed.proofs.CheckStates.{member, no-member, opened-checks, opened-passes}
+use Rattle.plist_keyed.proofs.CheckStates.{all_ok, member, no-member, opened-checks, opened-passes}
 use Rattle.plist_keyed.proofs.CheckSteps.{any_reversed, fault-missing, fault-open, passes-settled, seen_at, settled-check}
 use Rattle.plist_keyed.proofs.check.Check.follow.Goals as goal
 
@@ -52,7 +52,8 @@ returns-clause-passed c =
     (sym c.contains.ensures ∙ c.if-contains.false)
     (no-member c.args.self.now.ends c.args.uid (sym c.contains_key.ensures
     ∙ c.if-contains_key.false))
-    c.open.result c.open.ensures.opened
+    c.open.result (all_ok _ _ _ _ c.open.result c.open.ensures.objects c.open.ensures.path
+    c.open.ensures.levels c.open.ensures.ends)
 
 pub returns-clause-check : goal.returns-clause-check
 returns-clause-check c =
@@ -62,4 +63,5 @@ returns-clause-check c =
     (sym c.contains.ensures ∙ c.if-contains.false)
     (no-member c.args.self.now.ends c.args.uid (sym c.contains_key.ensures
     ∙ c.if-contains_key.false))
-    c.open.result c.open.ensures.opened
+    c.open.result (all_ok _ _ _ _ c.open.result c.open.ensures.objects c.open.ensures.path
+    c.open.ensures.levels c.open.ensures.ends)

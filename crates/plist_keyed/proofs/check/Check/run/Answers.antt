@@ -13,7 +13,7 @@ follow-requires c =
 pub loop-left-init : goal.loop-left-init
 loop-left-init c =
     let start = c.args.self.now in
-    let (fewer, (events, is)) = c.in_ok-follow.ensures.passed in
+    let (events, (fewer, is)) = c.in_ok-follow.ensures.passed in
     record {
       check = c.in_ok-follow.ensures.check;
       objects = refl;

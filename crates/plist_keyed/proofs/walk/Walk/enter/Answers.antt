@@ -1,10 +1,10 @@
-use Rattle.std.proofs.Common.{◌≡◌, ◌∙◌, ap, nat_eq, refl, reverse, sym, Some}
+use Rattle.std.proofs.Common.{◌≡◌, ◌∙◌, [], ap, nat_eq, refl, reverse, sym, Some}
 use Rattle.std.specs.List.{AllByRecursion}
 use Rattle.std.specs.Prelude.{◌++◌, slice_get}
 use Rattle.indexmap.specs.IndexMap.{get}
 use Rattle.plist.specs.Events.{remaining_events}
-use Rattle.plist_keyed.specs.inner.States.{objects_seen, Skips, remaining_steps, steps_in_levels}
-use Rattle.plist_keyed.specs.inner.Walks.{IsEndOf, NameOnly, settled_in, steps_from}
+use Rattle.plist_keyed.specs.inner.States.{objects_seen, remaining_steps, steps_in_levels}
+use Rattle.plist_keyed.specs.inner.Walks.{IsEndOf, NameOnly, StepsGive, settled_in, steps_from}
 use Rattle.plist_keyed.proofs.CheckSteps.{reverse-snoc, seen_at}
 use Rattle.plist_keyed.proofs.WalkSteps.{end-found, end-within, seen-length, skips-entered}
 use Rattle.plist_keyed.proofs.walk.Walk.enter.Goals as goal
@@ -18,9 +18,9 @@ object_at-object-requires c =
     (settled_in walk.ends) c.requires.walk.0.0 c.args.uid _ ends))
 
 entered : (c : goal.In_ok-push)
-    → Skips (steps_from (objects_seen c.args.self.now.objects.now) c.args.uid
+    → StepsGive [] (steps_from (objects_seen c.args.self.now.objects.now) c.args.uid
     ++ remaining_steps c.args.self.now) (steps_in_levels
-    (objects_seen c.args.self.now.objects.now) (reverse c.push.new.self.items))
+    (objects_seen c.args.self.now.objects.now) (reverse c.push.new.self.items) [])
     × AllByRecursion (λ level. NameOnly (remaining_events level) (settled_in c.args.self.now.ends))
     (reverse c.push.new.self.items)
 entered c =

@@ -1,0 +1,133 @@
+use Rattle.std.proofs.Common.{ap, arith, ◌<◌, Err, [], refl, rules, ◌∙◌}
+use Rattle.plist_base.specs.Faults.{fault_of}
+use Rattle.plist_base.proofs.Refusals.{MatchFault-all}
+use Rattle.std.specs.Option.{option_map}
+use Rattle.plist_ascii.specs.inner.Inputs.{kind_in_bytes}
+use Rattle.plist_ascii.proofs.TokenOutcomes.{some_same}
+use Rattle.plist_ascii.proofs.Loops.{since_on}
+use Rattle.plist_ascii.proofs.UnreadBytes.{ended_unread}
+use Rattle.plist_ascii.proofs.Items.{going_start, going_blanks, going_skip, going_event, going_error, going_none, going_quoted, by_fault, fault_kind, fault_place, fault_counts}
+use Rattle.plist_ascii.proofs.reader.AsciiReaderIterator.next.Goals as goal
+
+pub returns-then-has_ended-clause-steps : goal.returns-then-has_ended-clause-steps
+returns-then-has_ended-clause-steps g c = record {
+  items = λ xs e.
+      let none = ended_unread _ _ _ _ xs (cc) e in
+      (xs, e, (going_none (going_start _ xs _) none, none));
+  dialect = refl;
+  rises = search rules;
+  kinds = search rules;
+  offset = search rules;
+  brackets = search rules;
+  quotes = search rules;
+  failures = search rules;
+  ended = search rules;
+  unasked = search rules;
+  ends = search rules;
+}
+
+pub tokens-preserved : goal.tokens-preserved
+tokens-preserved g c =
+    let past = rw c.in-Ok-Some.field-0-is at c.in-Ok-Some.ensures.value in
+    let a = rw c.in-Ok-None-token_by.field-0-is at c.in-Ok-None-token_by.ensures.answers in
+    record {
+      since = since_on c.tokens.invariant.since
+          (c.in-Ok-None-token_by.ensures.failures ∙ c.in-Ok-Some.ensures.failures)
+          (omega (arith, a.0, c.in-Ok-Some.ensures.place)) (λ xs ys i u.
+          let t = past ys u in
+          let k = a.1 t.0 t.2 in (_, k.1, going_skip (going_blanks i) t.1 t.3 k.2 k.0));
+      dialect = c.tokens.invariant.dialect;
+    }
+
+pub returns-in-Ok-Some-token_by-clause-steps : goal.returns-in-Ok-Some-token_by-clause-steps
+returns-in-Ok-Some-token_by-clause-steps g c =
+    let past = rw c.in-Ok-Some.field-0-is at c.in-Ok-Some.ensures.value in
+    let a = rw c.in-Ok-Some-token_by.field-0-is at c.in-Ok-Some-token_by.ensures.answers in
+    let rises = rw c.in-Ok-Some.field-0-is at c.in-Ok-Some.ensures.rises in
+    let none = rw c.in-Ok-Some.field-0-is at c.in-Ok-Some.ensures.peeked in
+    record {
+      items = λ xs e.
+          let i = c.tokens.invariant.since.goes xs e in
+          let t = past i.0 i.1 in
+          let k = a.1 t.0 t.2 in
+          (_, k.1, going_event (going_blanks i.2) t.1 t.3 k.2 k.0);
+      dialect = c.tokens.invariant.dialect;
+      rises = (
+        omega (arith, c.tokens.invariant.since.rises, rises, a.0),
+        omega (arith, c.tokens.invariant.since.rises, rises, a.0),
+      );
+      kinds = rw c.in-Ok-Some-token_by.field-0-is at c.in-Ok-Some-token_by.ensures.kinds;
+      offset = tt;
+      brackets = (rw c.in-Ok-Some-token_by.field-0-is at c.in-Ok-Some-token_by.ensures.brackets) none;
+      quotes = λ xs e first.
+          let i = c.tokens.invariant.since.goes xs e in
+          let t = past i.0 i.1 in
+          let k = a.1 t.0 t.2 in
+          c.in-Ok-Some-token_by.ensures.quotes (going_quoted (going_blanks i.2) t.1 t.3 k.2 k.0 first);
+      failures = c.in-Ok-Some-token_by.ensures.failures ∙ c.in-Ok-Some.ensures.failures
+          ∙ c.tokens.invariant.since.counts;
+      ended = search rules;
+      unasked = search rules;
+      ends = tt;
+    }
+
+pub returns-in-Ok-None-clause-steps : goal.returns-in-Ok-None-clause-steps
+returns-in-Ok-None-clause-steps g c =
+    let past = rw c.in-Ok-None.field-0-is at c.in-Ok-None.ensures.value in
+    record {
+      items = λ xs e.
+          let i = c.tokens.invariant.since.goes xs e in
+          let none = past i.0 i.1 in
+          ([], c.end.ensures.unread, (going_none (going_blanks i.2) none.0, refl));
+      dialect = c.tokens.invariant.dialect;
+      rises = (
+        omega (arith, c.tokens.invariant.since.rises, c.in-Ok-None.ensures.place, c.end.ensures.place),
+        tt,
+      );
+      kinds = tt;
+      offset = tt;
+      brackets = tt;
+      quotes = λ xs e. tt;
+      failures = search rules;
+      ended = λ _. refl;
+      unasked = search rules;
+      ends = c.end.ensures.ended;
+    }
+
+pub returns-in-Err-token_by-clause-steps : goal.returns-in-Err-token_by-clause-steps
+returns-in-Err-token_by-clause-steps g c =
+    let past = rw c.in-Ok-Some.field-0-is at c.in-Ok-Some.ensures.value in
+    let a = c.in-Err-token_by.ensures.answers in
+    let rises = rw c.in-Ok-Some.field-0-is at c.in-Ok-Some.ensures.rises in
+    let fault = c.in-Err-token_by.fault in
+    let less : c.args.self.now.input.taken < c.error.new.self.taken =
+    omega (arith, c.tokens.invariant.since.rises, rises, a.0, c.error.ensures.place) in
+    record {
+      items = λ xs e.
+          let i = c.tokens.invariant.since.goes xs e in
+          let t = past i.0 i.1 in
+          going_error (going_blanks i.2) t.1 _ _ _ c.error.ensures.place t.3 fault
+          (fault_of c.error.result) _ _ _ c.error.ensures.error
+          (some_same (option_map (λ kind. Err kind) (kind_in_bytes fault)) _ _
+          (λ outcome k. k t.0 t.2) a.1) (λ m. c.in-Err-token_by.ensures.memory m t.0 t.2)
+          c.error.ensures.ends;
+      dialect = c.tokens.invariant.dialect;
+      rises = (
+        omega (arith, less),
+        MatchFault-all _ tt tt less,
+      );
+      kinds = fault_kind fault _ (fault_of c.error.result) c.error.ensures.error;
+      offset = fault_place fault _ (fault_of c.error.result) c.error.ensures.error _
+          c.error.ensures.place;
+      brackets = tt;
+      quotes = λ xs e. tt;
+      failures = fault_counts g.R.ByteReader.failures c.take_past.new.self c.token_by.new.self fault _
+          (fault_of c.error.result) _ _ c.error.ensures.error c.in-Err-token_by.ensures.failures
+          (c.in-Ok-Some.ensures.failures ∙ c.tokens.invariant.since.counts)
+          (ap g.R.ByteReader.failures c.error.ensures.inner);
+      ended = search rules;
+      unasked = search rules;
+      ends = by_fault fault _ (fault_of c.error.result) c.error.ensures.error
+          (λ io. (rw io at c.error.ensures.ends).0)
+          (λ memory. (rw memory at c.error.ensures.ends).0) tt;
+    }
