@@ -30,6 +30,10 @@ nested_arrays = file "a101a10209 080a0c" (trailer 1 1 3 0 13)
 unfoldable pub empty_array : List ℕ
 empty_array = file "a009 0809" (trailer 1 1 2 0 10)
 
+-- the real 1.5, of four bytes
+unfoldable pub short_real : List ℕ
+short_real = file "223fc00000 08" (trailer 1 1 1 0 13)
+
 -- a block comment that contains a star, and then the start of an array
 unfoldable pub comment_and_array : List ℕ
 comment_and_array = codes "/* * */("

@@ -1,9 +1,10 @@
-//! Proved callers of the reader: what it yields after its end, and that an I/O error has an offset.
+//! Proved callers of the reader: what it yields after its end, that an I/O error has an offset, and
+//! that a short input has a format.
 
 ghost use Rattle.std.specs.Prelude.{◌≡◌, false, true};
 
 use plist_base::{ErrorKind, Source};
-use plist_reader::Reader;
+use plist_reader::{Reader, format_of};
 use std::alloc::Global;
 
 /// Returns whether an item follows the end, or an error of a kind that ASCII text can't have. It
@@ -77,5 +78,16 @@ pub fn reaches_a_limit<R: Source>(alloc: Global, source: R) -> bool
         },
         Some(Err(error)) => matches!(error.kind(), ErrorKind::LimitReached(_)),
         None => false,
+    }
+}
+
+/// Determines the format of a source, and returns whether that fails because the source ends too
+/// early. It never does, since a source that is shorter than the magic isn't binary.
+pub fn refuses_short_input<R: Source>(source: &mut R) -> bool
+    ensures { result ≡ false }
+{
+    match format_of(source) {
+        Ok(_) => false,
+        Err(error) => error.is_eof(),
     }
 }

@@ -2,10 +2,11 @@
 //! clauses of the functions that it calls, so that none of these clauses can be weakened unnoticed.
 //!
 //! They are listed from the lowest layer up: `faults`, `texts`, `dates`, `reals`, `hashes`,
-//! `events`, `sources`, `limits`, `data`; the readers `binary` (also over `small_files`), `ascii`
-//! and `either`, and the `writer`; `values` and their `contents`; `writers`, for values that are
-//! written; `stored`, for files; `pairs`, `entries` and `iterators`, for dictionaries; `depths`,
-//! for recursions over dictionaries; `archives`; and `commands`.
+//! `events`, `sources`, `limits`, `data`; `decoding`, of objects; the readers `binary` (also over
+//! `small_files`), `ascii` and `either`, and the `writer`; `values` and their `contents`;
+//! `writers`, for values that are written; `stored`, for files; `pairs`, `entries` and
+//! `iterators`, for dictionaries; `depths`, for recursions over dictionaries; `archives`; and
+//! `commands`.
 //!
 //! A caller that is named after a bug returns whether the library has that bug, or returns the
 //! result that the bug would change. Unless its documentation names other errors, a caller returns
@@ -19,6 +20,7 @@ pub mod commands;
 pub mod contents;
 pub mod data;
 pub mod dates;
+pub mod decoding;
 pub mod depths;
 pub mod either;
 pub mod entries;

@@ -4,9 +4,9 @@
 ghost use Rattle.std.specs.Prelude.{◌≡◌, IfSome, false, negsuc};
 ghost use Rattle.plist_base.specs.Events.{ScalarEvent, event_of};
 ghost use Rattle.plist_base.specs.Trees.{Integer as PlainInteger};
-ghost use Rattle.plist_callers.specs.SmallInputs.{empty_array, five_at_true, five_byte_offsets, minus_one, missing_child, nested_arrays, root_is_second};
+ghost use Rattle.plist_callers.specs.SmallInputs.{empty_array, five_at_true, five_byte_offsets, minus_one, missing_child, nested_arrays, root_is_second, short_real};
 
-use plist_base::{ErrorKind, Event, Integer};
+use plist_base::{ErrorKind, Event, Integer, RealBits};
 use plist_binread::BinaryReader;
 use std::alloc::Global;
 
@@ -129,6 +129,19 @@ pub fn end_wants_memory(alloc: Global, bytes: &[u8]) -> bool
             Some(Err(error)) => matches!(error.kind(), ErrorKind::OutOfMemory),
             _ => false,
         },
+        _ => false,
+    }
+}
+
+/// Reads the file of a real of four bytes. Returns whether the reader yields a real of eight bytes.
+#[tactic(auto, using(crate::proofs::SmallInputs::of_short_real))]
+pub fn widens_reals(alloc: Global, bytes: &[u8]) -> bool
+    requires { bytes.now ≡ short_real }
+    ensures { result ≡ false }
+{
+    let mut reader = BinaryReader::new(alloc, bytes);
+    match reader.next() {
+        Some(Ok(Event::Real(RealBits::Eight(_)))) => true,
         _ => false,
     }
 }

@@ -146,12 +146,13 @@ fn a_cycle_of_many_objects(rt: HostRuntime) {
     assert_eq!(rt; answer.as_str(), "RecursiveUid(7)");
 }
 
-// If each visit took a step for each Uid of the chain, this would take 400 million steps.
+// If each visit took a step for each Uid of the chain, this would take 3.6 billion steps, and the
+// test wouldn't end within the minute that it has.
 #[test]
 fn a_long_chain_visited_often(rt: HostRuntime) {
-    let root = visited_chain(&rt, 20_000, 20_000, 20_002);
+    let root = visited_chain(&rt, 60_000, 60_000, 60_002);
     let tree = must(&rt, tree_of(&rt, &root, 0));
-    assert_eq!(rt; count_texts(&rt, &tree), 20_000);
+    assert_eq!(rt; count_texts(&rt, &tree), 60_000);
 }
 
 // The last Uid names one in the middle of the chain. The error names the first Uid that is reached
