@@ -9,10 +9,11 @@ use Rattle.plist_base.specs.Trees.{Tree}
 use Rattle.plist_base.specs.Writing.{Answer, answer_of}
 use Rattle.plist_base.proofs.Grammar.{alike_without_length}
 use Rattle.plist_base.proofs.Stacks.{lengthless-is}
-use Rattle.plist_binwrite.specs.Sending.{Sends, FailsWith}
 use Rattle.plist.specs.declared.stream.events.Events.{Events}
 use Rattle.plist.specs.Events.{GivesEvent, remaining_events}
 use Rattle.plist.specs.SendingValues.{StopsSending, SendsTree}
+use Rattle.plist_binwrite.specs.SendingAs.{FailsAs, SendsAs}
+use Rattle.plist_binwrite.specs.Files.{least_files}
 
 -- the events that were collected and those that remain, all without lengths
 abbrev pub GatheredSoFar : List PlainEvent → (stored : List PlainEvent) → (left : Events) → Type 0
@@ -50,14 +51,14 @@ module _ (tree : Tree) (es : List PlainEvent) (alike : AreAlike es (bracketing t
   whole_tree = (tree, alike)
 
   module _ {W : Type 0} (contents : W → Option (List ℕ)) (old new : W) where
-    stops : (kind : FaultKind) → FailsWith contents kind es old new
+    stops : (kind : FaultKind) → FailsAs least_files contents kind es old new
         → StopsSending contents kind tree old new
     stops Io f = (f.0, f.1.1 _ alike, f.2)
     stops PlistTooLarge f = (f.0.1 _ alike, f.1)
     stops OutOfMemory f = (tt, f)
     stops kind f = absurd f
 
-    pub sends_tree : (answer : Answer) → Sends contents es answer old new
+    pub sends_tree : (answer : Answer) → SendsAs least_files contents es answer old new
         → SendsTree contents tree answer old new
     sends_tree (Ok done) s = (s.0, s.1.1 _ alike, s.2)
     sends_tree (Err fault) s = (s.0, stops _ s.1)

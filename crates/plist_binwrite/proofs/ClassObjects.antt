@@ -1,5 +1,5 @@
 -- A plan by classes is a numbering: each number has one object.
-use Rattle.std.proofs.Common.{◌≡◌, ◌⊎◌, inl, inr, ℕ, ◌+◌, ◌-◌, ◌<◌, ◌≤◌, List, [], ◌∷◌, get_or, refl, ap, sym, ◌∙◌, arith}
+use Rattle.std.proofs.Common.{◌≡◌, ◌⊎◌, inl, inr, ℕ, ◌+◌, ◌-◌, ◌<◌, ◌≤◌, Bool, nat_eq, List, [], ◌∷◌, get_or, refl, ap, sym, ◌∙◌, arith}
 use Rattle.std.proofs.lemmas.Bool.{cases_lt}
 use Rattle.plist_base.specs.Events.{PlainEvent}
 use Rattle.plist_base.specs.Trees as trees
@@ -7,13 +7,18 @@ use Rattle.plist_base.specs.Trees.{Scalar, Tree, Leaf, Array, Dictionary, Trees,
 use Rattle.plist_format.specs.Object as obj
 use Rattle.plist_format.specs.Object.{Object}
 use Rattle.plist_binwrite.specs.Classes.{AreClasses}
-use Rattle.plist_binwrite.specs.Numberings.{references, pairs, object_of, Describes}
+use Rattle.plist_binwrite.specs.Numberings.{object_of, Describes}
 use Rattle.plist_binwrite.specs.inner.Numbering.{IsPlanned, number_by}
 use Rattle.plist_binwrite.proofs.TreeObjects.{occurs_at}
 use Rattle.plist_buffer.specs.Occurrences.{event_count, OccursAt, ItemsOccurAt, PairsOccurAt}
 use Rattle.plist_buffer.proofs.TreeOccurrences.{occurs_items, occurs_pairs, occurs_item, occurs_next, occurs_key, occurs_value, occurs_next_pair}
 use Rattle.plist_binwrite.proofs.NumberingSteps.{numbers_below}
 use Rattle.plist_buffer.proofs.TreeStarts.{begins, occurs_in}
+use Rattle.plist_binwrite.proofs.Unfold.{references, pairs}
+
+-- do the two positions have the same class?
+abbrev pub same_class : (class : ℕ → ℕ) → ℕ × Tree → ℕ × Tree → Bool
+same_class class a b = nat_eq (class a.0) (class b.0)
 
 pub the_scalar : (x y : Scalar) → obj.Scalar x ≡ obj.Scalar y → x ≡ y
 the_scalar x y p = cc
@@ -108,7 +113,7 @@ module _ {es : List PlainEvent} {class : ℕ → ℕ} {by_class : List ℕ} {cou
   first_class : (t : Tree) (p : ℕ) → OccursAt es t p → class (first (num p)) ≡ class p
   first_class t p s =
       planned.numbered.same (class p) (planned.numbered.below p (occurs_in s, begins t p s))
-      (planned.all p (occurs_in s) (begins t p s))
+      (planned.all p (occurs_in s, begins t p s))
 
   -- indices of one number have one class, and indices of one class have one number
   pub number_apart : (t u : Tree) (p q : ℕ) → OccursAt es t p → OccursAt es u q → num p ≡ num q
@@ -121,7 +126,7 @@ module _ {es : List PlainEvent} {class : ℕ → ℕ} {by_class : List ℕ} {cou
   number_same t u p q s r e = ap (λ c. get_or by_class c 0 - 1) e
 
   tree_of : (k : ℕ) → k < count → (u : Tree) × OccursAt es u (first k)
-  tree_of k h = let n = planned.numbered.known k h in occurs_at es planned.whole _ n.0 n.2
+  tree_of k h = let n = planned.numbered.known k h in occurs_at es planned.whole _ n.0.0 n.0.1
 
   -- the object of a number, and its rank
   made_of : (k : ℕ) → (k < count) ⊎ (count ≤ k) → Object × ℕ

@@ -7,41 +7,40 @@ use Rattle.plist_base.specs.Trees.{Leaf, Array, Dictionary, trees_of, members_of
 use Rattle.plist_format.specs.Container.{head_of}
 use Rattle.plist_format.specs.Object.{object_in}
 use Rattle.plist_format.specs.Visits.{visits_of, visits}
-use Rattle.plist_binwrite.specs.Forms.{least_width, length_form, units_of, integer_form, uid_form, text_form}
-use Rattle.plist_binwrite.specs.ObjectCounts.{object_count}
-use Rattle.plist_binwrite.specs.Sizes.{file_size}
+use Rattle.plist_binwrite.specs.Forms.{least_width, length_form, units_of, scalar_form}
+use Rattle.plist_binwrite.specs.Sizes.{object_count, file_size}
 
 -- ---- objects
 
 -- 255 fits into one byte
-one_byte : integer_form (pos 255) ≡ 0x10 ∷ 0xff ∷ []
+one_byte : scalar_form (trees.Integer (pos 255)) ≡ 0x10 ∷ 0xff ∷ []
 unfolding least_width
 one_byte = refl
 
 -- 256 doesn't fit into one byte
-two_bytes : integer_form (pos 256) ≡ 0x11 ∷ 1 ∷ 0 ∷ []
+two_bytes : scalar_form (trees.Integer (pos 256)) ≡ 0x11 ∷ 1 ∷ 0 ∷ []
 unfolding least_width
 two_bytes = refl
 
 -- a negative integer has eight bytes
-minus_one : integer_form (negsuc 0) ≡ 0x13 ∷ 0xff ∷ 0xff ∷ 0xff ∷ 0xff ∷ 0xff ∷ 0xff ∷ 0xff ∷ 0xff
-    ∷ []
+minus_one : scalar_form (trees.Integer (negsuc 0))
+    ≡ 0x13 ∷ 0xff ∷ 0xff ∷ 0xff ∷ 0xff ∷ 0xff ∷ 0xff ∷ 0xff ∷ 0xff ∷ []
 minus_one = refl
 
 -- an integer from 2^63 on has sixteen bytes
-sixteen_bytes : integer_form (pos 18446744073709551615)
+sixteen_bytes : scalar_form (trees.Integer (pos 18446744073709551615))
     ≡ 0x14 ∷ 0 ∷ 0 ∷ 0 ∷ 0 ∷ 0 ∷ 0 ∷ 0 ∷ 0 ∷ 0xff ∷ 0xff ∷ 0xff ∷ 0xff ∷ 0xff ∷ 0xff ∷ 0xff ∷ 0xff
     ∷ []
 unfolding least_width
 sixteen_bytes = refl
 
 -- 65536 doesn't fit into two bytes
-wide_uid : uid_form 65536 ≡ 0x83 ∷ 0 ∷ 1 ∷ 0 ∷ 0 ∷ []
+wide_uid : scalar_form (trees.Uid 65536) ≡ 0x83 ∷ 0 ∷ 1 ∷ 0 ∷ 0 ∷ []
 unfolding least_width
 wide_uid = refl
 
 -- é isn't ASCII, so it is written in UTF-16
-accent : text_form (0xc3 ∷ 0xa9 ∷ []) ≡ 0x61 ∷ 0 ∷ 0xe9 ∷ []
+accent : scalar_form (trees.String (0xc3 ∷ 0xa9 ∷ [])) ≡ 0x61 ∷ 0 ∷ 0xe9 ∷ []
 unfolding least_width length_form units_of chars
 accent = refl
 

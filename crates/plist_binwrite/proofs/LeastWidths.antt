@@ -1,6 +1,6 @@
 -- Big-endian numbers, and the least width of a number.
 use Rattle.std.proofs.Common.{◌≡◌, inl, inr, ℕ, zero, suc, ◌+◌, ◌-◌, ◌*◌, ◌/◌, ◌%◌, ◌^◌, ◌<◌, ◌≤◌, List, length, drop, take, refl, ap, sym, subst, ◌∙◌, arith}
-use Rattle.std.specs.Int.{byte_at}
+use Rattle.std.specs.Int.{byte_at, bytes_high_first}
 use Rattle.std.specs.Int.Digits.{number_from_digits_after}
 use Rattle.std.proofs.Math.Nat.{pow-succ', dvd-mul_right, mod-mod_of_dvd, mul-div-mul_right}
 use Rattle.std.proofs.lemmas.Bool.{lt-ltb, le-ltb, cases_lt}
@@ -9,7 +9,7 @@ use Rattle.std.proofs.Math.Seq.{take-length}
 use lib.Arith.{mod-mul}
 use native.Mathlib.Nat.{mod-eq_of_lt}
 use Rattle.plist_format.specs.Container.{number_of}
-use Rattle.plist_binwrite.specs.Forms.{big_endian, least_width}
+use Rattle.plist_binwrite.specs.Forms.{least_width}
 
 -- ---- the least width
 
@@ -52,12 +52,12 @@ width_holds n h = at_width n (λ w. n < 256 ^ w) (λ a. a) (λ a. a) (λ a. a) (
 
 -- ---- big-endian numbers
 
-pub length-big_endian : (w n : ℕ) → length (big_endian w n) ≡ w
+pub length-big_endian : (w n : ℕ) → length (bytes_high_first w n) ≡ w
 length-big_endian zero n = refl
 length-big_endian (suc w) n = ap suc (length-big_endian w n)
 
-pub drop-big_endian : (j w n : ℕ) → drop j (big_endian (j + w) n) ≡ big_endian w n
-drop-big_endian zero w n = let e : zero + w ≡ w = omega arith in ap (λ k. big_endian k n) e
+pub drop-big_endian : (j w n : ℕ) → drop j (bytes_high_first (j + w) n) ≡ bytes_high_first w n
+drop-big_endian zero w n = let e : zero + w ≡ w = omega arith in ap (λ k. bytes_high_first k n) e
 drop-big_endian (suc j) w n =
     let e : suc j + w ≡ suc (j + w) = omega arith in
     cc (drop-big_endian j w n)
@@ -75,7 +75,7 @@ high_digit w n =
     rw (byte_is w n, pow-succ' 256 w) (mod-mul n (omega arith)
     (pow_positive w))
 
-number_after : (w m n : ℕ) → number_from_digits_after 256 m (big_endian w n)
+number_after : (w m n : ℕ) → number_from_digits_after 256 m (bytes_high_first w n)
     ≡ m * 256 ^ w + n % 256 ^ w
 number_after zero m n = let z : n % 256 ^ 0 ≡ 0 = omega arith in omega arith
 number_after (suc w) m n =
@@ -90,19 +90,19 @@ number_after (suc w) m n =
     (let s = rw power at split in omega (arith, s)) in e)
 
 -- a number that is written is read back
-pub number_back : (w n : ℕ) → n < 256 ^ w → number_of (big_endian w n) ≡ n
+pub number_back : (w n : ℕ) → n < 256 ^ w → number_of (bytes_high_first w n) ≡ n
 number_back w n h =
     let small = mod-eq_of_lt h in
     number_after w 0 n ∙ (let e : 0 * 256 ^ w + n % 256 ^ w ≡ n = omega arith in e)
 
-pub tail_of_digits : (digits : List ℕ) (w n : ℕ) → digits ≡ big_endian 8 n → w ≤ 8
-    → take (8 - (8 - w)) (drop (8 - w) digits) ≡ big_endian w n
+pub tail_of_digits : (digits : List ℕ) (w n : ℕ) → digits ≡ bytes_high_first 8 n → w ≤ 8
+    → take (8 - (8 - w)) (drop (8 - w) digits) ≡ bytes_high_first w n
 tail_of_digits digits w n is h =
     let e : 8 ≡ 8 - w + w = omega arith in
     let tail = ap (drop (8 - w))
-    (is ∙ ap (λ k. big_endian k n) e) ∙ drop-big_endian (8 - w) w n in
-    let back : 8 - (8 - w) ≡ length (big_endian w n) = omega (arith, length-big_endian w n) in
-    rw (tail, back) (take-length (big_endian w n))
+    (is ∙ ap (λ k. bytes_high_first k n) e) ∙ drop-big_endian (8 - w) w n in
+    let back : 8 - (8 - w) ≡ length (bytes_high_first w n) = omega (arith, length-big_endian w n) in
+    rw (tail, back) (take-length (bytes_high_first w n))
 
 -- ---- numbers in the highest bytes of another one
 
@@ -129,7 +129,7 @@ shifted_byte w d n h =
     ∙ sym (byte_is w n)
 
 shifted_front : (w d n : ℕ) → w + d ≤ 8
-    → take w (big_endian (w + d) (n * 256 ^ d % 256 ^ 8)) ≡ big_endian w n
+    → take w (bytes_high_first (w + d) (n * 256 ^ d % 256 ^ 8)) ≡ bytes_high_first w n
 shifted_front zero d n h = refl
 shifted_front (suc w) d n h =
     let e : suc w + d ≡ suc (w + d) = omega arith in
@@ -137,13 +137,13 @@ shifted_front (suc w) d n h =
 
 -- the first bytes of a number that was shifted up are its lowest bytes before that
 pub front_of_shifted : (w n : ℕ) → w ≤ 8
-    → take w (big_endian 8 (n * 2 ^ ((64 - 8 * w) % 64) % 2 ^ 64)) ≡ big_endian w n
+    → take w (bytes_high_first 8 (n * 2 ^ ((64 - 8 * w) % 64) % 2 ^ 64)) ≡ bytes_high_first w n
 front_of_shifted zero n h = refl
 front_of_shifted (suc w) n h =
     let d = 7 - w in
     let bits : (64 - 8 * suc w) % 64 ≡ 8 * d = omega (arith, h) in
     let up : 2 ^ (8 * d) ≡ 256 ^ d = eight_bits d in
     let all : suc w + d ≡ 8 = omega (arith, h) in
-    ap (λ m. take (suc w) (big_endian 8 (n * m % 2 ^ 64))) (ap (λ b. 2 ^ b) bits ∙ up)
-    ∙ subst (λ k. take (suc w) (big_endian k (n * 256 ^ d % 256 ^ 8)) ≡ big_endian (suc w) n) all
+    ap (λ m. take (suc w) (bytes_high_first 8 (n * m % 2 ^ 64))) (ap (λ b. 2 ^ b) bits ∙ up)
+    ∙ subst (λ k. take (suc w) (bytes_high_first k (n * 256 ^ d % 256 ^ 8)) ≡ bytes_high_first (suc w) n) all
     (shifted_front (suc w) d n (omega (arith, h)))

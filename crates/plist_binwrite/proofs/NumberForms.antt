@@ -1,9 +1,9 @@
 -- The bytes of each form of a number or a length.
 use Rattle.std.proofs.Common.{◌≡◌, ℕ, zero, suc, ◌+◌, ◌*◌, ◌^◌, ◌<◌, ◌≤◌, [], ◌∷◌, ◌++◌, refl, arith}
-use Rattle.std.specs.Int.{byte_at}
+use Rattle.std.specs.Int.{byte_at, bytes_high_first}
 use Rattle.std.proofs.lemmas.Bool.{lt-ltb, le-ltb}
 use native.Mathlib.Nat.{div-eq_of_lt}
-use Rattle.plist_binwrite.specs.Forms.{big_endian, doublings, least_width, unsigned_form, length_form}
+use Rattle.plist_binwrite.specs.Forms.{doublings, least_width, unsigned_form, length_form}
 
 pub length_short : (high count : ℕ) → count < 15 → length_form high count ≡ (high * 16 + count) ∷ []
 unfolding length_form
@@ -17,16 +17,16 @@ length_long high count h = rw (le-ltb _ 15 h) refl
 -- these are the bytes of a length that follows its marker
 pub length_told : (high count width marker : ℕ) → 15 ≤ count → width ≡ least_width count
     → marker ≡ 0x10 + doublings width
-    → (high * 16 + 15) ∷ marker ∷ big_endian width count ≡ length_form high count
+    → (high * 16 + 15) ∷ marker ∷ bytes_high_first width count ≡ length_form high count
 length_told high count width marker long least number =
-    let given : marker ∷ big_endian width count ≡ unsigned_form count = cc in
+    let given : marker ∷ bytes_high_first width count ≡ unsigned_form count = cc in
     cc (length_long high count long)
 
 high_zero : (k n : ℕ) → n < 256 ^ k → byte_at k n ≡ 0
 high_zero zero n h = omega arith
 high_zero (suc k) n h = let e = div-eq_of_lt h in rw e refl
 
-pub wide_is : (n : ℕ) → n < 2 ^ 64 → big_endian 16 n ≡ big_endian 8 0 ++ big_endian 8 n
+pub wide_is : (n : ℕ) → n < 2 ^ 64 → bytes_high_first 16 n ≡ bytes_high_first 8 0 ++ bytes_high_first 8 n
 wide_is n h =
     rw (
       high_zero 15 n (omega arith),

@@ -11,8 +11,8 @@ use Rattle.std.proofs.lemmas.List.{get_or-map, get_or-set_same, get_or-set_other
 use Rattle.plist_format.specs.Container.{magic}
 use Rattle.plist_format.specs.Object.{Object}
 use Rattle.plist_binwrite.specs.Forms.{form, IsWritable}
-use Rattle.plist_binwrite.specs.Written.{object_table, Laid}
-use Rattle.plist_binwrite.specs.inner.Layout.{IsOrder, laid_out, AreLaidOut}
+use Rattle.plist_binwrite.specs.Written.{object_table, laid_out, Laid}
+use Rattle.plist_binwrite.specs.inner.Layout.{IsOrder}
 use Rattle.std.proofs.lemmas.List.Folds.{list_any_at}
 use Rattle.plist_base.specs.Events.{PlainEvent}
 use Rattle.plist_base.specs.Trees.{Tree, Leaf, Array, Dictionary}
@@ -231,6 +231,13 @@ pub end_positive : (w : ℕ) (objects : ℕ → Object) (order : List ℕ) (end 
 end_positive w objects order None is = tt
 end_positive w objects order (Some n) is =
     omega (arith, is, length-magic (object_table w objects order))
+
+-- the objects in this order have these offsets, and `found` is the offset after them, or `None` only
+-- if that is 2^64 or more
+pub record AreLaidOut (width : ℕ) (objects : ℕ → Object) (order places : List ℕ)
+    (found : Option ℕ) : Type 0 where
+  pub end : IsSizeOrNone found (length (laid_out width objects order))
+  pub laid : IfSome found (λ _. Laid width objects places order 8)
 
 pub laid_next : (w : ℕ) (objects : ℕ → Object) (order places : List ℕ) (k v : ℕ)
     (end size next : Option ℕ) → k < length places → list_any (eqb k) order ≡ false

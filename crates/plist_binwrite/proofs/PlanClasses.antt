@@ -9,14 +9,14 @@ use Rattle.plist_base.specs.Bracketing.{lengthless}
 use Rattle.plist_base.specs.Events.{PlainEvent}
 use Rattle.plist_base.specs.Trees.{Tree}
 use Rattle.plist_format.specs.Object.{Object}
-use Rattle.plist_binwrite.specs.Classes.{same_class, representatives, count_by, objects_by}
+use Rattle.plist_binwrite.specs.Classes.{representatives, count_by, objects_by}
 use Rattle.plist_binwrite.specs.Forms.{form}
 use Rattle.plist_binwrite.specs.Numberings.{Describes}
 use Rattle.plist_binwrite.specs.inner.Numbering.{IsPlanned, number_by}
 use Rattle.plist_binwrite.specs.Sizes.{total, object_size}
 use Rattle.plist_buffer.specs.Occurrences.{positions}
 use Rattle.plist_binwrite.specs.Written.{object_table}
-use Rattle.plist_binwrite.proofs.ClassObjects.{number_below, number_apart, number_same}
+use Rattle.plist_binwrite.proofs.ClassObjects.{number_below, number_apart, number_same, same_class}
 use Rattle.plist_buffer.proofs.TreePositions.{Stands, positions_stand, positions_all}
 use Rattle.plist_buffer.proofs.SameScalars.{tells_both}
 use Rattle.plist_buffer.proofs.TreeOccurrences.{occurs_whole}
@@ -51,7 +51,7 @@ module _ {es : List PlainEvent} {class : ℕ → ℕ} {by_class : List ℕ} {cou
       let m = positions_all es (λ p. is_member eqb given (number_by class by_class p)
       ≡ true) whole e
       (members_self number (positions whole 0))
-      (planned.numbered.first q) f.0 f.2 in
+      (planned.numbered.first q) f.0.0 f.0.1 in
       unique_member eqb eqb_tells given q ∙ ap (λ k. is_member eqb given k) (sym (known_number planned.numbered q h)) ∙ m)
 
   -- there is one number for each class of a position

@@ -1,7 +1,7 @@
 -- A planned file is that of its tree, with one object for each class, and `send_plan` writes that
 -- file.
-use Rattle.std.proofs.Common.{◌≡◌, ℕ, ◌+◌, ◌-◌, ◌*◌, ◌^◌, ◌<◌, List, [], ◌++◌, length, take, drop, get_or, map, Some, Ok, refl, ap, sym, ◌∙◌, arith, append_assoc, ◌≤◌, Option, None, Result, Err, OnOk, IfSome, subst}
-use Rattle.std.specs.List.{slice_get}
+use Rattle.std.proofs.Common.{◌≡◌, ℕ, ◌+◌, ◌-◌, ◌*◌, ◌^◌, ◌<◌, List, [], ◌++◌, length, take, drop, get_or, map, Some, Ok, refl, ap, sym, ◌∙◌, arith, ◌≤◌, true, eqb, Option, None, Result, Err, OnOk, subst}
+use Rattle.std.specs.List.{list_any, slice_get}
 use Rattle.std.specs.Prelude.{option_map}
 use Rattle.std.proofs.lemmas.List.Elements.{All-from_get_or, recursion_from_All}
 use Rattle.std.proofs.lemmas.Option.{slice_get-map, slice_get-get_or}
@@ -13,26 +13,26 @@ use Rattle.plist_format.specs.Object.{Object, object_in}
 use Rattle.plist_format.specs.Unfolding.{TableEntry, table_of, unfolding_of, until_fault, items_with, items_of_file}
 use Rattle.plist_format.specs.Visits.{visits_of, visits_with, visits}
 use Rattle.plist_format.proofs.Tables.{length-table_of}
-use Rattle.plist_binwrite.specs.Classes.{IsFileBy, count_by, objects_by, size_by, IsOversized, files_by}
-use Rattle.plist_binwrite.specs.ObjectCounts.{collections_in}
-use Rattle.plist_binwrite.specs.Forms.{form, table_form, AllFit}
+use Rattle.plist_binwrite.specs.Classes.{IsFileBy, count_by, objects_by, size_by, files_by}
+use Rattle.plist_binwrite.specs.Sizes.{collections_in, IsSizeOrNone, size_with}
+use Rattle.plist_binwrite.specs.Forms.{form, table_form, AllFit, reference_width, least_width}
 use Rattle.plist_binwrite.specs.Numberings.{Describes}
 use Rattle.plist_binwrite.specs.EventClasses.{class_in, events_in}
-use Rattle.plist_binwrite.specs.inner.Layout.{laid_out, with_table_and_trailer, HasAll, file_of, numbers_in, IsFilePlan, SendsPlan, AreObjectsOf, ExceedsWith, FitsWith, IsLayout}
+use Rattle.plist_binwrite.specs.inner.Layout.{file_of, numbers_in, IsFilePlan, AreObjectsOf, IsLayout}
 use Rattle.plist_binwrite.specs.inner.Numbering.{IsPlanned, object_number, number_by}
 use Rattle.plist_buffer.specs.Occurrences.{positions}
-use Rattle.plist_binwrite.specs.Widths.{reference_width, offset_width}
-use Rattle.plist_binwrite.specs.Written.{Laid, object_table, table_and_trailer}
+use Rattle.plist_binwrite.specs.Written.{Laid, laid_out, object_table, table_and_trailer}
 use Rattle.plist_binwrite.specs.declared.classes.Classed.{Classed}
 use Rattle.plist_binwrite.specs.declared.plan.FilePlan.{FilePlan}
 use Rattle.plist_binwrite.proofs.ClassObjects.{Numbered, numbered, number_apart, number_below}
 use Rattle.plist_binwrite.proofs.PlanClasses.{planned_count, planned_size}
 use Rattle.plist_binwrite.proofs.ObjectOffsets.{AllOnce, length-magic, found_place, object_there}
 use Rattle.plist_binwrite.proofs.Reading.{form_read}
-use Rattle.plist_binwrite.proofs.ReadingNumbers.{drop_front, width_positive, last, length_closed, front_is, head_is}
+use Rattle.plist_binwrite.proofs.ReadingNumbers.{with_table_and_trailer, drop_front, width_positive, last, length_closed, front_is, head_is}
 use Rattle.plist_buffer.proofs.TreeOccurrences.{occurs_whole}
 use Rattle.plist_binwrite.proofs.Unfold.{Shows, unfolds_whole, no_fault}
 use Rattle.plist_binwrite.proofs.LeastWidths.{width_holds}
+use Rattle.plist_base.specs.Faults.{Io, fault_without_offset}
 use Rattle.plist_base.specs.Outcomes.{OnlyDevice}
 use Rattle.plist_base.specs.declared.error.Error.{Error}
 use Rattle.plist_base.specs.Writing.{Answer, answer_of}
@@ -42,8 +42,7 @@ use Rattle.plist_base.specs.declared.sink.Sink.{Sink}
 use Rattle.plist_base.specs.Prefixes.{AppendsPrefix}
 use Rattle.plist_base.specs.Sinks.{PutsBytes, pending, written}
 use Rattle.plist_base.proofs.SinkSteps.{sent_part, sent_whole}
-use Rattle.plist_binwrite.specs.Sizes.{IsSizeOrNone, size_with}
-use Rattle.plist_binwrite.specs.SendingAs.{IsFileAs, SendsAs}
+use Rattle.plist_binwrite.specs.SendingAs.{IsOfTree, SendsAs}
 use Rattle.plist_buffer.proofs.Lengthless.{plain_lengthless}
 
 module _ {es : List PlainEvent} {class : ℕ → ℕ} {by_class : List ℕ} {count : ℕ}
@@ -101,7 +100,7 @@ module _ {es : List PlainEvent} {class : ℕ → ℕ} {by_class : List ℕ} {cou
         → slice_get entries k ≡ Some (record { place = get_or places k 0; object = objects k })
     entry_read k h =
         let o = object_there w objects order places k laid ((whole.numbered k).1 h)
-        (table_form (offset_width (length file)) places) in
+        (table_form (least_width (length file)) places) in
         slice_get-map _ places k ∙ ap (option_map _) (slice_get-get_or places k 0 h)
         ∙ ap (λ object. Some (record { place = get_or places k 0; object = object }))
         (ap (λ bytes. object_in w (drop (get_or places k 0) bytes)) (front_is body places ∙ o.is)
@@ -109,9 +108,9 @@ module _ {es : List PlainEvent} {class : ℕ → ℕ} {by_class : List ℕ} {cou
         (omega (arith, o.at_place)))
         ∙ form_read w (width_positive (length places - 1)) (objects k) o.after o.good)
 
-    fit : AllFit (offset_width (length file)) places
+    fit : AllFit (least_width (length file)) places
     fit =
-        let Fits : ℕ → Type 0 = λ n. n < 256 ^ offset_width (length file) in
+        let Fits : ℕ → Type 0 = λ n. n < 256 ^ least_width (length file) in
         recursion_from_All Fits places (All-from_get_or Fits places 0 (λ k h. omega (
           arith,
           found_place w objects order places k laid ((whole.numbered k).1 h),
@@ -154,6 +153,9 @@ module _ {es : List PlainEvent} {class : ℕ → ℕ} {by_class : List ℕ} {cou
 
     pub finished : IsFileBy class t (with_table_and_trailer file places)
     finished = record {
+      numbers = num;
+      apart = λ u v p q s r. number_apart planned u v p q (rw e s) (rw e r);
+      entered = visits_are;
       written = record {
         order = order;
         objects = objects;
@@ -161,27 +163,25 @@ module _ {es : List PlainEvent} {class : ℕ → ℕ} {by_class : List ℕ} {cou
         distinct = all.distinct;
         numbered = whole.numbered;
         laid = laid;
-        is =
-            append_assoc magic body (table_and_trailer places (length file))
-            ∙ ap (λ at. magic ++ (body ++ table_and_trailer places at)) (length-magic body);
+        is = refl;
         items = items_are;
-      };
-      numbered = record {
-        numbers = num;
-        apart = λ u v p q s r. number_apart planned u v p q (rw e s) (rw e r);
-        entered = visits_are;
       };
       count =
           λ head is. ap (λ (h : Head). length h.places) (ok_same _ head (sym head_found) is)
           ∙ count_is;
       size =
           length_closed body places
-          ∙ (λ i. place_is i + count_is i * offset_width (place_is i) + 32);
+          ∙ (λ i. place_is i + count_is i * least_width (place_is i) + 32);
       fits = fits;
     }
 
+end_is : (end : Option ℕ) (objects count : ℕ) → IsSizeOrNone end (8 + objects)
+    → size_with count objects < 2 ^ 64 → end ≡ Some (8 + objects)
+end_is None objects count large fits = absurd (omega (arith, large, fits))
+end_is (Some end) objects count is fits = ap Some is
+
 module _ {given : Classed} {plan : FilePlan} (l : IsLayout given plan)
-    (all : HasAll given plan) where
+    (all : (k : ℕ) → k < plan.numbering.count → list_any (eqb k) (numbers_in given plan) ≡ true) where
   abbrev order : List ℕ
   order = numbers_in given plan
 
@@ -199,26 +199,37 @@ module _ {given : Classed} {plan : FilePlan} (l : IsLayout given plan)
         subst (IsSizeOrNone plan.end)
         (ap (λ v. length (laid_out v of.objects order)) l.width
         ∙ laid_length l.numbered.planned t e of.objects of.describes order once)
-        (l.laid of.objects of.describes).end
+        (l.end of.objects of.describes)
 
     -- the number of objects is that of the classes
     count_told : length plan.places ≡ count_by (class_in given) t
     count_told = l.order.long ∙ planned_count l.numbered.planned t e
 
-    too_large : (end : Option ℕ)
-        → IfSome end (λ table. ExceedsWith table (length plan.places))
-        → IsSizeOrNone end (8 + size_of_all) → 2 ^ 64 ≤ size_by (class_in given) t
-    too_large None exceeds large = omega (arith, large)
-    too_large (Some table) exceeds is =
-        subst (λ k. 2 ^ 64 ≤ size_with k size_of_all) count_told (exceeds size_of_all is)
-
   -- the file has 2^64 bytes or more
-  pub oversized : IfSome plan.end (λ table. ExceedsWith table (length plan.places))
-      → IsOversized (class_in given) (events_in given)
-  oversized exceeds t e = too_large t e plan.end exceeds (table_told t e)
+  pub oversized : AreTreeEvents (events_in given)
+      → ((objects : ℕ) → IsSizeOrNone plan.end (8 + objects)
+      → 2 ^ 64 ≤ size_with (length plan.places) objects)
+      → IsOfTree (events_in given) (λ tree. 2 ^ 64 ≤ size_by (class_in given) tree)
+  oversized whole exceeds = (
+    complete_of_whole (events_in given) whole,
+    λ t alike.
+        let e = plain_lengthless given.events.now t alike in
+        subst (λ k. 2 ^ 64 ≤ size_with k (size_of_all t e)) (count_told t e)
+        (exceeds (size_of_all t e) (table_told t e)),
+  )
 
-  module _ {table : ℕ} (known : plan.end ≡ Some table)
-      (fits : FitsWith table (length plan.places)) where
+  module _ (fits : (objects : ℕ) → IsSizeOrNone plan.end (8 + objects)
+      → size_with (length plan.places) objects < 2 ^ 64) where
+    -- the offset after the objects is known
+    known : (objects : ℕ → Object) → AreObjectsOf given plan objects
+        → plan.end ≡ Some (length (laid_out plan.width objects order))
+    known objects d =
+        let body = object_table plan.width objects order in
+        let end : IsSizeOrNone plan.end (8 + length body) =
+        subst (IsSizeOrNone plan.end) (length-magic body) (l.end objects d) in
+        end_is plan.end (length body) (length plan.places) end (fits (length body) end)
+        ∙ ap Some (sym (length-magic body))
+
     widths : plan.width ≡ reference_width (length plan.places)
     widths = l.width ∙ ap reference_width (sym l.order.long)
 
@@ -227,13 +238,13 @@ module _ {given : Classed} {plan : FilePlan} (l : IsLayout given plan)
         let objects = objects_by (class_in given) (reference_width (count_by (class_in given) t)) t
         in
         subst (λ k. size_with k objects < 2 ^ 64) (count_told t e)
-        (fits objects (rw known at (table_told t e)))
+        (fits objects (table_told t e))
 
     -- what is laid out is the plan of the file
     pub plan_made : IsFilePlan given plan
     plan_made = record {
       layout = l;
-      table = λ objects d. known ∙ ap Some (rw known at (l.laid objects d).end);
+      table = known;
       file = λ objects d t e.
           subst
           (λ w. IsFileBy (class_in given) t
@@ -241,7 +252,7 @@ module _ {given : Classed} {plan : FilePlan} (l : IsLayout given plan)
           (sym widths)
           (finished l.numbered.planned t e objects d order once plan.places
           (subst (λ w. Laid w objects plan.places order 8) widths
-          (rw known at (l.laid objects d).laid)) l.order.long (all_fit t e));
+          (rw (known objects d) at (l.laid objects d))) l.order.long (all_fit t e));
     }
 
 -- the parts are put one after another
@@ -250,6 +261,16 @@ pub file_is : (objects : ℕ → Object) (order places : List ℕ) (table width 
     ++ (object_table width objects order ++ table_and_trailer places table)
     ≡ with_table_and_trailer (laid_out width objects order) places
 file_is objects order places table width e = cc
+
+-- the file is written; or an I/O operation fails, and a prefix of the file is written
+abbrev pub SendsPlan : {W : Type 0} (contents : W → Option (List ℕ)) → Classed → FilePlan → Answer
+    → (old new : W) → Type 0
+SendsPlan contents given plan (Ok done) old new = (objects : ℕ → Object)
+    → AreObjectsOf given plan objects
+    → Appends (contents old) (contents new) (file_of given plan objects)
+SendsPlan contents given plan (Err fault) old new = (fault ≡ fault_without_offset Io)
+    × ((objects : ℕ → Object) → AreObjectsOf given plan objects
+    → AppendsPrefix (contents old) (contents new) (file_of given plan objects))
 
 -- the pending bytes are written at the end
 pub sends_end : {W : Type 0} (contents : W → Option (List ℕ)) (given : Classed) (plan : FilePlan)
@@ -272,8 +293,8 @@ module _ {W : Type 0} (contents : W → Option (List ℕ)) (given : Classed) (ol
   of : Numbered (events_in given) (object_number given plan.numbering)
   of = numbered r.numbered.planned
 
-  is_file : IsFileAs (files_by (class_in given)) (events_in given)
-      (file_of given plan of.objects)
+  is_file : IsOfTree (events_in given)
+      (λ tree. IsFileBy (class_in given) tree (file_of given plan of.objects))
   is_file = (
     complete_of_whole (events_in given) whole,
     λ t alike. r.file of.objects of.describes t (plain_lengthless given.events.now t alike),

@@ -6,7 +6,8 @@ use Rattle.std.proofs.lemmas.Bool.{lt-ltb, le-ltb, cases_lt, le-leb, lt-leb, and
 use Rattle.std.proofs.lemmas.Grind.{flat_map-append}
 use Rattle.std.proofs.lemmas.Str.{chars_past_char, chars-nil, length-encode, is_utf8-from_IsUtf8, chars-encodes, utf16_chars-nil, utf16_chars_lone, utf16_chars_pair}
 use Rattle.std.proofs.lemmas.List.{nil_from_length}
-use Rattle.plist_binwrite.specs.Forms.{big_endian, char_units, units_of, is_ascii_text, ascii_form, wide_form, text_form, scalar_form, form, key_numbers, value_numbers, IsText, IsWritableScalar, AllFit, IsWritable}
+use Rattle.plist_binwrite.specs.Forms.{units_of, is_ascii_text, length_form, scalar_form, table_form, form, key_numbers, value_numbers, IsWritableScalar, AllFit, IsWritable}
+use Rattle.std.specs.Int.{bytes_high_first}
 use Rattle.std.specs.List.{zip, list_any}
 use Rattle.std.specs.Str.{encode_utf8_all}
 use Rattle.std.specs.Char.Utf16.{utf16_chars, lone_unit_char, surrogate_pair_char}
@@ -33,9 +34,9 @@ units_step text rest c utf8 parts =
 
 -- these are the bytes of a surrogate pair
 pub pair_units : (c : ℕ) → 0x1_0000 ≤ c
-    → big_endian 2 (0xd800 + (c - 0x1_0000) / 0x400)
-    ++ big_endian 2 (0xdc00 + (c - 0x1_0000) % 0x400)
-    ≡ char_units c
+    → bytes_high_first 2 (0xd800 + (c - 0x1_0000) / 0x400)
+    ++ bytes_high_first 2 (0xdc00 + (c - 0x1_0000) % 0x400)
+    ≡ table_form 2 (encode_utf16 c)
 pair_units c high = rw (le-ltb c _ high) refl
 
 -- a character has no more units than bytes
@@ -135,15 +136,17 @@ units_are : (text cs : List ℕ) → scalars cs ≡ true → encode_utf8_all cs 
 unfolding units_of
 units_are text cs s e = ap (flat_map _) (ap chars (sym e) ∙ chars-encodes cs s)
 
-pub text_read : (width : ℕ) (t rest : List ℕ) → IsText t
-    → object_in width (text_form t ++ rest) ≡ Scalar (trees.String t)
+pub text_read : (width : ℕ) (t rest : List ℕ) → IsWritableScalar (trees.String t)
+    → object_in width (scalar_form (trees.String t) ++ rest) ≡ Scalar (trees.String t)
 text_read width t rest is =
-    elim (is_ascii_text t) as (λ b. object_in width (cond b (ascii_form t) (wide_form t) ++ rest)
+    elim (is_ascii_text t) as (λ b. object_in width
+    (cond b (length_form 0x5 (length t) ++ t)
+    (length_form 0x6 (length (units_of t)) ++ table_form 2 (units_of t)) ++ rest)
     ≡ Scalar (trees.String t)) [
       | true ↦ counted width 0x5 (length t) t rest (layout-text width) is.1 (omega arith)
           ∙ rw (is_utf8-from_IsUtf8 t is.0) refl
       | false ↦
-          counted width 0x6 (length (units_of t)) (flat_map (big_endian 2) (units_of t)) rest
+          counted width 0x6 (length (units_of t)) (flat_map (bytes_high_first 2) (units_of t)) rest
           (layout-wide_text width) few (length-table 2 (units_of t))
           ∙ ap text_of_units (numbers_back 2 (units_of t) (omega arith)
           (rw units (units_fit is.0.0 is.0.1.0))
@@ -203,14 +206,14 @@ pub form_read : (w : ℕ) → 0 < w → (o : Object) (rest : List ℕ) → IsWri
     → object_in w (form w o ++ rest) ≡ o
 form_read w positive (Scalar x) rest is = scalar_read w x rest is
 form_read w positive (Array items) rest is =
-    counted w 0xa (length items) (flat_map (big_endian w) items) rest (layout-array w) is.0
+    counted w 0xa (length items) (flat_map (bytes_high_first w) items) rest (layout-array w) is.0
     (length-table w items)
     ∙ ap Array (numbers_back w items positive is.1)
 form_read w positive (Dictionary ps) rest is =
     let many : length (key_numbers ps ++ value_numbers ps) * w ≡ length ps * (2 * w) =
     simp (length-append, length-keys_of, length-values_of) (grind arith) in
-    rw (← flat_map-append (big_endian w) (key_numbers ps) (value_numbers ps))
-    (counted w 0xd (length ps) (flat_map (big_endian w) (key_numbers ps ++ value_numbers ps)) rest
+    rw (← flat_map-append (bytes_high_first w) (key_numbers ps) (value_numbers ps))
+    (counted w 0xd (length ps) (flat_map (bytes_high_first w) (key_numbers ps ++ value_numbers ps)) rest
     (layout-dictionary w) is.0 (length-table w (key_numbers ps ++ value_numbers ps) ∙ many)
     ∙ ap (dictionary (length ps)) (numbers_back w (key_numbers ps ++ value_numbers ps) positive
     (all_both _ (key_numbers ps) (value_numbers ps) is.1 is.2))

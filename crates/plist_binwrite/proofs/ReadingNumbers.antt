@@ -10,11 +10,11 @@ use Rattle.std.proofs.Math.Nat.{mul-div_cancel}
 use Rattle.plist_base.specs.Trees as trees
 use Rattle.plist_format.specs.Container.{number_of, number_at, numbers_spelled, magic, trailer_in, is_width, head_with, head_of}
 use Rattle.plist_format.specs.Object.{Object, Scalar, Counted, layout_of, length_that_follows, meaning_of_front, object_in, signed, integer_in_range}
-use Rattle.plist_binwrite.specs.Forms.{big_endian, doublings, unsigned_form, integer_form, uid_form, length_form, IsInteger, AllFit, least_width, table_form, trailer_form}
+use Rattle.plist_binwrite.specs.Forms.{doublings, unsigned_form, length_form, scalar_form, IsWritableScalar, AllFit, least_width, table_form, reference_width}
+use Rattle.std.specs.Int.{bytes_high_first}
 use Rattle.plist_binwrite.proofs.NumberForms.{length_short, length_long}
 use Rattle.plist_binwrite.proofs.LeastWidths.{at_width, length-big_endian, number_back}
-use Rattle.plist_binwrite.specs.Widths.{reference_width, offset_width}
-use Rattle.plist_binwrite.specs.inner.Layout.{with_table_and_trailer}
+use Rattle.plist_binwrite.specs.Written.{table_and_trailer, trailer_of}
 
 -- ---- the front of some bytes
 
@@ -42,9 +42,9 @@ pub front : (size : ℕ) (meaning : List ℕ → Object) (content rest : List �
 front size meaning content rest e = parted (λ a b. meaning a) _ _ _ _ e
 
 number_front : (f : ℕ → Object) (w n : ℕ) (rest : List ℕ) → n < 256 ^ w
-    → meaning_of_front w (λ content. f (number_of content)) (big_endian w n ++ rest) ≡ f n
+    → meaning_of_front w (λ content. f (number_of content)) (bytes_high_first w n ++ rest) ≡ f n
 number_front f w n rest h =
-    front w (λ content. f (number_of content)) (big_endian w n) rest (length-big_endian w n)
+    front w (λ content. f (number_of content)) (bytes_high_first w n) rest (length-big_endian w n)
     ∙ ap f (number_back w n h)
 
 -- ---- integers
@@ -54,7 +54,7 @@ natural_read : (width n : ℕ) (rest : List ℕ) → n < 2 ^ 63
 unfolding object_in
 natural_read width n rest h =
     let low = number_front (λ k. Scalar (trees.Integer (pos k))) in
-    at_width n (λ w. object_in width ((0x10 + doublings w) ∷ big_endian w n ++ rest)
+    at_width n (λ w. object_in width ((0x10 + doublings w) ∷ bytes_high_first w n ++ rest)
     ≡ Scalar (trees.Integer (pos n)))
     (low 1 n rest) (low 2 n rest) (low 4 n rest)
     (number_front (λ k. Scalar (trees.Integer (signed 64 k))) 8 n rest (omega (arith, h))
@@ -63,8 +63,8 @@ natural_read width n rest h =
 signed_negative : (m : ℕ) → m < 2 ^ 63 → signed 64 (2 ^ 64 - suc m) ≡ negsuc m
 signed_negative m h = rw (le-ltb (2 ^ 64 - suc m) (2 ^ 63) (omega arith)) (omega (arith, ints))
 
-pub integer_read : (width : ℕ) (z : ℤ) (rest : List ℕ) → IsInteger z
-    → object_in width (integer_form z ++ rest) ≡ Scalar (trees.Integer z)
+pub integer_read : (width : ℕ) (z : ℤ) (rest : List ℕ) → IsWritableScalar (trees.Integer z)
+    → object_in width (scalar_form (trees.Integer z) ++ rest) ≡ Scalar (trees.Integer z)
 unfolding object_in
 integer_read width (pos n) rest range =
     elim (cases_lt n (2 ^ 63)) [
@@ -79,11 +79,11 @@ integer_read width (negsuc m) rest range =
     ∙ ap (λ z. Scalar (trees.Integer z)) (signed_negative m (omega (arith, ints, range.0)))
 
 pub uid_read : (width n : ℕ) (rest : List ℕ) → n < 2 ^ 64
-    → object_in width (uid_form n ++ rest) ≡ Scalar (trees.Uid n)
+    → object_in width (scalar_form (trees.Uid n) ++ rest) ≡ Scalar (trees.Uid n)
 unfolding object_in
 uid_read width n rest h =
     let back = number_front (λ k. Scalar (trees.Uid k)) in
-    at_width n (λ w. object_in width ((0x7f + w) ∷ big_endian w n ++ rest)
+    at_width n (λ w. object_in width ((0x7f + w) ∷ bytes_high_first w n ++ rest)
     ≡ Scalar (trees.Uid n))
     (back 1 n rest) (back 2 n rest) (back 4 n rest) (back 8 n rest (omega (arith, h)))
 
@@ -93,16 +93,16 @@ uid_read width n rest h =
 follows : (n : ℕ) (rest : List ℕ) → n < 2 ^ 64
     → length_that_follows (unsigned_form n ++ rest) ≡ Some (n, rest)
 follows n rest h =
-    at_width n (λ w. length_that_follows ((0x10 + doublings w) ∷ big_endian w n ++ rest)
+    at_width n (λ w. length_that_follows ((0x10 + doublings w) ∷ bytes_high_first w n ++ rest)
     ≡ Some (n, rest))
     (taken 1) (taken 2) (taken 4) (taken 8 (omega (arith, h)))
   where
     taken : (w : ℕ) → n < 256 ^ w → cond {A = Option (ℕ × List ℕ)}
-        (nat_le w (length (big_endian w n ++ rest)))
-        (Some (number_of (take w (big_endian w n ++ rest)), drop w (big_endian w n ++ rest))) None
+        (nat_le w (length (bytes_high_first w n ++ rest)))
+        (Some (number_of (take w (bytes_high_first w n ++ rest)), drop w (bytes_high_first w n ++ rest))) None
         ≡ Some (n, rest)
     taken w small =
-        parted (λ a b. Some (number_of a, b)) _ (big_endian w n) rest w (length-big_endian w n)
+        parted (λ a b. Some (number_of a, b)) _ (bytes_high_first w n) rest w (length-big_endian w n)
         ∙ ap (λ k. Some (k, rest)) (number_back w n small)
 
 -- an object with this many elements is read back
@@ -137,7 +137,7 @@ counted {size} {meaning} width high count content rest layout small len =
 
 -- ---- numbers one after another
 
-pub length-table : (w : ℕ) (xs : List ℕ) → length (flat_map (big_endian w) xs) ≡ length xs * w
+pub length-table : (w : ℕ) (xs : List ℕ) → length (flat_map (bytes_high_first w) xs) ≡ length xs * w
 length-table w [] = omega arith
 length-table w (x ∷ xs) =
     let more : suc (length xs) * w ≡ w + length xs * w = grind arith in
@@ -145,29 +145,29 @@ length-table w (x ∷ xs) =
       arith,
       length-table w xs,
       length-big_endian w x,
-      length-append (big_endian w x) (flat_map (big_endian w) xs),
+      length-append (bytes_high_first w x) (flat_map (bytes_high_first w) xs),
     )
 
 number_there : (w : ℕ) (xs : List ℕ) (k : ℕ) → AllFit w xs → k < length xs
-    → get_or xs k 0 ≡ number_of (take w (drop (k * w) (flat_map (big_endian w) xs)))
+    → get_or xs k 0 ≡ number_of (take w (drop (k * w) (flat_map (bytes_high_first w) xs)))
 number_there w [] k fit h = absurd (omega arith)
 number_there w (x ∷ xs) zero fit h =
     let none : zero * w ≡ 0 = omega arith in
-    rw (none, take_front (big_endian w x) (flat_map (big_endian w) xs) w (length-big_endian w x))
+    rw (none, take_front (bytes_high_first w x) (flat_map (bytes_high_first w) xs) w (length-big_endian w x))
     (sym (number_back w x fit.0))
 number_there w (x ∷ xs) (suc k) fit h =
     let more : suc k * w ≡ w + k * w = grind arith in
     rw (
       more,
-      ← drop-drop (k * w) w (big_endian w x ++ flat_map (big_endian w) xs),
-      drop_front (big_endian w x) (flat_map (big_endian w) xs) w (length-big_endian w x),
+      ← drop-drop (k * w) w (bytes_high_first w x ++ flat_map (bytes_high_first w) xs),
+      drop_front (bytes_high_first w x) (flat_map (bytes_high_first w) xs) w (length-big_endian w x),
     ) (number_there w xs k fit.1 (omega arith))
 
 pub numbers_back : (w : ℕ) (xs : List ℕ) → 0 < w → AllFit w xs
-    → numbers_spelled w (flat_map (big_endian w) xs) ≡ xs
+    → numbers_spelled w (flat_map (bytes_high_first w) xs) ≡ xs
 numbers_back w xs positive fit =
     rw (length-table w xs, mul-div_cancel (length xs) {n = w} positive)
-    (sym (fill_by_all (λ i. number_at (flat_map (big_endian w) xs) (i * w) w) xs (length xs) 0 refl
+    (sym (fill_by_all (λ i. number_at (flat_map (bytes_high_first w) xs) (i * w) w) xs (length xs) 0 refl
     (λ k h. number_there w xs k fit h)))
 
 width_is : (n : ℕ) → is_width (least_width n) ≡ true
@@ -177,8 +177,13 @@ pub width_positive : (n : ℕ) → 0 < least_width n
 width_positive n =
     at_width n (λ w. 0 < w) (λ a. omega arith) (λ a. omega arith) (λ a. omega arith) (omega arith)
 
+-- a file with its offset table and trailer
+abbrev pub with_table_and_trailer : (file places : List ℕ) → List ℕ
+with_table_and_trailer file places = file ++ table_and_trailer places (length file)
+
 trailer_back : (ow rf count at : ℕ) → count < 2 ^ 64 → at < 2 ^ 64
-    → trailer_in (trailer_form ow rf count at)
+    → trailer_in (0 ∷ 0 ∷ 0 ∷ 0 ∷ 0 ∷ 0 ∷ ow ∷ rf
+    ∷ (bytes_high_first 8 count ++ (bytes_high_first 8 0 ++ bytes_high_first 8 at)))
     ≡ record { offset_width = ow; reference_width = rf; count = count; root = 0; table = at }
 trailer_back ow rf count at few short =
     let a : number_of (ow ∷ []) ≡ ow = omega arith in
@@ -210,15 +215,13 @@ module _ (body places : List ℕ) where
   file = magic ++ body
 
   abbrev wide : ℕ
-  wide = offset_width (length file)
+  wide = least_width (length file)
 
   abbrev table : List ℕ
   table = table_form wide places
 
   abbrev trailer : List ℕ
-  trailer =
-      trailer_form wide (reference_width (length places)) (length places)
-      (length file)
+  trailer = trailer_of (length places) (length file)
 
   -- the offset of the trailer
   abbrev pub last : ℕ

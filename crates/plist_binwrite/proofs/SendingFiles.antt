@@ -1,20 +1,18 @@
 -- What writing a file does.
-use Rattle.std.proofs.Common.{◌≡◌, inl, inr, ℕ, ◌^◌, ◌<◌, List, Option, Ok, Err, ◌∙◌, subst, refl}
+use Rattle.std.proofs.Common.{◌≡◌, ◌⊎◌, inl, inr, ℕ, ◌^◌, ◌<◌, ◌≤◌, List, Option, Ok, Err, ◌∙◌, subst, refl}
 use Rattle.plist_buffer.specs.declared.event_table.EventTable.{EventTable}
-use Rattle.plist_base.specs.Bracketing.{bracketing, lengthless, AreAlike, AreTreeEvents, AreComplete}
+use Rattle.plist_base.specs.Bracketing.{bracketing, lengthless, AreAlike, AreComplete}
 use Rattle.plist_base.specs.Events.{PlainEvent}
-use Rattle.plist_base.specs.Faults.{FaultKind, Fault, Io, OutOfMemory, PlistTooLarge}
+use Rattle.plist_base.specs.Faults.{FaultKind, Fault, Io, OutOfMemory, PlistTooLarge, fault_without_offset}
 use Rattle.plist_base.specs.Trees.{Tree}
 use Rattle.plist_base.specs.Writing.{Answer}
 use Rattle.plist_base.proofs.Grammar.{complete_of_whole, whole_alike}
-use Rattle.plist_binwrite.specs.Classes.{IsFileBy, files_by}
+use Rattle.plist_binwrite.specs.Classes.{IsFileBy, files_by, size_by}
 use Rattle.plist_binwrite.specs.EventClasses.{class_in, events_in}
 use Rattle.plist_binwrite.specs.declared.classes.Classed.{Classed}
-use Rattle.plist_binwrite.specs.inner.Layout.{IsPlanFault}
-use Rattle.plist_binwrite.specs.Files.{IsFileOf}
+use Rattle.plist_binwrite.specs.Files.{IsFileOf, least_files}
 use Rattle.plist_buffer.specs.EventTable.{plain_events}
-use Rattle.plist_binwrite.specs.Sending.{Sends, least_files}
-use Rattle.plist_binwrite.specs.SendingAs.{FileKind, IsFileAs, FailsAs, SendsAs}
+use Rattle.plist_binwrite.specs.SendingAs.{FileKind, IsOfTree, FailsAs, SendsAs}
 use Rattle.plist_binwrite.specs.inner.Scalars.{AreIdentities}
 use Rattle.plist_binwrite.proofs.Least.{least}
 use Rattle.plist_binwrite.proofs.WriterClasses.{owned_count, owned_size, entered_once}
@@ -30,7 +28,8 @@ module _ (one other : FileKind) (xs ys : List PlainEvent) (p : AreAlike xs ys)
   complete_as : AreComplete xs → AreComplete ys
   complete_as c = complete_of_whole ys (whole_alike xs ys p c.0)
 
-  file_as : (file : List ℕ) → IsFileAs one xs file → IsFileAs other ys file
+  file_as : (file : List ℕ) → IsOfTree xs (λ tree. one.IsFile tree file)
+      → IsOfTree ys (λ tree. other.IsFile tree file)
   file_as file of = (complete_as of.0, λ t alike. to t alike _ (of.1 t (cc)))
 
   module _ {W : Type 0} (contents : W → Option (List ℕ)) where
@@ -54,16 +53,12 @@ module _ (one other : FileKind) (xs ys : List PlainEvent) (p : AreAlike xs ys)
 
 -- if the file can't be planned, nothing is written
 pub sends_nothing : {W : Type 0} (contents : W → Option (List ℕ)) (given : Classed) (fault : Fault)
-    (old new : W) → AreTreeEvents (events_in given) → IsPlanFault given fault → new ≡ old
+    (old new : W) → (fault ≡ fault_without_offset OutOfMemory)
+    ⊎ ((fault ≡ fault_without_offset PlistTooLarge)
+    × IsOfTree (events_in given) (λ tree. 2 ^ 64 ≤ size_by (class_in given) tree)) → new ≡ old
     → SendsAs (files_by (class_in given)) contents (events_in given) (Err fault) old new
-sends_nothing contents given fault old new whole (inl is) same = rw is (refl, same)
-sends_nothing contents given fault old new whole (inr large) same = rw large.0 (
-  refl,
-  (
-    (complete_of_whole _ whole, λ t alike. large.1 t (plain_lengthless given.events.now t alike)),
-    same,
-  ),
-)
+sends_nothing contents given fault old new (inl is) same = rw is (refl, same)
+sends_nothing contents given fault old new (inr large) same = rw large.0 (refl, (large.1, same))
 
 -- ---- a file by the classes of `BinaryWriter` is the tree's file
 
@@ -74,8 +69,8 @@ owned_file tree file o f = record {
   once = record {
     events = bracketing tree;
     faultless = f.written.items;
-    distinct = rw f.numbered.entered
-        (entered_once o f.numbered.numbers f.numbered.apart tree (occurs_whole refl));
+    distinct = rw f.entered
+        (entered_once o f.numbers f.apart tree (occurs_whole refl));
   };
   count = λ head is. f.count head is ∙ owned_count tree o;
   least = least tree;
@@ -87,7 +82,7 @@ pub sends_plainly : {W : Type 0} (contents : W → Option (List ℕ))
     (events : EventTable) {class : ℕ → ℕ}
     {count : ℕ} (answer : Answer) (old new : W) → AreIdentities (plain_events events) class count
     → SendsAs (files_by class) contents (plain_events events) answer old new
-    → Sends contents (plain_events events) answer old new
+    → SendsAs least_files contents (plain_events events) answer old new
 sends_plainly contents events {class} {count} answer old new o s =
     let own = λ (tree : Tree) (alike : AreAlike (plain_events events) (bracketing tree)). subst
     (λ es. AreIdentities es class count) (plain_lengthless events tree alike) o in

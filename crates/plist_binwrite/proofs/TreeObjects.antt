@@ -1,24 +1,27 @@
 -- The objects of trees by their indices: their forms, their sizes, and that they can be written.
-use Rattle.std.proofs.Common.{◌≡◌, ◌⊎◌, inl, inr, ℕ, ◌+◌, ◌*◌, ◌^◌, ◌<◌, ◌≤◌, false, List, ◌∷◌, length, flat_map, map, Option, None, Some, SomeIff, refl, ap, ◌∙◌, subst, arith, length-append}
+use Rattle.std.proofs.Common.{◌≡◌, ◌⊎◌, inl, inr, ℕ, ◌+◌, ◌*◌, ◌^◌, ◌<◌, ◌≤◌, false, List, ◌∷◌, ◌++◌, length, flat_map, map, Option, None, Some, SomeIff, refl, ap, ◌∙◌, subst, arith, length-append}
 use Rattle.std.proofs.lemmas.List.{length-map}
 use Rattle.std.proofs.lemmas.Bool.{cases_lt}
 use Rattle.plist_base.specs.Events.{PlainEvent, ScalarEvent, shape_of}
-use Rattle.plist_base.specs.Trees.{number_of_trees, number_of_members, Scalar, Tree, Leaf, Array, Dictionary, Trees, NoTrees, TreeAnd, Members, NoMembers, MemberAnd}
+use Rattle.plist_base.specs.Trees.{number_of_trees, number_of_members, Scalar, String, Tree, Leaf, Array, Dictionary, Trees, NoTrees, TreeAnd, Members, NoMembers, MemberAnd}
 use Rattle.plist_base.specs.declared.event.EventShape.{EventShape}
 use Rattle.plist_base.specs.declared.event.EventShape.TheVariants as shape
 use Rattle.plist_buffer.specs.Occurrences.{event_count, OccursAt, ItemsOccurAt, PairsOccurAt}
-use Rattle.plist_binwrite.specs.Numberings.{references, pairs, object_of}
-use Rattle.plist_binwrite.specs.Forms.{big_endian, length_form, units_of, is_ascii_text, text_form, scalar_form, form, key_numbers, value_numbers, IsWritable, IsWritableScalar, AllFit}
+use Rattle.plist_binwrite.specs.Numberings.{object_of}
+use Rattle.plist_binwrite.specs.Forms.{length_form, units_of, is_ascii_text, scalar_form, form, key_numbers, value_numbers, IsWritable, IsWritableScalar, AllFit}
+use Rattle.std.specs.Int.{bytes_high_first}
 use Rattle.plist_buffer.specs.EventTable.{is_end, event_at, item_indices, key_indices, value_indices, IsBracketed}
-use Rattle.plist_binwrite.specs.Sizes.{IsSizeOrNone, marked_size}
+use Rattle.plist_binwrite.specs.Sizes.{IsSizeOrNone}
 use Rattle.plist_buffer.specs.Children.{half_of}
-use Rattle.plist_buffer.specs.declared.children.Half.TheVariants.{Values}
+use Rattle.plist_buffer.specs.declared.children.Half.TheVariants.{Keys, Values}
+use Rattle.plist_format.specs.Marker.{high_half}
+use Rattle.plist_format.specs.declared.marker.CountedKind.{CountedKind}
 use Rattle.plist_format.specs.declared.marker.CountedKind.TheVariants as counted
 use Rattle.plist_binwrite.specs.EventClasses.{events_in}
 use Rattle.plist_binwrite.specs.declared.classes.Classed.{Classed}
 use Rattle.plist_binwrite.specs.declared.plan.FilePlan.{FilePlan}
 use Rattle.plist_binwrite.specs.inner.Numbering.{object_number}
-use Rattle.plist_binwrite.specs.inner.Layout.{collection_form, tree_form}
+use Rattle.plist_binwrite.specs.inner.Layout.{references_of}
 use Rattle.plist_buffer.specs.inner.Entries.{is_leaf}
 use Rattle.plist_buffer.proofs.TreeOccurrences.{occurs_whole, occurs_items, occurs_pairs, occurs_item, occurs_next, occurs_key, occurs_value, occurs_next_pair}
 use Rattle.plist_buffer.proofs.TreeStarts.{stands_single, starts_array, starts_dictionary, no_start, begins, occurs_in}
@@ -27,7 +30,7 @@ use Rattle.plist_buffer.proofs.TreePositions.{Stands, positions_stand, positions
 use Rattle.plist_binwrite.proofs.NumberingSteps.{AllNumbered}
 use Rattle.plist_binwrite.proofs.ReadingNumbers.{length-table}
 use Rattle.plist_buffer.proofs.Uniques.{all_from}
-use Rattle.plist_binwrite.proofs.Unfold.{length-references, length-pairs}
+use Rattle.plist_binwrite.proofs.Unfold.{references, pairs, length-references, length-pairs}
 
 -- ---- the children of a tree
 
@@ -162,8 +165,17 @@ module _ (given : Classed) (plan : FilePlan) where
   abbrev num : ℕ → ℕ
   num = object_number given plan.numbering
 
+  -- the bytes of a collection: its length, and the references to its keys and to its items or values
+  abbrev collection_form : CountedKind → (index : ℕ) → List ℕ
+  collection_form kind index = length_form (high_half kind) (length (half_of es Values index))
+      ++ (references_of given plan Keys index ++ references_of given plan Values index)
+
+  -- the bytes of the object of a tree that begins at an index
+  abbrev tree_form : Tree → (index : ℕ) → List ℕ
+  tree_form tree index = form plan.width (object_of num tree index)
+
   pub array_is : {p : ℕ} {ts : Trees} → OccursAt es (Array ts) p
-      → collection_form given plan counted.Array p ≡ tree_form given plan (Array ts) p
+      → collection_form counted.Array p ≡ tree_form (Array ts) p
   array_is {p} {ts} s =
       rw (
         keys_are_in es (Array ts) p s,
@@ -173,7 +185,7 @@ module _ (given : Classed) (plan : FilePlan) where
       ) refl
 
   pub dictionary_is : {p : ℕ} {ms : Members} → OccursAt es (Dictionary ms) p
-      → collection_form given plan counted.Dictionary p ≡ tree_form given plan (Dictionary ms) p
+      → collection_form counted.Dictionary p ≡ tree_form (Dictionary ms) p
   dictionary_is {p} {ms} s =
       rw (
         keys_are_in es (Dictionary ms) p s,
@@ -186,8 +198,8 @@ module _ (given : Classed) (plan : FilePlan) where
 
 -- a size that is computed from the number of references is that of the dictionary
 pub dictionary_told : (given : Option ℕ) (w count pairs : ℕ) → count ≡ pairs
-    → IsSizeOrNone given (marked_size 0xd count (2 * count * w))
-    → IsSizeOrNone given (marked_size 0xd pairs (pairs * w + pairs * w))
+    → IsSizeOrNone given (length (length_form 0xd count) + 2 * count * w)
+    → IsSizeOrNone given (length (length_form 0xd pairs) + (pairs * w + pairs * w))
 dictionary_told given w count pairs h told_is =
     let two : 2 * count * w ≡ pairs * w + pairs * w = rw h (grind arith) in
     subst (IsSizeOrNone _) (λ i. length (length_form 0xd (h i)) + two i) told_is
@@ -199,10 +211,10 @@ told_if (Some x) event_count h = h.1
 
 pub wide_length : (text : List ℕ) → is_ascii_text text ≡ false
     → length (length_form 0x6 (length (units_of text))) + length (units_of text) * 2
-    ≡ length (text_form text)
+    ≡ length (scalar_form (String text))
 wide_length text wide =
     let head = length-append (length_form 0x6 (length (units_of text)))
-    (flat_map (big_endian 2) (units_of text)) in
+    (flat_map (bytes_high_first 2) (units_of text)) in
     rw (wide) (omega (arith, head, length-table 2 (units_of text)))
 
 -- in a tree's events, each event that isn't an end begins a tree

@@ -1,5 +1,5 @@
 -- A numbered list of events is what its objects unfold to.
-use Rattle.std.proofs.Common.{◌≡◌, ℕ, suc, ◌+◌, ◌-◌, ◌<◌, ◌≤◌, false, eqb, List, [], ◌∷◌, ◌++◌, length, map, Some, Ok, refl, ap, sym, arith, length-append}
+use Rattle.std.proofs.Common.{◌≡◌, ℕ, suc, ◌+◌, ◌-◌, ◌<◌, ◌≤◌, false, eqb, List, [], ◌∷◌, ◌++◌, length, map, zip, Some, Ok, refl, ap, sym, arith, length-append}
 use Rattle.std.specs.List.{list_any, flat_map, slice_get, AllByRecursion}
 use Rattle.std.proofs.lemmas.Bool.{ne_eqb}
 use Rattle.std.proofs.lemmas.Grind.{flat_map-append}
@@ -14,11 +14,20 @@ use Rattle.plist_base.specs.Trees.{number_of_trees, number_of_members, Tree, Lea
 use Rattle.plist_format.specs.Object.{children_of}
 use Rattle.plist_format.specs.Unfolding.{TableEntry, items_of, until_fault, unfolding_of}
 use Rattle.plist_format.specs.Visits.{visits_within, visits_of}
-use Rattle.plist_binwrite.specs.ObjectCounts.{collection_of}
+use Rattle.plist_binwrite.specs.Sizes.{collection_of}
+use Rattle.plist_buffer.specs.EventTable.{item_indices, key_indices, value_indices}
 use Rattle.plist_buffer.specs.Occurrences.{event_count, OccursAt, ItemsOccurAt, PairsOccurAt, positions, positions_in_items, positions_in_pairs}
-use Rattle.plist_binwrite.specs.Numberings.{references, pairs, object_of}
+use Rattle.plist_binwrite.specs.Numberings.{object_of}
 use Rattle.plist_buffer.proofs.Uniques.{all_from}
 use Rattle.plist_buffer.proofs.TreeOccurrences.{occurs_items, occurs_pairs, occurs_item, occurs_next, occurs_key, occurs_value, occurs_next_pair}
+
+-- the object numbers of the items, the first of which begins at index q
+abbrev pub references : (num : ℕ → ℕ) → Trees → ℕ → List ℕ
+references num ts q = map num (item_indices ts q)
+
+-- the object numbers of the keys and values of the pairs, the first of which begins at index q
+abbrev pub pairs : (num : ℕ → ℕ) → Members → ℕ → List (ℕ × ℕ)
+pairs num ms q = zip (map num (key_indices ms q)) (map num (value_indices ms q))
 
 pub length-references : (num : ℕ → ℕ) (ts : Trees) (q : ℕ) → length (references num ts q)
     ≡ number_of_trees ts

@@ -8,14 +8,13 @@ use Rattle.std.proofs.lemmas.List.{map-id}
 use Rattle.plist_base.specs.Bracketing.{lengthless, lengthless_items, lengthless_pairs}
 use Rattle.plist_base.specs.Events.{PlainEvent, EndCollection}
 use Rattle.plist_base.specs.Trees.{Scalar, Tree, Leaf, Array, Dictionary, Trees, NoTrees, TreeAnd, Members, NoMembers, MemberAnd}
-use Rattle.plist_binwrite.specs.Classes.{AreClasses, same_class, representatives, count_by, objects_by, size_by}
+use Rattle.plist_binwrite.specs.Classes.{AreClasses, representatives, count_by, objects_by, size_by}
 use Rattle.plist_base.specs.Scalars.{scalar_eq}
-use Rattle.plist_binwrite.specs.ObjectCounts.{collection_of, leaf_scalar, collections_in, scalars_in, object_count}
+use Rattle.plist_binwrite.specs.Sizes.{object_count, scalars_in, collections_in, leaf_scalar, collection_of, total, object_size, size_with, file_size}
 use Rattle.plist_binwrite.specs.Numberings.{object_of}
 use Rattle.plist_binwrite.specs.inner.Scalars.{Identity, shared, alone, identity_of, identity_at, AreIdentities}
-use Rattle.plist_binwrite.specs.Sizes.{total, object_size, size_with, file_size}
 use Rattle.plist_buffer.specs.Occurrences.{event_count, OccursAt, positions, positions_in_items, positions_in_pairs}
-use Rattle.plist_binwrite.specs.Widths.{reference_width}
+use Rattle.plist_binwrite.specs.Forms.{reference_width}
 use Rattle.plist_buffer.proofs.TreePositions.{Stands, one_tree, positions_stand}
 use Rattle.plist_binwrite.proofs.Identities.{owner_eq, owners_tell}
 use Rattle.plist_buffer.proofs.SameScalars.{tells_both}
@@ -23,6 +22,7 @@ use Rattle.plist_buffer.proofs.TreeOccurrences.{occurs_whole}
 use Rattle.plist_buffer.proofs.TreeStarts.{stands_single, starts_array, starts_dictionary, occurs_in}
 use Rattle.plist_binwrite.proofs.Totals.{total_one}
 use Rattle.plist_buffer.proofs.Uniques.{unique_seen}
+use Rattle.plist_binwrite.proofs.ClassObjects.{same_class}
 
 -- ---- the owner of a tree: its scalar, or the index at which a collection begins
 

@@ -1,16 +1,15 @@
 -- Classes of the indices at which trees begin, and files that have one object for each class.
-use Rattle.std.specs.Prelude.{◌≡◌, ℕ, ◌^◌, ◌<◌, ◌≤◌, Bool, List, length, map, nat_eq}
+use Rattle.std.specs.Prelude.{◌≡◌, ℕ, ◌^◌, ◌<◌, List, length, map, nat_eq}
 use Rattle.std.specs.Set.{unique_keys}
 use Rattle.plist_base.specs.Bracketing.{lengthless}
 use Rattle.plist_base.specs.Events.{PlainEvent}
 use Rattle.plist_base.specs.Trees.{Tree}
 use Rattle.plist_format.specs.Visits.{visits}
-use Rattle.plist_binwrite.specs.ObjectCounts.{HasObjects, collections_in}
+use Rattle.plist_binwrite.specs.Sizes.{HasObjects, collections_in, total, object_size, size_with}
 use Rattle.plist_binwrite.specs.Numberings.{object_of}
 use Rattle.plist_binwrite.specs.SendingAs.{FileKind}
-use Rattle.plist_binwrite.specs.Sizes.{total, object_size, size_with}
 use Rattle.plist_buffer.specs.Occurrences.{OccursAt, positions}
-use Rattle.plist_binwrite.specs.Widths.{reference_width}
+use Rattle.plist_binwrite.specs.Forms.{reference_width}
 use Rattle.plist_binwrite.specs.Written.{IsWrittenAs}
 
 -- if the class of an index is taken as its object number, trees that begin at indices of one class
@@ -20,13 +19,9 @@ pub record AreClasses (es : List PlainEvent) (class : ℕ → ℕ) : Type 0 wher
       → object_of class t p ≡ object_of class u q
 
 module _ (class : ℕ → ℕ) where
-  -- do the two positions have the same class?
-  abbrev pub same_class : ℕ × Tree → ℕ × Tree → Bool
-  same_class a b = nat_eq (class a.0) (class b.0)
-
   -- one position of each class, with its tree
   abbrev pub representatives : Tree → List (ℕ × Tree)
-  representatives tree = unique_keys same_class (positions tree 0)
+  representatives tree = unique_keys (λ a b. nat_eq (class a.0) (class b.0)) (positions tree 0)
 
   -- the number of objects in a file with one for each class
   abbrev pub count_by : Tree → ℕ
@@ -40,19 +35,15 @@ module _ (class : ℕ → ℕ) where
   abbrev pub size_by : Tree → ℕ
   size_by tree = size_with (count_by tree) (objects_by (reference_width (count_by tree)) tree)
 
-  -- each index has an object number, which differs between classes, and the file's walk enters the
-  -- collections by these numbers
-  pub record IsNumberedBy (tree : Tree) (file : List ℕ) : Type 0 where
+  -- the bytes are a file of the tree with one object for each class: each index has an object
+  -- number, which differs between classes, and the walk enters the collections by these numbers
+  pub record IsFileBy (tree : Tree) (file : List ℕ) : Type 0 where
     pub numbers : ℕ → ℕ
     pub apart : (t u : Tree) (p q : ℕ) → OccursAt (lengthless tree) t p
         → OccursAt (lengthless tree) u q
         → numbers p ≡ numbers q → class p ≡ class q
     pub entered : visits file ≡ map (λ one. numbers one.0) (collections_in tree)
-
-  -- the bytes are a file of the tree with one object for each class
-  pub record IsFileBy (tree : Tree) (file : List ℕ) : Type 0 where
     pub written : IsWrittenAs tree file
-    pub numbered : IsNumberedBy tree file
     pub count : HasObjects file (count_by tree)
     pub size : length file ≡ size_by tree
     pub fits : size_by tree < 2 ^ 64
@@ -60,7 +51,3 @@ module _ (class : ℕ → ℕ) where
   -- the files with one object for each class
   abbrev pub files_by : FileKind
   files_by = record { IsFile = IsFileBy; size = size_by }
-
-  -- a file of the tree with these events would have 2^64 bytes or more
-  abbrev pub IsOversized : List PlainEvent → Type 0
-  IsOversized es = (tree : Tree) → es ≡ lengthless tree → 2 ^ 64 ≤ size_by tree

@@ -13,37 +13,29 @@ pub record FileKind : Type 1 where
   pub IsFile : Tree → List ℕ → Type 0
   pub size : Tree → ℕ
 
-module _ (files : FileKind) where
-  -- the events are exactly those of a tree, and this is a file of it
-  abbrev pub IsFileAs : List PlainEvent → List ℕ → Type 0
-  IsFileAs events file =
-      AreComplete events
-      × ((tree : Tree) → AreAlike events (bracketing tree) → files.IsFile tree file)
+-- the events are exactly those of a tree, of which this is true
+abbrev pub IsOfTree : List PlainEvent → (says : Tree → Type 0) → Type 0
+IsOfTree events says =
+    AreComplete events × ((tree : Tree) → AreAlike events (bracketing tree) → says tree)
 
-  -- the events are exactly those of a tree, and a file of it would have 2^64 bytes or more
-  abbrev pub IsTooLarge : List PlainEvent → Type 0
-  IsTooLarge events =
-      AreComplete events
-      × ((tree : Tree) → AreAlike events (bracketing tree) → 2 ^ 64 ≤ files.size tree)
+module _ (files : FileKind) {W : Type 0} (contents : W → Option (List ℕ)) where
+  -- a file of the tree with these events was written
+  abbrev pub SendsFileAs : (events : List PlainEvent) (old new : W) → Type 0
+  SendsFileAs events old new = (file : List ℕ) × IsOfTree events (λ tree. files.IsFile tree file)
+      × Appends (contents old) (contents new) file
 
-  module _ {W : Type 0} (contents : W → Option (List ℕ)) where
-    -- a file of the tree with these events was written
-    abbrev pub SendsFileAs : (events : List PlainEvent) (old new : W) → Type 0
-    SendsFileAs events old new =
-        (file : List ℕ) × IsFileAs events file × Appends (contents old) (contents new) file
+  -- what a call that failed has written: a prefix of a file for `Io`, and nothing for any other
+  -- error
+  abbrev pub FailsAs : FaultKind → (events : List PlainEvent) (old new : W) → Type 0
+  FailsAs Io events old new = (file : List ℕ) × IsOfTree events (λ tree. files.IsFile tree file)
+      × AppendsPrefix (contents old) (contents new) file
+  FailsAs PlistTooLarge events old new =
+      IsOfTree events (λ tree. 2 ^ 64 ≤ files.size tree) × (new ≡ old)
+  FailsAs OutOfMemory events old new = new ≡ old
+  FailsAs kind events old new = ⊥
 
-    -- what a call that failed has written: a prefix of a file for `Io`, and nothing for any other
-    -- error
-    abbrev pub FailsAs : FaultKind → (events : List PlainEvent) (old new : W) → Type 0
-    FailsAs Io events old new =
-        (file : List ℕ) × IsFileAs events file
-        × AppendsPrefix (contents old) (contents new) file
-    FailsAs PlistTooLarge events old new = IsTooLarge events × (new ≡ old)
-    FailsAs OutOfMemory events old new = new ≡ old
-    FailsAs kind events old new = ⊥
-
-    -- what writing the file of a tree's events does
-    abbrev pub SendsAs : (events : List PlainEvent) → Answer → (old new : W) → Type 0
-    SendsAs events (Ok done) old new = SendsFileAs events old new
-    SendsAs events (Err fault) old new =
-        (fault.offset ≡ None) × FailsAs fault.kind events old new
+  -- what writing the file of a tree's events does
+  abbrev pub SendsAs : (events : List PlainEvent) → Answer → (old new : W) → Type 0
+  SendsAs events (Ok done) old new = SendsFileAs events old new
+  SendsAs events (Err fault) old new =
+      (fault.offset ≡ None) × FailsAs fault.kind events old new

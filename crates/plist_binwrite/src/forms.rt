@@ -5,7 +5,9 @@
 //! that were put.
 
 ghost use Rattle.std.specs.Prelude.{◌≡◌, ◌≤◌, Ok, true, false};
-ghost use Rattle.plist_binwrite.specs.Forms.{big_endian, integer_form, uid_form, length_form, boolean_form, data_form, date_form, real_form, scalar_form, table_form};
+ghost use Rattle.plist_base.specs.Trees as trees;
+ghost use Rattle.plist_binwrite.specs.Forms.{length_form, scalar_form, table_form};
+ghost use Rattle.std.specs.Int.{bytes_high_first};
 ghost use Rattle.plist_buffer.specs.StoredScalars.{scalar_of_ref};
 ghost use Rattle.plist_format.specs.Marker.{high_half};
 ghost use Rattle.plist_base.specs.Sinks.{Puts, PutsBytes, PutsNothing};
@@ -28,7 +30,7 @@ const MAX_FIXED_OBJECT: usize = 17;
 /// Puts the lowest `width` bytes of a number in big-endian order. `width` is at most 8.
 pub fn put_number<W: Write>(sink: &mut Sink<'_, W>, width: usize, number: u64) -> Result<(), Error>
     requires width { width ≤ 8 }
-    ensures { Puts W.contents sink.old (big_endian width number) result sink.new }
+    ensures { Puts W.contents sink.old (bytes_high_first width number) result sink.new }
 {
     let digits = number.to_be_bytes();
     sink.put(&digits[8 - width..])
@@ -40,8 +42,8 @@ pub fn put_number<W: Write>(sink: &mut Sink<'_, W>, width: usize, number: u64) -
 #[inline(always)]
 pub fn try_put_number<W: Write>(sink: &mut Sink<'_, W>, width: usize, number: u64) -> bool
     requires width { width ≤ 8 }
-    ensures put { result ≡ true → PutsBytes W.contents sink.old (big_endian width number) (Ok tt)
-        sink.new }
+    ensures put { result ≡ true → PutsBytes W.contents sink.old (bytes_high_first width number)
+        (Ok tt) sink.new }
     ensures unchanged { result ≡ false → PutsNothing sink.old sink.new }
 {
     if sink.room() < 8 {
@@ -85,14 +87,14 @@ pub fn put_scalar<W: Write>(sink: &mut Sink<'_, W>, scalar: ScalarRef<'_>) -> Re
 
 /// Puts a Boolean.
 pub fn put_boolean<W: Write>(sink: &mut Sink<'_, W>, value: bool) -> Result<(), Error>
-    ensures { Puts W.contents sink.old (boolean_form value) result sink.new }
+    ensures { Puts W.contents sink.old (scalar_form (trees.Boolean value)) result sink.new }
 {
     put_scalar(sink, ScalarRef::Boolean(value))
 }
 
 /// Puts data.
 pub fn put_data<W: Write>(sink: &mut Sink<'_, W>, content: &[u8]) -> Result<(), Error>
-    ensures { Puts W.contents sink.old (data_form content.now) result sink.new }
+    ensures { Puts W.contents sink.old (scalar_form (trees.Data content.now)) result sink.new }
 {
     let count = content.len();
     put_length(sink, CountedKind::Data, count as u64)?;
@@ -101,21 +103,21 @@ pub fn put_data<W: Write>(sink: &mut Sink<'_, W>, content: &[u8]) -> Result<(), 
 
 /// Puts a date: a marker and its eight bytes.
 pub fn put_date<W: Write>(sink: &mut Sink<'_, W>, date: Date) -> Result<(), Error>
-    ensures { Puts W.contents sink.old (date_form date) result sink.new }
+    ensures { Puts W.contents sink.old (scalar_form (trees.Date date)) result sink.new }
 {
     put_scalar(sink, ScalarRef::Date(date))
 }
 
 /// Puts a real: a marker and its four or eight bytes.
 pub fn put_real<W: Write>(sink: &mut Sink<'_, W>, bits: RealBits) -> Result<(), Error>
-    ensures { Puts W.contents sink.old (real_form bits) result sink.new }
+    ensures { Puts W.contents sink.old (scalar_form (trees.Real bits)) result sink.new }
 {
     put_scalar(sink, ScalarRef::Real(bits))
 }
 
 /// Puts a Uid in the smallest of 1, 2, 4 and 8 bytes into which it fits.
 pub fn put_uid<W: Write>(sink: &mut Sink<'_, W>, uid: Uid) -> Result<(), Error>
-    ensures { Puts W.contents sink.old (uid_form uid) result sink.new }
+    ensures { Puts W.contents sink.old (scalar_form (trees.Uid uid)) result sink.new }
 {
     put_scalar(sink, ScalarRef::Uid(uid))
 }
@@ -123,7 +125,7 @@ pub fn put_uid<W: Write>(sink: &mut Sink<'_, W>, uid: Uid) -> Result<(), Error>
 /// Puts an integer. One from 0 to `i64::MAX` has the smallest of 1, 2, 4 and 8 bytes into which it
 /// fits, a negative one has eight bytes, and one above `i64::MAX` has sixteen.
 pub fn put_integer<W: Write>(sink: &mut Sink<'_, W>, value: Integer) -> Result<(), Error>
-    ensures { Puts W.contents sink.old (integer_form value) result sink.new }
+    ensures { Puts W.contents sink.old (scalar_form (trees.Integer value)) result sink.new }
 {
     put_scalar(sink, ScalarRef::Integer(value))
 }

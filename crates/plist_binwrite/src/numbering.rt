@@ -21,10 +21,12 @@ pub struct Numbering {
 }
 
 impl Numbering {
-    ghost use Rattle.std.specs.Prelude.{◌≡◌, ◌<◌, length, replicate, IfOk, OnOk};
+    ghost use Rattle.std.specs.Prelude.{◌≡◌, ◌<◌, ◌∷◌, ◌++◌, [], ℕ, length, replicate, IfOk, OnOk};
     ghost use Rattle.plist_binwrite.specs.EventClasses.{IsListed, class_in, events_in};
+    ghost use Rattle.plist_buffer.specs.Children.{half_of};
     ghost use Rattle.plist_buffer.specs.EventTable.{HasItem, IsBracketed};
-    ghost use Rattle.plist_binwrite.specs.inner.Numbering.{AllHaveNumbers, IsNumberedSoFar, KeepsNumbers, NumbersChildren, NumbersHalf, NumbersItem, object_number, stored_number};
+    ghost use Rattle.plist_buffer.specs.declared.children.Half.TheVariants.{Keys, Values};
+    ghost use Rattle.plist_binwrite.specs.inner.Numbering.{IsNumbered, IsNumberedSoFar, Numbers, object_number};
 
     // Creates a numbering in which no object has a number.
     fn new(alloc: Global, bound: usize) -> Result<Numbering, AllocError>
@@ -41,7 +43,7 @@ impl Numbering {
         requires index { index < length (events_in given.now) }
         requires listed { IsListed given.now }
         requires class { class_in given.now index < length self.now.by_class }
-        requires numbered { NumbersItem given.now index self.now }
+        requires numbered { IsNumbered given.now self.now index }
         ensures { result ≡ object_number given.now self.now index }
     {
         self.by_class.get(given.class_at(index)) - 1
@@ -52,13 +54,9 @@ impl Numbering {
     fn number_one(&mut self, given: &Classed<'_, '_>, index: usize) -> Result<(), AllocError>
         requires so_far { IsNumberedSoFar given.now self.old }
         requires item { HasItem (events_in given.now) index }
-        // Result.
-        ensures numbered { OnOk result (NumbersItem given.now index self.new) }
+        ensures numbers { OnOk result (Numbers given.now (index ∷ []) self.old self.new) }
         ensures first { OnOk result (self.old.count ≡ 0
-            → stored_number given.now self.new index ≡ 1) }
-        // State afterwards.
-        ensures so_far { OnOk result (IsNumberedSoFar given.now self.new) }
-        ensures keeps { OnOk result (KeepsNumbers given.now self.old self.new) }
+            → object_number given.now self.new index ≡ 0) }
     {
         let class = given.class_at(index);
         if self.by_class.get(class) != 0 {
@@ -84,9 +82,8 @@ impl Numbering {
     ) -> Result<(), AllocError>
         requires so_far { IsNumberedSoFar given.now self.old }
         requires index { index < length (events_in given.now) }
-        ensures so_far { OnOk result (IsNumberedSoFar given.now self.new) }
-        ensures keeps { OnOk result (KeepsNumbers given.now self.old self.new) }
-        ensures numbered { OnOk result (NumbersHalf given.now half index self.new) }
+        ensures { OnOk result (Numbers given.now (half_of (events_in given.now) half index) self.old
+            self.new) }
     {
         for child in Children::new(given.events, index, half) {
             self.number_one(given, child)?;
@@ -99,9 +96,8 @@ impl Numbering {
     fn number_children(&mut self, given: &Classed<'_, '_>, index: usize) -> Result<(), AllocError>
         requires so_far { IsNumberedSoFar given.now self.old }
         requires index { index < length (events_in given.now) }
-        ensures so_far { OnOk result (IsNumberedSoFar given.now self.new) }
-        ensures keeps { OnOk result (KeepsNumbers given.now self.old self.new) }
-        ensures numbered { OnOk result (NumbersChildren given.now index self.new) }
+        ensures { OnOk result (Numbers given.now (half_of (events_in given.now) Keys index
+            ++ half_of (events_in given.now) Values index) self.old self.new) }
     {
         if !begins_collection(given.events, index) {
             return Ok(());
@@ -118,9 +114,9 @@ impl Numbering {
         requires none { self.old.count ≡ 0 }
         requires whole { IsBracketed (events_in given.now) }
         ensures so_far { OnOk result (IsNumberedSoFar given.now self.new) }
-        ensures all { OnOk result (AllHaveNumbers (events_in given.now)
-            (stored_number given.now self.new)) }
-        ensures root { OnOk result (stored_number given.now self.new 0 ≡ 1) }
+        ensures all { OnOk result ((p : ℕ) → HasItem (events_in given.now) p
+            → IsNumbered given.now self.new p) }
+        ensures root { OnOk result (object_number given.now self.new 0 ≡ 0) }
     {
         self.number_one(given, 0)?;
         for index in 0..given.events.len() {

@@ -1,14 +1,21 @@
 //! Puts the objects of a planned file.
 
-ghost use Rattle.std.specs.Prelude.{◌≡◌, ◌<◌, Ok, length, true, false};
+ghost use Rattle.std.specs.Prelude.{◌≡◌, ◌<◌, ◌++◌, ℕ, Ok, length, true, false};
 ghost use Rattle.plist_base.specs.Events.{ScalarEvent};
 ghost use Rattle.plist_base.specs.Sinks.{Puts, PutsBytes, PutsNothing};
 ghost use Rattle.plist_base.specs.Trees.{Scalar, Tree};
 ghost use Rattle.plist_binwrite.specs.EventClasses.{events_in};
 ghost use Rattle.plist_buffer.specs.EventTable.{plain_events, table_event};
-ghost use Rattle.plist_binwrite.specs.Forms.{scalar_form};
+ghost use Rattle.plist_binwrite.specs.Forms.{form, length_form, scalar_form};
+ghost use Rattle.plist_binwrite.specs.Numberings.{object_of};
+ghost use Rattle.plist_binwrite.specs.Written.{object_table};
+ghost use Rattle.plist_buffer.specs.Children.{half_of};
+ghost use Rattle.plist_buffer.specs.declared.children.Half.TheVariants.{Keys, Values};
+ghost use Rattle.plist_format.specs.Marker.{high_half};
+ghost use Rattle.plist_format.specs.Object.{Object};
 ghost use Rattle.plist_buffer.specs.Occurrences.{OccursAt};
-ghost use Rattle.plist_binwrite.specs.inner.Layout.{IsFilePlan, PutsObjects, collection_form, references_of, tree_form};
+ghost use Rattle.plist_binwrite.specs.inner.Layout.{AreObjectsOf, IsFilePlan, numbers_in, references_of};
+ghost use Rattle.plist_binwrite.specs.inner.Numbering.{object_number};
 
 use crate::classes::Classed;
 use crate::forms::{CountedKind, put_length, put_number, put_scalar, try_put_number};
@@ -53,8 +60,10 @@ fn put_collection<W: Write>(
 ) -> Result<(), Error>
     requires plan { IsFilePlan given.now plan.now }
     requires index { index < length (events_in given.now) }
-    ensures { Puts W.contents sink.old (collection_form given.now plan.now kind index) result
-        sink.new }
+    ensures { Puts W.contents sink.old
+        (length_form (high_half kind) (length (half_of (events_in given.now) Values index))
+        ++ (references_of given.now plan.now Keys index
+        ++ references_of given.now plan.now Values index)) result sink.new }
 {
     put_length(
         sink,
@@ -94,7 +103,8 @@ fn put_object<W: Write>(
     requires plan { IsFilePlan given.now plan.now }
     requires index { index < length (events_in given.now) }
     ensures { (tree : Tree) → OccursAt (events_in given.now) tree index
-        → Puts W.contents sink.old (tree_form given.now plan.now tree index) result sink.new }
+        → Puts W.contents sink.old (form plan.now.width
+        (object_of (object_number given.now plan.now.numbering) tree index)) result sink.new }
 {
     match given.events.kind_at(index) {
         EventShape::StartArray => put_collection(sink, given, plan, index, CountedKind::Array),
@@ -119,7 +129,9 @@ pub fn put_objects<W: Write>(
     plan: &FilePlan,
 ) -> Result<(), Error>
     requires { IsFilePlan given.now plan.now }
-    ensures { PutsObjects W.contents sink.old given.now plan.now result sink.new }
+    ensures { (objects : ℕ → Object) → AreObjectsOf given.now plan.now objects
+        → Puts W.contents sink.old
+        (object_table plan.now.width objects (numbers_in given.now plan.now)) result sink.new }
 {
     for index in 0..plan.order.len() {
         let first = plan.order.get(index);

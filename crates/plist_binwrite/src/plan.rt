@@ -1,11 +1,14 @@
 //! Plans a file: numbers its objects, and then lays them out. The plan is complete before the first
 //! byte of the file is written.
 
-ghost use Rattle.std.specs.Prelude.{◌≡◌, ◌<◌, IfOk, IfSome};
+ghost use Rattle.std.specs.Prelude.{◌≡◌, ◌≤◌, ◌^◌, ◌<◌, ◌⊎◌, IfOk, IfSome};
+ghost use Rattle.plist_base.specs.Bracketing.{AreTreeEvents};
+ghost use Rattle.plist_base.specs.Faults.{OutOfMemory, PlistTooLarge, fault_without_offset};
 ghost use Rattle.plist_base.specs.Outcomes.{IfFault};
-ghost use Rattle.plist_binwrite.specs.EventClasses.{IsClassed, events_in};
-ghost use Rattle.plist_buffer.specs.EventTable.{IsBracketed};
-ghost use Rattle.plist_binwrite.specs.inner.Layout.{IsFilePlan, IsPlanFault};
+ghost use Rattle.plist_binwrite.specs.Classes.{size_by};
+ghost use Rattle.plist_binwrite.specs.EventClasses.{IsClassed, class_in, events_in};
+ghost use Rattle.plist_binwrite.specs.SendingAs.{IsOfTree};
+ghost use Rattle.plist_binwrite.specs.inner.Layout.{IsFilePlan};
 
 use crate::classes::Classed;
 use crate::numbering::{Numbering, number_objects};
@@ -42,10 +45,11 @@ fn place_or_greatest(place: Option<u64>) -> usize
 }
 
 impl FilePlan {
-    ghost use Rattle.std.specs.Prelude.{◌<◌, length, IfOk, IfSome, OnOk};
+    ghost use Rattle.std.specs.Prelude.{◌≡◌, ◌<◌, ℕ, eqb, length, true, IfOk, IfSome, OnOk};
+    ghost use Rattle.std.specs.List.{list_any};
     ghost use Rattle.plist_binwrite.specs.EventClasses.{IsClassed, events_in};
     ghost use Rattle.plist_buffer.specs.EventTable.{HasItem, IsBracketed};
-    ghost use Rattle.plist_binwrite.specs.inner.Layout.{HasAll, IsLayout, Places};
+    ghost use Rattle.plist_binwrite.specs.inner.Layout.{IsLayout, Places, numbers_in};
 
     // Numbers the objects, of which none has an offset yet. The first one will follow the magic,
     // which has 8 bytes.
@@ -117,7 +121,8 @@ impl FilePlan {
     fn place_all(&mut self, given: &Classed<'_, '_>) -> Result<(), AllocError>
         requires layout { IsLayout given.now self.old }
         ensures layout { OnOk result (IsLayout given.now self.new) }
-        ensures all { OnOk result (HasAll given.now self.new) }
+        ensures all { OnOk result ((k : ℕ) → k < self.new.numbering.count
+            → list_any (eqb k) (numbers_in given.now self.new) ≡ true) }
     {
         for index in 0..given.events.len() {
             self.place_here(given, index)?;
@@ -133,10 +138,12 @@ impl FilePlan {
 /// `PlistTooLarge` if the file would have 2^64 bytes or more, and `OutOfMemory` if an allocation
 /// fails. Neither has an offset.
 pub fn plan_file(alloc: Global, given: &Classed<'_, '_>) -> Result<FilePlan, Error>
-    requires whole { IsBracketed (events_in given.now) }
+    requires whole { AreTreeEvents (events_in given.now) }
     requires classed { IsClassed given.now }
     ensures plan { IfOk result (IsFilePlan given.now) }
-    ensures refused { IfFault result (IsPlanFault given.now) }
+    ensures refused { IfFault result (λ fault. (fault ≡ fault_without_offset OutOfMemory)
+        ⊎ ((fault ≡ fault_without_offset PlistTooLarge)
+        × IsOfTree (events_in given.now) (λ tree. 2 ^ 64 ≤ size_by (class_in given.now) tree))) }
 {
     let mut plan = FilePlan::new(alloc, given)?;
     plan.place_all(given)?;

@@ -4,7 +4,9 @@
 
 ghost use Rattle.std.specs.Prelude.{◌≡◌, ◌+◌, ◌++◌, ◌∷◌, ◌≤◌, length, true, false};
 ghost use Rattle.plist_base.specs.Sinks.{buffered, room};
-ghost use Rattle.plist_binwrite.specs.Forms.{big_endian, doublings, unsigned_form, integer_form, uid_form, length_form, boolean_form, data_form, date_form, real_form, scalar_form, text_form, marker_and_number};
+ghost use Rattle.plist_base.specs.Trees as trees;
+ghost use Rattle.plist_binwrite.specs.Forms.{doublings, unsigned_form, length_form, scalar_form};
+ghost use Rattle.std.specs.Int.{bytes_high_first};
 ghost use Rattle.plist_buffer.specs.StoredScalars.{scalar_of_ref};
 ghost use Rattle.plist_format.specs.Marker.{byte_of, high_half};
 
@@ -32,7 +34,7 @@ fn number_marker(width: usize) -> Marker
 pub fn push_number(buffer: &mut FixedBuffer, width: usize, number: u64)
     requires width { width ≤ 8 }
     requires room { 8 ≤ room buffer.old }
-    ensures pushed { buffered buffer.new ≡ buffered buffer.old ++ big_endian width number }
+    ensures pushed { buffered buffer.new ≡ buffered buffer.old ++ bytes_high_first width number }
     ensures room { room buffer.new + width ≡ room buffer.old }
 {
     // A shift by 64 bits, for which no byte is pushed, leaves the number as it is.
@@ -57,7 +59,7 @@ fn push_marked_number(buffer: &mut FixedBuffer, marker: Marker, width: usize, nu
     requires width { width ≤ 8 }
     requires room { 9 ≤ room buffer.old }
     ensures pushed { buffered buffer.new ≡ buffered buffer.old
-        ++ marker_and_number (byte_of marker) width number }
+        ++ byte_of marker ∷ bytes_high_first width number }
     ensures room { room buffer.old ≤ room buffer.new + 9 }
 {
     buffer.push(&[marker.encode()]);
@@ -96,7 +98,8 @@ pub fn push_length(buffer: &mut FixedBuffer, kind: CountedKind, count: u64)
 #[inline(always)]
 pub fn push_boolean(buffer: &mut FixedBuffer, value: bool)
     requires { 1 ≤ room buffer.old }
-    ensures pushed { buffered buffer.new ≡ buffered buffer.old ++ boolean_form value }
+    ensures pushed { buffered buffer.new ≡ buffered buffer.old
+        ++ scalar_form (trees.Boolean value) }
 {
     buffer.push(&[Marker::Boolean(value).encode()]);
 }
@@ -105,7 +108,7 @@ pub fn push_boolean(buffer: &mut FixedBuffer, value: bool)
 #[inline(always)]
 pub fn push_date(buffer: &mut FixedBuffer, date: Date)
     requires { 9 ≤ room buffer.old }
-    ensures pushed { buffered buffer.new ≡ buffered buffer.old ++ date_form date }
+    ensures pushed { buffered buffer.new ≡ buffered buffer.old ++ scalar_form (trees.Date date) }
 {
     push_marked(buffer, Marker::Date, &date.to_plist_real());
 }
@@ -114,7 +117,7 @@ pub fn push_date(buffer: &mut FixedBuffer, date: Date)
 #[inline(always)]
 pub fn push_real(buffer: &mut FixedBuffer, bits: RealBits)
     requires { 9 ≤ room buffer.old }
-    ensures pushed { buffered buffer.new ≡ buffered buffer.old ++ real_form bits }
+    ensures pushed { buffered buffer.new ≡ buffered buffer.old ++ scalar_form (trees.Real bits) }
 {
     match bits {
         RealBits::Four(digits) => push_marked(buffer, Marker::Real4, &digits),
@@ -126,7 +129,7 @@ pub fn push_real(buffer: &mut FixedBuffer, bits: RealBits)
 #[inline(always)]
 pub fn push_uid(buffer: &mut FixedBuffer, uid: Uid)
     requires { 9 ≤ room buffer.old }
-    ensures pushed { buffered buffer.new ≡ buffered buffer.old ++ uid_form uid }
+    ensures pushed { buffered buffer.new ≡ buffered buffer.old ++ scalar_form (trees.Uid uid) }
 {
     let width = least_width(uid.get());
     let marker = Marker::Uid(UidWidth::new(width));
@@ -137,7 +140,7 @@ pub fn push_uid(buffer: &mut FixedBuffer, uid: Uid)
 fn push_wide_integer(buffer: &mut FixedBuffer, number: u64)
     requires { 17 ≤ room buffer.old }
     ensures pushed { buffered buffer.new ≡ buffered buffer.old
-        ++ marker_and_number 0x14 16 number }
+        ++ 0x14 ∷ bytes_high_first 16 number }
 {
     push_marked_number(buffer, Marker::Integer16, 8, 0);
     buffer.push(&number.to_be_bytes());
@@ -147,7 +150,8 @@ fn push_wide_integer(buffer: &mut FixedBuffer, number: u64)
 #[inline(always)]
 pub fn push_integer(buffer: &mut FixedBuffer, value: Integer)
     requires { 17 ≤ room buffer.old }
-    ensures pushed { buffered buffer.new ≡ buffered buffer.old ++ integer_form value }
+    ensures pushed { buffered buffer.new ≡ buffered buffer.old
+        ++ scalar_form (trees.Integer value) }
 {
     match (value.as_unsigned(), value.as_signed()) {
         (Some(number), Some(_)) => push_unsigned(buffer, number),
@@ -165,7 +169,7 @@ pub fn push_integer(buffer: &mut FixedBuffer, value: Integer)
 fn push_text(buffer: &mut FixedBuffer, text: &str) -> bool
     requires { 17 ≤ room buffer.old }
     ensures pushed { result ≡ true
-        → buffered buffer.new ≡ buffered buffer.old ++ text_form text.now }
+        → buffered buffer.new ≡ buffered buffer.old ++ scalar_form (trees.String text.now) }
     ensures unchanged { result ≡ false → buffer.new ≡ buffer.old }
 {
     if text.len() > buffer.room() - 10 || !is_ascii_text(text) {
@@ -181,7 +185,7 @@ fn push_text(buffer: &mut FixedBuffer, text: &str) -> bool
 fn push_data(buffer: &mut FixedBuffer, bytes: &[u8]) -> bool
     requires { 17 ≤ room buffer.old }
     ensures pushed { result ≡ true
-        → buffered buffer.new ≡ buffered buffer.old ++ data_form bytes.now }
+        → buffered buffer.new ≡ buffered buffer.old ++ scalar_form (trees.Data bytes.now) }
     ensures unchanged { result ≡ false → buffer.new ≡ buffer.old }
 {
     if bytes.len() > buffer.room() - 10 {

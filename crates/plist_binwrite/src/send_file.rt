@@ -1,15 +1,16 @@
 //! Plans and writes the file of a whole property list.
 
-ghost use Rattle.std.specs.Prelude.{◌≡◌, []};
+ghost use Rattle.std.specs.Prelude.{◌≡◌, ℕ, []};
 ghost use Rattle.plist_base.specs.Bracketing.{AreTreeEvents};
-ghost use Rattle.plist_base.specs.Sinks.{IsSameSink, pending};
+ghost use Rattle.plist_base.specs.Sinks.{IsSameSink, Puts, pending};
 ghost use Rattle.plist_base.specs.Writing.{answer_of};
 ghost use Rattle.plist_binwrite.specs.Classes.{files_by};
 ghost use Rattle.plist_binwrite.specs.EventClasses.{IsClassed, class_in, events_in};
 ghost use Rattle.plist_buffer.specs.EventTable.{plain_events};
-ghost use Rattle.plist_binwrite.specs.Sending.{Sends};
+ghost use Rattle.plist_binwrite.specs.Files.{least_files};
 ghost use Rattle.plist_binwrite.specs.SendingAs.{SendsAs};
-ghost use Rattle.plist_binwrite.specs.inner.Layout.{IsFilePlan, SendsPlan, PutsFile};
+ghost use Rattle.plist_binwrite.specs.inner.Layout.{AreObjectsOf, IsFilePlan, file_of};
+ghost use Rattle.plist_format.specs.Object.{Object};
 
 use crate::classes::{Classed, Classes};
 use crate::forms::put_table_and_trailer;
@@ -27,7 +28,8 @@ fn put_file<W: Write>(
     plan: &FilePlan,
 ) -> Result<(), Error>
     requires plan { IsFilePlan given.now plan.now }
-    ensures { PutsFile W.contents sink.old given.now plan.now result sink.new }
+    ensures { (objects : ℕ → Object) → AreObjectsOf given.now plan.now objects
+        → Puts W.contents sink.old (file_of given.now plan.now objects) result sink.new }
 {
     sink.put(b"bplist00")?;
     put_objects(sink, given, plan)?;
@@ -41,10 +43,11 @@ fn send_plan<W: Write>(
     given: &Classed<'_, '_>,
     plan: &FilePlan,
 ) -> Result<(), Error>
+    requires whole { AreTreeEvents (events_in given.now) }
     requires plan { IsFilePlan given.now plan.now }
     requires empty { pending sink.old ≡ [] }
-    ensures sent { SendsPlan W.contents given.now plan.now (answer_of result)
-        sink.old.writer.now sink.new.writer.now }
+    ensures sent { SendsAs (files_by (class_in given.now)) W.contents (events_in given.now)
+        (answer_of result) sink.old.writer.now sink.new.writer.now }
     ensures same { IsSameSink sink.old sink.new }
 {
     put_file(sink, given, plan)?;
@@ -92,7 +95,8 @@ pub fn write_file<W: Write>(
     writer: &mut W,
 ) -> Result<(), Error>
     requires whole { AreTreeEvents (plain_events events.now) }
-    ensures { Sends W.contents (plain_events events.now) (answer_of result) writer.old writer.new }
+    ensures { SendsAs least_files W.contents (plain_events events.now) (answer_of result) writer.old
+        writer.new }
 {
     let given = Classed {
         events,

@@ -3,7 +3,7 @@
 ghost use Rattle.plist_base.specs.Bracketing.{AreTreeEvents};
 ghost use Rattle.plist_base.specs.Writing.{answer_of};
 ghost use Rattle.plist_buffer.specs.EventTable.{plain_events};
-ghost use Rattle.plist_binwrite.specs.Sending.{least_files};
+ghost use Rattle.plist_binwrite.specs.Files.{least_files};
 ghost use Rattle.plist_binwrite.specs.SendingAs.{FileKind, SendsAs};
 
 use crate::send_file;

@@ -1,16 +1,16 @@
 //! Computes the lengths of objects and of the file in bytes, before any byte is written. A length
 //! of 2^64 or more is `None`.
 
-ghost use Rattle.std.specs.Prelude.{◌≡◌, ◌+◌, ◌*◌, ◌≤◌, ◌<◌, ◌^◌, ℕ, length, true, false, IfSome, None, Some};
+ghost use Rattle.std.specs.Prelude.{◌≡◌, ◌+◌, ◌*◌, ◌≤◌, ◌<◌, ◌^◌, ℕ, length, true, false, None};
 ghost use Rattle.plist_base.specs.Events.{ScalarEvent};
+ghost use Rattle.plist_base.specs.Trees as trees;
 ghost use Rattle.plist_base.specs.Trees.{Scalar, Tree};
 ghost use Rattle.plist_buffer.specs.Children.{half_of};
 ghost use Rattle.plist_buffer.specs.EventTable.{plain_events, table_event};
-ghost use Rattle.plist_binwrite.specs.Forms.{IsDateBytes, IsInteger, IsReal, IsText, IsWritableScalar, unsigned_form, integer_form, uid_form, length_form, date_form, real_form, text_form};
+ghost use Rattle.plist_binwrite.specs.Forms.{IsWritableScalar, unsigned_form, length_form, scalar_form};
 ghost use Rattle.plist_buffer.specs.Occurrences.{OccursAt};
-ghost use Rattle.plist_binwrite.specs.Sizes.{IsSizeOrNone, marked_size, object_size, scalar_size, size_with};
+ghost use Rattle.plist_binwrite.specs.Sizes.{IsSizeOrNone, object_size, size_with};
 ghost use Rattle.plist_buffer.specs.StoredScalars.{scalar_of_ref};
-ghost use Rattle.plist_binwrite.specs.inner.Layout.{ExceedsWith, FitsWith};
 
 use crate::text::{count_units, is_ascii_text};
 use crate::widths::{least_width, offset_width};
@@ -50,14 +50,14 @@ fn length_of_count(count: u64) -> u64
 
 // Returns the length of a marker with this count and of the `count` bytes that follow it.
 fn length_of_bytes(count: u64) -> Option<u64>
-    ensures value { (high : ℕ) → IsSizeOrNone result (marked_size high count count) }
+    ensures value { (high : ℕ) → IsSizeOrNone result (length (length_form high count) + count) }
 {
     count.checked_add(length_of_count(count))
 }
 
 fn length_of_text(text: &str) -> Option<u64>
-    ensures value { IsSizeOrNone result (length (text_form text.now)) }
-    ensures writable { IsText text.now }
+    ensures value { IsSizeOrNone result (length (scalar_form (trees.String text.now))) }
+    ensures writable { IsWritableScalar (trees.String text.now) }
 {
     if is_ascii_text(text) {
         return length_of_bytes(text.len() as u64);
@@ -67,15 +67,15 @@ fn length_of_text(text: &str) -> Option<u64>
 }
 
 fn length_of_date(date: Date) -> u64
-    ensures value { result ≡ length (date_form date) }
-    ensures writable { IsDateBytes date }
+    ensures value { result ≡ length (scalar_form (trees.Date date)) }
+    ensures writable { IsWritableScalar (trees.Date date) }
 {
     1 + date.to_plist_real().len() as u64
 }
 
 fn length_of_integer(value: Integer) -> u64
-    ensures value { result ≡ length (integer_form value) }
-    ensures writable { IsInteger value }
+    ensures value { result ≡ length (scalar_form (trees.Integer value)) }
+    ensures writable { IsWritableScalar (trees.Integer value) }
 {
     match (value.as_unsigned(), value.as_signed()) {
         (Some(number), Some(_)) => length_of_unsigned(number),
@@ -85,8 +85,8 @@ fn length_of_integer(value: Integer) -> u64
 }
 
 fn length_of_real(bits: RealBits) -> u64
-    ensures value { result ≡ length (real_form bits) }
-    ensures writable { IsReal bits }
+    ensures value { result ≡ length (scalar_form (trees.Real bits)) }
+    ensures writable { IsWritableScalar (trees.Real bits) }
 {
     match bits {
         RealBits::Four(_) => 5,
@@ -95,15 +95,15 @@ fn length_of_real(bits: RealBits) -> u64
 }
 
 fn length_of_uid(uid: Uid) -> u64
-    ensures value { result ≡ length (uid_form uid) }
-    ensures writable { uid < 2 ^ 64 }
+    ensures value { result ≡ length (scalar_form (trees.Uid uid)) }
+    ensures writable { IsWritableScalar (trees.Uid uid) }
 {
     1 + least_width(uid.get()) as u64
 }
 
 // Returns the length of a scalar's object in bytes, or `None` if it is 2^64 or more.
 fn length_of_scalar(scalar: ScalarRef<'_>) -> Option<u64>
-    ensures value { IsSizeOrNone result (scalar_size (scalar_of_ref scalar.entry)) }
+    ensures value { IsSizeOrNone result (length (scalar_form (scalar_of_ref scalar.entry))) }
     ensures writable { IsWritableScalar (scalar_of_ref scalar.entry) }
 {
     match scalar {
@@ -120,7 +120,8 @@ fn length_of_scalar(scalar: ScalarRef<'_>) -> Option<u64>
 // Returns the length of a collection's object in bytes, or `None` if it is 2^64 or more. The
 // object is a marker with this count, followed by `references` references of `width` bytes each.
 fn length_of_collection(count: u64, references: u64, width: u64) -> Option<u64>
-    ensures value { (high : ℕ) → IsSizeOrNone result (marked_size high count (references * width)) }
+    ensures value { (high : ℕ) → IsSizeOrNone result (length (length_form high count)
+        + references * width) }
 {
     add(Some(length_of_count(count)), references.checked_mul(width))
 }
@@ -166,11 +167,13 @@ fn size_of_file(table: u64, count: u64) -> Option<u64>
     add(add(Some(table), offsets), Some(32))
 }
 
-/// Returns whether a file with `count` objects, whose offset table lies at `table`, has less than
-/// 2^64 bytes. The call allocates no memory.
+/// Returns whether a file with `count` objects, whose offset table lies at `table`, or at 2^64 or
+/// more if that is `None`, has less than 2^64 bytes. The call allocates no memory.
 pub fn has_size(table: Option<u64>, count: u64) -> bool
-    ensures fits { result ≡ true → (place : ℕ) × (table ≡ Some place) × FitsWith place count }
-    ensures oversized { result ≡ false → IfSome table (λ place. ExceedsWith place count) }
+    ensures fits { result ≡ true → (objects : ℕ) → IsSizeOrNone table (8 + objects)
+        → size_with count objects < 2 ^ 64 }
+    ensures oversized { result ≡ false → (objects : ℕ) → IsSizeOrNone table (8 + objects)
+        → 2 ^ 64 ≤ size_with count objects }
 {
     match table {
         Some(place) => size_of_file(place, count).is_some(),

@@ -1,8 +1,9 @@
 //! Puts strings, in ASCII or in UTF-16.
 
-ghost use Rattle.std.specs.Prelude.{◌≡◌, Ok, true, false, length};
+ghost use Rattle.std.specs.Prelude.{◌≡◌, ◌++◌, Ok, true, false, length};
 ghost use Rattle.std.specs.Char.Escape.{encode_utf16};
-ghost use Rattle.plist_binwrite.specs.Forms.{units_of, is_ascii_text, text_form, ascii_form, char_units, text_units, wide_form};
+ghost use Rattle.plist_base.specs.Trees.{String};
+ghost use Rattle.plist_binwrite.specs.Forms.{units_of, is_ascii_text, length_form, scalar_form, table_form};
 ghost use Rattle.plist_base.specs.Sinks.{Puts, PutsBytes, PutsNothing};
 
 use crate::forms::{CountedKind, put_length, put_number, try_put_number};
@@ -11,7 +12,7 @@ use std::io::Write;
 
 // Puts the UTF-16 units of a character, each in two bytes in big-endian order.
 fn put_char<W: Write>(sink: &mut Sink<'_, W>, c: char) -> Result<(), Error>
-    ensures { Puts W.contents sink.old (char_units c) result sink.new }
+    ensures { Puts W.contents sink.old (table_form 2 (encode_utf16 c)) result sink.new }
 {
     let code = u64::from(c as u32);
     if code < 0x1_0000 {
@@ -26,7 +27,8 @@ fn put_char<W: Write>(sink: &mut Sink<'_, W>, c: char) -> Result<(), Error>
 // of the sink. Otherwise puts nothing and returns `false`.
 #[inline(always)]
 fn try_put_char<W: Write>(sink: &mut Sink<'_, W>, c: char) -> bool
-    ensures put { result ≡ true → PutsBytes W.contents sink.old (char_units c) (Ok tt) sink.new }
+    ensures put { result ≡ true → PutsBytes W.contents sink.old (table_form 2 (encode_utf16 c))
+        (Ok tt) sink.new }
     ensures unchanged { result ≡ false → PutsNothing sink.old sink.new }
 {
     let code = u64::from(c as u32);
@@ -37,7 +39,7 @@ fn try_put_char<W: Write>(sink: &mut Sink<'_, W>, c: char) -> bool
 }
 
 fn put_units<W: Write>(sink: &mut Sink<'_, W>, text: &str) -> Result<(), Error>
-    ensures { Puts W.contents sink.old (text_units text.now) result sink.new }
+    ensures { Puts W.contents sink.old (table_form 2 (units_of text.now)) result sink.new }
 {
     for c in text.chars() {
         if !try_put_char(sink, c) {
@@ -78,7 +80,8 @@ pub fn is_ascii_text(text: &str) -> bool
 }
 
 fn put_ascii<W: Write>(sink: &mut Sink<'_, W>, text: &str) -> Result<(), Error>
-    ensures { Puts W.contents sink.old (ascii_form text.now) result sink.new }
+    ensures { Puts W.contents sink.old (length_form 0x5 (length text.now) ++ text.now) result
+        sink.new }
 {
     let count = text.len();
     put_length(sink, CountedKind::Text, count as u64)?;
@@ -86,7 +89,8 @@ fn put_ascii<W: Write>(sink: &mut Sink<'_, W>, text: &str) -> Result<(), Error>
 }
 
 fn put_wide<W: Write>(sink: &mut Sink<'_, W>, text: &str) -> Result<(), Error>
-    ensures { Puts W.contents sink.old (wide_form text.now) result sink.new }
+    ensures { Puts W.contents sink.old (length_form 0x6 (length (units_of text.now))
+        ++ table_form 2 (units_of text.now)) result sink.new }
 {
     let count = count_units(text);
     put_length(sink, CountedKind::WideText, count as u64)?;
@@ -96,7 +100,7 @@ fn put_wide<W: Write>(sink: &mut Sink<'_, W>, text: &str) -> Result<(), Error>
 /// Puts a string: its bytes if all of them are ASCII, and otherwise its UTF-16 units. An error is
 /// that of [`Sink::put`].
 pub fn put_text<W: Write>(sink: &mut Sink<'_, W>, text: &str) -> Result<(), Error>
-    ensures { Puts W.contents sink.old (text_form text.now) result sink.new }
+    ensures { Puts W.contents sink.old (scalar_form (String text.now)) result sink.new }
 {
     if is_ascii_text(text) {
         put_ascii(sink, text)

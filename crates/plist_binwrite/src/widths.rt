@@ -1,8 +1,7 @@
 //! The widths in bytes of a file's integers, references, and offsets in the offset table.
 
 ghost use Rattle.std.specs.Prelude.{◌≡◌, ◌≤◌, ◌<◌, ◌^◌};
-ghost use Rattle.plist_binwrite.specs.Forms.{least_width};
-ghost use Rattle.plist_binwrite.specs.Widths.{reference_width, offset_width};
+ghost use Rattle.plist_binwrite.specs.Forms.{least_width, reference_width};
 
 /// Returns the smallest of the widths 1, 2, 4 and 8 into which a number fits, in bytes.
 #[tactic(auto, using(crate::proofs::LeastWidths::widths))]
@@ -34,7 +33,7 @@ pub fn reference_width(count: u64) -> usize
 /// Returns the width in bytes of an offset in the offset table, if the table lies at the byte
 /// offset `table`.
 pub fn offset_width(table: u64) -> usize
-    ensures value { result ≡ offset_width table }
+    ensures value { result ≡ least_width table }
     ensures range { (1 ≤ result) × (result ≤ 8) }
     ensures holds { table < 256 ^ result }
 {

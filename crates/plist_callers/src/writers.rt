@@ -4,7 +4,7 @@
 ghost use Rattle.std.specs.Prelude.{◌≡◌, IfErr, IfOk, false};
 ghost use Rattle.plist_base.specs.Faults.{error_kind_of, kind_of};
 ghost use Rattle.plist_binwrite.specs.Files.{IsFileOf};
-ghost use Rattle.plist_binwrite.specs.ObjectCounts.{HasObjects};
+ghost use Rattle.plist_binwrite.specs.Sizes.{HasObjects};
 ghost use Rattle.plist_share.specs.SharedFiles.{IsLeastOfAll, IsSharedFileOf, distinct_subtrees};
 ghost use Rattle.plist.specs.ValueTrees.{tree_of};
 ghost use Rattle.plist_callers.specs.ReadBackFaults.{PreventsReadBack};

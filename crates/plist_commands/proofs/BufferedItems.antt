@@ -13,7 +13,8 @@ use Rattle.plist_base.specs.Writing.{Answer}
 use Rattle.plist_format.specs.Unfolding.{items_of_file}
 use Rattle.plist_buffer.specs.RepeatedKeys.{HasKeysOnce}
 use Rattle.plist_buffer.specs.EventBuffers.{TestsWhole}
-use Rattle.plist_binwrite.specs.Sending.{Sends}
+use Rattle.plist_binwrite.specs.SendingAs.{SendsAs}
+use Rattle.plist_binwrite.specs.Files.{least_files}
 use Rattle.plist_reader.specs.declared.format.Format.TheVariants as format
 use Rattle.plist_reader.specs.Formats.{format_of}
 use Rattle.plist_reader.proofs.BinaryItems.{binary-input}
@@ -182,7 +183,7 @@ pub sends_read : (known : Option (List ℕ)) (held : List PlainEvent)
     → HoldsTree (option_map items_of_input known) held
     → {W : Type 0} (contents : W → Option (List ℕ)) (answer : Answer) (old new : W)
     → ((tree : Tree) → AreAlike held (bracketing tree) → HasKeysOnce tree)
-    → Sends contents held answer old new → SendsRead contents known answer old new
+    → SendsAs least_files contents held answer old new → SendsRead contents known answer old new
 sends_read None held ((t, alike), _) contents answer old new once sent =
     (t, tt, sends_tree t held alike contents old new answer sent)
 sends_read (Some bytes) held (_, (t, are, alike)) contents answer old new once sent = (

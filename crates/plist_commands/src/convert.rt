@@ -4,8 +4,9 @@ ghost use Rattle.std.specs.Prelude.{◌≡◌, ℕ, List, Option, IfErr, IfSome,
 ghost use Rattle.std.specs.Option.{option_map};
 ghost use Rattle.plist_base.specs.Bracketing.{AreTreeEvents};
 ghost use Rattle.plist_base.specs.Faults.{offset_of};
+ghost use Rattle.plist_binwrite.specs.Files.{least_files};
+ghost use Rattle.plist_binwrite.specs.SendingAs.{SendsAs};
 ghost use Rattle.plist_buffer.specs.EventBuffers.{buffered_events};
-ghost use Rattle.plist_binwrite.specs.Sending.{Sends};
 ghost use Rattle.plist_reader.specs.Formats.{format_of};
 ghost use Rattle.plist_reader.specs.Reader.{items_of_input};
 ghost use Rattle.plist_commands.specs.Converting.{CollectsItems, Converts, ConvertsSource, HoldsBinary, HoldsOther, HoldsTree, IfOkIs, ReadsSource};
@@ -108,8 +109,8 @@ fn send_events<W: Write>(
     ensures converts { (known : Option (List ℕ))
         → HoldsTree (option_map items_of_input known) (buffered_events pending.now)
         → Converts W.contents known result writer.old writer.new }
-    ensures wrote { IfOkIs result Sent (Sends W.contents (buffered_events pending.now) (Ok tt)
-        writer.old writer.new) }
+    ensures wrote { IfOkIs result Sent (SendsAs least_files W.contents
+        (buffered_events pending.now) (Ok tt) writer.old writer.new) }
     ensures without_offset { IfErr result (λ error. offset_of error ≡ None) }
 {
     let events = pending.events();
@@ -137,7 +138,7 @@ pub fn convert_binary<S: Source, W: Write>(
 ) -> Result<FastPath, Error>
     ensures converts { Converts W.contents (S.known source) result writer.old writer.new }
     ensures answers { ConvertsSource S.known S.failures source result
-        (λ held. Sends W.contents held (Ok tt) writer.old writer.new) }
+        (λ held. SendsAs least_files W.contents held (Ok tt) writer.old writer.new) }
 {
     let mut collector = Collector::new(alloc);
     if !collect_source(alloc, source, &mut collector)? {

@@ -5,16 +5,17 @@ use Rattle.std.proofs.lemmas.Bool.Decides.{eqb_tells}
 use Rattle.std.proofs.lemmas.List.{length-map}
 use Rattle.plist_base.specs.Events.{PlainEvent}
 use Rattle.plist_base.specs.Trees.{Tree}
-use Rattle.plist_binwrite.specs.Classes.{same_class, representatives, count_by, objects_by, size_by, IsFileBy}
+use Rattle.plist_binwrite.specs.Classes.{representatives, count_by, objects_by, size_by, IsFileBy}
 use Rattle.plist_binwrite.specs.Sizes.{total, object_size, size_with}
 use Rattle.plist_buffer.specs.Occurrences.{OccursAt, positions}
-use Rattle.plist_binwrite.specs.Widths.{reference_width}
+use Rattle.plist_binwrite.specs.Forms.{reference_width}
 use Rattle.plist_buffer.proofs.TreePositions.{Stands, positions_stand}
 use Rattle.plist_buffer.proofs.Uniques.{unique_seen}
 use Rattle.plist_share.specs.inner.Nodes.{SeparatesTrees}
 use Rattle.plist_share.specs.SharedFiles.{tree_eq, subtrees, distinct_subtrees, IsSharedFileOf, shared_file_size}
 use Rattle.plist_share.proofs.Least.{least}
 use Rattle.plist_share.proofs.TreeEquality.{tree_same, tree_other}
+use Rattle.plist_binwrite.proofs.ClassObjects.{same_class}
 
 abbrev tree_positions : ℕ × Tree → Tree
 tree_positions a = a.1

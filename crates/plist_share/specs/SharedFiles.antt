@@ -11,10 +11,9 @@ use Rattle.plist_base.specs.Trees.{Tree, Leaf, Array, Dictionary, Trees, NoTrees
 use Rattle.plist_format.specs.Container.{Head, head_of}
 use Rattle.plist_format.specs.Unfolding.{items_of_file}
 use Rattle.plist_buffer.specs.Occurrences.{positions}
-use Rattle.plist_binwrite.specs.ObjectCounts.{HasObjects}
+use Rattle.plist_binwrite.specs.Sizes.{HasObjects, total, object_size, size_with}
 use Rattle.plist_binwrite.specs.SendingAs.{FileKind}
-use Rattle.plist_binwrite.specs.Sizes.{total, object_size, size_with}
-use Rattle.plist_binwrite.specs.Widths.{reference_width}
+use Rattle.plist_binwrite.specs.Forms.{reference_width}
 use Rattle.plist_binwrite.specs.Written.{IsWrittenAs}
 
 -- equality of trees

@@ -1,5 +1,5 @@
 use Rattle.std.proofs.Common.{arith}
-use Rattle.plist_binwrite.specs.Forms.{big_endian}
+use Rattle.std.specs.Int.{bytes_high_first}
 use Rattle.plist_base.proofs.SinkSteps.{puts_after, puts_then, puts_refused, puts_as}
 use Rattle.plist_binwrite.proofs.NumberLists.{one_part, all_parts}
 use Rattle.plist_binwrite.proofs.forms.put_numbers.Goals as goal
@@ -7,7 +7,7 @@ use Rattle.plist_binwrite.proofs.forms.put_numbers.Goals.{then-not-try_put_numbe
 
 pub loop-index-preserved : goal.loop-index-preserved
 loop-index-preserved g c =
-    puts_as (one_part (big_endian c.args.width) c.args.list.now c.loop-index.index
+    puts_as (one_part (bytes_high_first c.args.width) c.args.list.now c.loop-index.index
     (omega (arith, c.loop-index-test.true, c.len-index-end.ensures)))
     (puts_then c.loop-index.invariant (elim c.if-not-try_put_number.branch [
       | then-not-try_put_number+in_ok-put_number w ↦ rw w.sink-is
@@ -19,7 +19,7 @@ loop-index-preserved g c =
 
 pub returns-in_err-put_number : goal.returns-in_err-put_number
 returns-in_err-put_number g c =
-    puts_as (all_parts (big_endian c.args.width) c.args.list.now c.loop-index.index
+    puts_as (all_parts (bytes_high_first c.args.width) c.args.list.now c.loop-index.index
     (omega (arith, c.loop-index-test.true, c.len-index-end.ensures)))
     (puts_refused _ _ _ c.from_residual.ensures.1
     (puts_then c.loop-index.invariant

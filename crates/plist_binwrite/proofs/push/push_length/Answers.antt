@@ -1,6 +1,6 @@
 use Rattle.std.proofs.Common.{◌∙◌, ◌++◌, ap, append_assoc}
 use Rattle.plist_base.specs.Sinks.{buffered}
-use Rattle.plist_binwrite.specs.Forms.{big_endian}
+use Rattle.std.specs.Int.{bytes_high_first}
 use Rattle.plist_binwrite.proofs.NumberForms.{length_short, length_told}
 use Rattle.plist_binwrite.proofs.push.push_length.Goals as goal
 
@@ -15,6 +15,6 @@ returns-clause-pushed c =
     rw (length_told _ c.args.count w c.encode-3.result c.in_default.ensures.long
     c.least_width-width.ensures.value (c.encode-3.ensures ∙ c.number_marker.ensures))
     at (c.push_number.ensures.pushed
-    ∙ ap (λ l. l ++ big_endian w c.args.count)
+    ∙ ap (λ l. l ++ bytes_high_first w c.args.count)
     (rw (c.encode-2.ensures, c.follows.ensures) at c.push-2.ensures.pushed)
     ∙ append_assoc (buffered c.args.buffer.now) _ _)

@@ -1,6 +1,6 @@
 use Rattle.std.proofs.Common.{◌∙◌, ◌++◌, ap, take}
 use Rattle.plist_base.specs.Sinks.{buffered}
-use Rattle.plist_binwrite.specs.Forms.{big_endian}
+use Rattle.std.specs.Int.{bytes_high_first}
 use Rattle.plist_binwrite.proofs.LeastWidths.{front_of_shifted}
 use Rattle.plist_binwrite.proofs.push.push_number.Goals as goal
 
@@ -10,5 +10,5 @@ returns-clause-pushed c =
     let w = c.args.width in
     c.push_first.ensures.pushed
     ∙ ap (λ l. before ++ take w l) c.to_be_bytes.ensures
-    ∙ ap (λ n. before ++ take w (big_endian 8 n)) c.wrapping_shl-shifted.ensures
+    ∙ ap (λ n. before ++ take w (bytes_high_first 8 n)) c.wrapping_shl-shifted.ensures
     ∙ ap (λ l. before ++ l) (front_of_shifted w c.args.number c.requires.width)

@@ -1,6 +1,6 @@
 use Rattle.std.proofs.Common.{◌∙◌, ◌++◌, ◌∷◌, ap, append_assoc, arith, sym}
 use Rattle.plist_base.specs.Sinks.{buffered}
-use Rattle.plist_binwrite.specs.Forms.{big_endian}
+use Rattle.std.specs.Int.{bytes_high_first}
 use Rattle.plist_binwrite.proofs.NumberForms.{wide_is}
 use Rattle.plist_binwrite.proofs.push.push_wide_integer.Goals as goal
 
@@ -11,6 +11,6 @@ returns c =
           ∙ ap (λ l. l ++ c.to_be_bytes.result) c.push_marked_number.ensures.pushed
           ∙ append_assoc (buffered c.args.buffer.now) _ _
           ∙ ap (λ l. buffered c.args.buffer.now ++ 0x14 ∷ l)
-          (ap (λ l. big_endian 8 0 ++ l) c.to_be_bytes.ensures
+          (ap (λ l. bytes_high_first 8 0 ++ l) c.to_be_bytes.ensures
           ∙ sym (wide_is c.args.number (omega (arith, c.ranges.number.fits))));
     }

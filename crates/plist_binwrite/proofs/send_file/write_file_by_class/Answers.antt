@@ -4,13 +4,8 @@ use Rattle.plist_base.specs.Writing.{answer_of}
 use Rattle.plist_binwrite.specs.Classes.{files_by}
 use Rattle.plist_binwrite.specs.EventClasses.{class_in, events_in}
 use Rattle.plist_binwrite.specs.SendingAs.{SendsAs}
-use Rattle.plist_buffer.proofs.Lengthless.{whole_bracketed}
-use Rattle.plist_binwrite.proofs.PlannedFiles.{plan_sends}
 use Rattle.plist_binwrite.proofs.SendingFiles.{sends_nothing}
 use Rattle.plist_binwrite.proofs.send_file.write_file_by_class.Goals as goal
-
-pub plan_file-requires-clause-whole : goal.plan_file-requires-clause-whole
-plan_file-requires-clause-whole g c = whole_bracketed c.args.given.now.events.now c.requires.whole
 
 pub returns : goal.returns
 returns g c =
@@ -18,12 +13,11 @@ returns g c =
     subst (λ w. SendsAs (files_by (class_in given)) g.W.Write.contents (events_in given)
     (answer_of c.send_plan.result) c.args.writer.now w)
     (search rules)
-    (plan_sends g.W.Write.contents given _ _ c.requires.whole c.in_ok-plan.ensures.plan
-    (answer_of c.send_plan.result) (rw c.new-sink.ensures.unwritten at c.send_plan.ensures.sent))
+    (rw c.new-sink.ensures.unwritten at c.send_plan.ensures.sent)
 
 pub returns-in_err-plan : goal.returns-in_err-plan
 returns-in_err-plan g c =
     let p = err_from_is_err_and c.from_residual-in_err-plan.result
     c.from_residual-in_err-plan.ensures.1 in
-    rw (p.1, p.2) (sends_nothing g.W.Write.contents c.args.given.now _ _ _ c.requires.whole
+    rw (p.1, p.2) (sends_nothing g.W.Write.contents c.args.given.now _ _ _
     c.in_err-plan.ensures.refused (search rules))

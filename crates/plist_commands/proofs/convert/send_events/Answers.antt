@@ -2,8 +2,9 @@ use Rattle.std.proofs.Common.{inr, Ok, Err, refl, subst, sym, ◌∙◌, true≢
 use Rattle.std.proofs.lemmas.Result.{err_from_is_err_and}
 use Rattle.plist_base.specs.Faults.{fault_of}
 use Rattle.plist_buffer.specs.EventTable.{plain_events}
-use Rattle.plist_binwrite.specs.Sending.{Sends}
 use Rattle.plist_commands.proofs.BufferedItems.{not_direct, sends_read}
+use Rattle.plist_binwrite.specs.SendingAs.{SendsAs}
+use Rattle.plist_binwrite.specs.Files.{least_files}
 use Rattle.plist_commands.proofs.convert.send_events.Goals as goal
 
 pub returns-then-branch-clause-converts : goal.returns-then-branch-clause-converts
@@ -45,5 +46,5 @@ returns-in_err-write_file-clause-converts g c =
 
 pub returns-clause-wrote : goal.returns-clause-wrote
 returns-clause-wrote g c = λ e.
-    subst (λ events. Sends g.W.Write.contents events (Ok tt) c.args.writer.now c.write_file.new.writer)
+    subst (λ events. SendsAs least_files g.W.Write.contents events (Ok tt) c.args.writer.now c.write_file.new.writer)
     c.events-events.ensures c.in_ok-write_file.ensures

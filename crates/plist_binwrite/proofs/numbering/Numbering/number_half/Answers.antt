@@ -3,9 +3,9 @@ use Rattle.std.specs.List.{AllByRecursion}
 use Rattle.plist_buffer.specs.Children.{half_of, indices_left}
 use Rattle.plist_binwrite.specs.EventClasses.{events_in}
 use Rattle.plist_buffer.specs.EventTable.{HasItem}
-use Rattle.plist_binwrite.specs.inner.Numbering.{stored_number, IsNumbered}
+use Rattle.plist_binwrite.specs.inner.Numbering.{Numbers}
 use Rattle.plist_buffer.proofs.ChildIndices.{are_items}
-use Rattle.plist_binwrite.proofs.NumberingSteps.{keeps_self, keeps_then, still_numbered}
+use Rattle.plist_binwrite.proofs.NumberingSteps.{numbers_both, numbers_none}
 use Rattle.plist_binwrite.proofs.numbering.Numbering.number_half.Goals as goal
 use Rattle.plist_binwrite.proofs.numbering.Numbering.number_half.Goals.{After-into_iter-child-iterator as Begun}
 
@@ -16,8 +16,7 @@ begun c = cc (c.into_iter-child-iterator.ensures.into_iter_gives, c.new-child-it
 pub loop-child-init : goal.loop-child-init
 loop-child-init c = record {
   so_far = c.requires.so_far;
-  keeps = keeps_self;
-  numbered = λ now k all. all;
+  rest = λ now all. all;
   items = subst (AllByRecursion (HasItem _))
       (sym (begun (goal.at.loop-child-init c).After-into_iter-child-iterator))
       (are_items _ c.args.half c.args.index);
@@ -26,21 +25,21 @@ loop-child-init c = record {
 pub loop-child-preserved : goal.loop-child-preserved
 loop-child-preserved c =
     let i = c.loop-child.invariant in
-    let one = c.in_ok-number_one.ensures in
+    let one = c.in_ok-number_one.ensures.numbers in
     let next = c.in-Some.ensures.steps in
     record {
       so_far = one.so_far;
-      keeps = keeps_then i.keeps one.keeps;
-      numbered = λ now k all. i.numbered now (keeps_then one.keeps k)
-          (subst (AllByRecursion (IsNumbered now)) (sym next)
-          (still_numbered k _ one.numbered, all));
+      rest = λ now more. i.rest now
+          (subst (λ all. Numbers c.args.given.now all c.loop-child.self now) (sym next) (numbers_both one more));
       items = (subst (AllByRecursion (HasItem _)) next i.items).1;
     }
 
-pub returns-clause-numbered : goal.returns-clause-numbered
-returns-clause-numbered c =
+pub returns : goal.returns
+returns c =
+    let i = c.loop-child.invariant in
+    let given = c.args.given.now in
     let found = c.loop-child.self in
-    let CompactNumbers = AllByRecursion (IsNumbered (stored_number c.args.given.now found)) in
-    subst CompactNumbers (begun (goal.at.returns-clause-numbered c).After-into_iter-child-iterator)
-    (c.loop-child.invariant.numbered _ keeps_self
-    (subst CompactNumbers (sym c.in-None.ensures.steps.0) tt))
+    subst (λ all. Numbers given all c.args.self.now found)
+    (begun (goal.at.returns c).After-into_iter-child-iterator)
+    (i.rest found (subst (λ all. Numbers given all found found) (sym c.in-None.ensures.steps.0)
+    (numbers_none i.so_far tt)))

@@ -28,5 +28,6 @@ returns c =
       items = rw c.in_ok-order.ensures tt;
       order = rw c.in_ok-order.ensures (order_none _ _ long (all_zero _ _ long
           (λ k h. ap (λ l. get_or l k 0) zeros ∙ get_or-replicate count k 0 0 h)));
-      laid = λ objects d. rw c.in_ok-order.ensures (record { end = refl; laid = tt });
+      end = λ objects d. rw c.in_ok-order.ensures refl;
+      laid = λ objects d. rw c.in_ok-order.ensures tt;
     }

@@ -2,11 +2,12 @@ use Rattle.std.proofs.Common.{◌≡◌, ◌<◌, ℕ, [], ◌∷◌, ◌++◌, 
 use Rattle.std.proofs.lemmas.List.{map-append}
 use Rattle.plist_buffer.specs.EventTable.{scalars_of}
 use Rattle.plist_binwrite.specs.inner.Numbering.{object_number}
-use Rattle.plist_binwrite.specs.inner.Layout.{numbers_in}
+use Rattle.plist_binwrite.specs.inner.Layout.{AreObjectsOf, numbers_in}
 use Rattle.plist_binwrite.proofs.ClassObjects.{numbered}
 use Rattle.plist_buffer.proofs.EntryEvents.{long_shown}
 use Rattle.plist_buffer.proofs.Uniques.{all_both}
-use Rattle.plist_binwrite.proofs.ObjectOffsets.{end_positive, keeps_more, laid_next, marked_more, not_in_order, order_more, sized}
+use Rattle.plist_format.specs.Object.{Object}
+use Rattle.plist_binwrite.proofs.ObjectOffsets.{AreLaidOut, end_positive, keeps_more, laid_next, marked_more, not_in_order, order_more, sized}
 use Rattle.plist_binwrite.proofs.NumberingSteps.{numbers_below}
 use Rattle.plist_binwrite.proofs.TreeObjects.{object_fits}
 use Rattle.plist_binwrite.proofs.plan.FilePlan.place.Goals as goal
@@ -28,7 +29,7 @@ positive : (c : Placed) → 0 < c.place_or_greatest.result
 positive c =
     let of = numbered c.requires.layout.numbered.planned in
     c.place_or_greatest.ensures.positive
-    (end_positive _ of.objects _ _ (c.requires.layout.laid of.objects of.describes).end)
+    (end_positive _ of.objects _ _ (c.requires.layout.end of.objects of.describes))
 
 -- the numbers in the longer order
 pushed : (c : Placed)
@@ -40,8 +41,27 @@ pub returns : goal.returns
 returns c =
     let a = (goal.at.returns c).In_ok-set in
     let old = c.requires.layout in
+    let given = c.args.given.now in
     let planned = old.numbered.planned in
-    let held = c.args.given.now.events.now in
+    let held = given.events.now in
+    let next : (objects : ℕ → Object) → AreObjectsOf given c.args.self.now objects
+    → AreLaidOut c.args.self.now.width objects
+    (map (object_number given c.args.self.now.numbering) c.push.new.self)
+    c.set.new.self c.add-self.result
+    = λ objects d.
+    let fit = sized planned.whole objects d c.args.index c.requires.item _ _
+    c.size_of_object-size.ensures.size
+    (λ t. object_fits _ _ _ _ (numbers_below planned) old.fits
+    (omega (arith, long_shown (scalars_of held) held.entries, held.few)) _
+    c.size_of_object-size.ensures.writable t) in
+    rw (c.in_ok-set.ensures.set, pushed a, c.number-number.ensures)
+    (laid_next c.args.self.now.width objects (numbers_in given c.args.self.now)
+    c.args.self.now.places
+    (number a) _ c.args.self.now.end c.size_of_object-size.result _
+    (omega (arith, below a, old.order.long))
+    (not_in_order (number a) _ old.order (below a) (none a) (positive a)) fit
+    c.place_or_greatest.ensures.value c.add-self.ensures.sum c.add-self.ensures.none
+    (record { end = old.end objects d; laid = old.laid objects d })) in
     record {
       layout = record {
         numbered = old.numbered;
@@ -52,20 +72,8 @@ returns c =
             (all_both _ c.args.self.now.order _ old.items (c.requires.item, tt));
         order = rw (c.in_ok-set.ensures.set, pushed a, c.number-number.ensures)
             (order_more (number a) _ old.order (below a) (none a) (positive a));
-        laid = λ objects d.
-            let fit = sized planned.whole objects d c.args.index c.requires.item _ _
-            c.size_of_object-size.ensures.size
-            (λ t. object_fits _ _ _ _ (numbers_below planned) old.fits
-            (omega (arith, long_shown (scalars_of held) held.entries, held.few)) _
-            c.size_of_object-size.ensures.writable t) in
-            rw (c.in_ok-set.ensures.set, pushed a, c.number-number.ensures)
-            (laid_next c.args.self.now.width objects (numbers_in c.args.given.now c.args.self.now)
-            c.args.self.now.places
-            (number a) _ c.args.self.now.end c.size_of_object-size.result _
-            (omega (arith, below a, old.order.long))
-            (not_in_order (number a) _ old.order (below a) (none a) (positive a)) fit
-            c.place_or_greatest.ensures.value c.add-self.ensures.sum c.add-self.ensures.none
-            (old.laid objects d));
+        end = λ objects d. (next objects d).end;
+        laid = λ objects d. (next objects d).laid;
       };
       keeps = λ p n. rw (c.in_ok-set.ensures.set, c.number-number.ensures)
           (keeps_more (number a) _ old.order (below a) (none a) (positive a) _ n);

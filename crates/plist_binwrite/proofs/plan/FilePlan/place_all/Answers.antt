@@ -17,5 +17,5 @@ returns-clause-all c = λ k h.
     let known = planned.numbered.known k h in
     in_order k layout.order (subst (λ n. get_or c.loop-index.self.places n 0 ≢ 0)
     (known_number planned.numbered k h)
-    (c.loop-index.invariant.1 _ (omega (arith, known.0, c.loop-index-test.false))
-    (known.0, known.2)))
+    (c.loop-index.invariant.1 _ (omega (arith, known.0.0, c.loop-index-test.false))
+    known.0))
