@@ -4,7 +4,7 @@ use Rattle.std.specs.declared.ops.ControlFlow.TheVariants.{Break}
 use Rattle.plist_base.specs.declared.error.Error.{Error}
 use Rattle.plist_base.specs.declared.event.Event.{Event}
 use Rattle.plist_base.specs.Events.{PlainEvent, event_of, IsTextOrDataEvent}
-use Rattle.plist_base.specs.Faults.{OutOfMemory, fault_without_offset, fault_of}
+use Rattle.plist_base.specs.Faults.{fault_of}
 use Rattle.plist_base.specs.Limits.{Admits, Refuses}
 use Rattle.plist_base.specs.Visits.{Flow}
 use Rattle.plist_decode.specs.declared.fault_slot.StepError.{StepError}
@@ -22,11 +22,6 @@ HandsRead (Err error) answer event = answer ≡ Err error
 abbrev pub KeepsEvent : PlainEvent → Flow → FirstEvent → Type 0
 KeepsEvent event flow visitor = (flow ≡ Break tt) × MatchOption visitor.kept
     (IsTextOrDataEvent event) (λ owned. event_of owned ≡ event)
-
--- the item is `OutOfMemory`, without an offset
-abbrev pub IsMemoryItem : {A : Type 0} → Option (Result A Error) → Type 0
-IsMemoryItem item = MatchOption item ⊥ (λ answer. MatchResult answer (λ _. ⊥)
-    (λ error. fault_of error ≡ fault_without_offset OutOfMemory))
 
 module _ {V : Type 0} (step : V → PlainEvent → Flow → V → Type 0) (old new : V) where
   -- the visitor took this event, or is unchanged after an error or if there is no item
