@@ -15,15 +15,14 @@ use Rattle.plist_ascii.specs.Ascii.{is_blank, lead_of, token_by, IfBracket, IsAs
 use Rattle.plist_ascii.specs.declared.input.Input.{Input}
 use Rattle.plist_ascii.specs.declared.reader.AsciiReader.{AsciiReader}
 use Rattle.plist_ascii.specs.AsciiReader.{GivesAscii}
-use Rattle.plist_ascii.specs.TokenPrefixes.{Taken, past_one, run, taken}
-use Rattle.plist_ascii.specs.Texts.{ends_run, quoted, run_end, bare_event, quoted_event, scalar_of_text}
+use Rattle.plist_ascii.specs.TokenPrefixes.{past_one, run, taken}
+use Rattle.plist_ascii.specs.Texts.{ends_run, quoted, bare_event, quoted_event, scalar_of_text}
 use Rattle.plist_ascii.specs.Unread.{IfKnown, stops, unread}
 use Rattle.plist_ascii.specs.inner.Inputs.{hand_of}
 use Rattle.plist_ascii.specs.inner.Parts.{BeginWithText, IsBareFront, IsQuotedFront, LeadsToText}
 use Rattle.plist_ascii.proofs.Items.{IsFirst, going_start, going_blanks, going_event}
 use Rattle.plist_ascii.proofs.UnreadBytes.{ended_hand}
-use Rattle.std.proofs.lemmas.Bool.{eq-eqb}
-use Rattle.plist_ascii.proofs.Quotes.{part_ends, quoted_opens}
+use Rattle.plist_ascii.proofs.Quotes.{part_after, quote_closes}
 use Rattle.plist_ascii.proofs.Texts.{number_is_text, text_gives}
 
 -- a run that ends among the first bytes has the same length in all bytes
@@ -76,11 +75,6 @@ get_drops c zero (d ∷ cs) is =
 get_drops c (suc n) (d ∷ cs) is =
     let h = get_drops c n cs is in (omega (arith, h.0), h.1)
 
--- the closing quote ends the string
-closing : (c : ℕ) (more : List ℕ → Taken (List ℕ)) (xs ys : List ℕ) → xs ≡ c ∷ ys
-    → run_end c more xs ≡ taken 1 (Ok [])
-closing c more xs ys e = rw (e, eq-eqb c c refl) refl
-
 -- the meaning of a quoted string
 quoted_is : (text : List ℕ) → is_utf8 text ≡ true
     → quoted_event text ≡ Ok (Some (ScalarEvent (String text)))
@@ -102,8 +96,8 @@ quoted_begins (c ∷ cs) n count text begins size is utf8 ends = λ more.
     let rest : drop n ys ≡ c ∷ (at.1.0 ++ more) =
     drop-append-le n cs more le ∙ ap (λ l. l ++ more) at.1.1 in
     let closes : quoted c ys ≡ taken (m + 1) (Ok (take m ys ++ [])) =
-    quoted_opens c ys ∙ part_ends c 1 ys (Ok []) (λ k. closing c k (drop m ys) (at.1.0 ++ more)
-    (ap (λ k. drop k ys) same ∙ rest)) (quoted c) in
+    part_after c 1 true ys [] (quote_closes c (drop m ys) (at.1.0 ++ more)
+    (ap (λ k. drop k ys) same ∙ rest)) in
     let all : suc (m + 1) ≡ count = omega arith in
     let text-is : take m ys ++ [] ≡ text =
     append-nil (take m ys) ∙ ap (λ k. take k ys) same ∙ take-append-le n cs more le ∙ sym is in

@@ -5,13 +5,13 @@ use Rattle.plist_ascii.specs.inner.Inputs.{Means, said}
 use Rattle.std.specs.Str.{is_utf8}
 use Rattle.plist_ascii.specs.declared.fault.TokenFault.{TokenFault}
 use Rattle.plist_ascii.specs.declared.fault.TokenFault.TheVariants as fault
-use Rattle.plist_base.specs.Faults.{InvalidUtf8AsciiStream, FaultKind, UnclosedString}
+use Rattle.plist_base.specs.Faults.{InvalidUtf8AsciiStream, FaultKind}
 use Rattle.plist_base.specs.Events.{PlainEvent, ScalarEvent, event_of}
 use Rattle.plist_base.specs.Trees.{Integer, Scalar, String}
 use Rattle.std.specs.Option.{option_map_or}
 use Rattle.std.specs.Result.{result_flatten, result_map_both}
 use Rattle.std.specs.Prelude.{ℤ, SomeIff, ⊤, ◌==◌, encode_utf8, slice_get}
-use Rattle.plist_ascii.specs.Texts.{Token, utf8_or_fault, bare, bare_event, quoted_event, escape_then, run_end, quoted_by, quoted_in, quoted, quoted_token, slash}
+use Rattle.plist_ascii.specs.Texts.{Token, utf8_or_fault, bare, bare_event, quoted_event, prepended, quoted_in, quoted, quoted_token, slash}
 use Rattle.plist_ascii.specs.Ascii.{IsTextEvent, IsTextFault, IsTextToken, lead_of, token_by}
 use lib.Utf8.{low_scalar}
 use Rattle.std.specs.Char.{IsScalar, is_digit}
@@ -136,30 +136,16 @@ with_in : (front : List ℕ) (r : Result (List ℕ) FaultKind) → InText r
 with_in front (Ok more) h = tt
 with_in front (Err fault) h = h
 
-then_in : (n : ℕ) (r : Result (List ℕ) FaultKind) (more : ℕ → Taken (List ℕ)) → InText r
-    → InText (more n).gives → InText (escape_then n r more).gives
-then_in n (Ok text) more h k = with_in text (more n).gives k
-then_in n (Err fault) more h k = h
-
-end_in : (quote : ℕ) (more : List ℕ → Taken (List ℕ)) (xs : List ℕ)
-    → ((ys : List ℕ) → InText (more ys).gives) → InText (run_end quote more xs).gives
-end_in quote more [] h = tt
-end_in quote more (c ∷ xs) h =
-    let t = then_in (escape xs).bytes (escape xs).gives (λ n. more (drop n xs)) (escape_in xs) (h _)
-    in cond_in (c == quote) (taken 0 (Ok []))
-    (escape_then (escape xs).bytes (escape xs).gives (λ n. more (drop n xs))) tt t
-
-part_in : (quote : ℕ) (more : List ℕ → Taken (List ℕ)) (xs : List ℕ)
-    → ((ys : List ℕ) → InText (more ys).gives) → InText (quoted_by quote more xs).gives
-part_in quote more xs h =
-    with_in _ (run_end quote more (drop _ xs)).gives
-    (end_in quote more (drop _ xs) h)
-
 quoted_in_text : (quote fuel : ℕ) (xs : List ℕ) → InText (quoted_in quote fuel xs).gives
 unfolding quoted_in
-quoted_in_text quote zero xs = part_in _ (λ _. taken 0 (Err UnclosedString)) xs (λ ys. tt)
-quoted_in_text quote (suc fuel) xs =
-    part_in quote (quoted_in _ _) xs (λ ys. quoted_in_text quote fuel ys)
+quoted_in_text quote zero xs = tt
+quoted_in_text quote (suc fuel) [] = tt
+quoted_in_text quote (suc fuel) (c ∷ xs) =
+    let e = followed_in xs (escape xs).bytes (escape xs).gives
+    (λ text left. prepended text (quoted_in quote fuel left)) (escape_in xs)
+    (λ text left. with_in text (quoted_in quote fuel left).gives (quoted_in_text quote fuel left)) in
+    let plain = with_in (c ∷ []) (quoted_in quote fuel xs).gives (quoted_in_text quote fuel xs) in
+    cond_in (c == quote) (taken 0 (Ok [])) _ tt (cond_in (c == 92) _ (prepended (c ∷ []) _) e plain)
 
 outcome_wants : (r : Result (List ℕ) FaultKind) → InText r → IsTextToken (result_flatten
     (result_map_both quoted_event (λ fault. fault) r))

@@ -43,11 +43,11 @@ some_same (Some a) P Q h p = h a p
 
 -- a fact about the fault of a part implies each fact about the fault of the whole that follows from
 -- it
-pub some_from : {A : Type 0} (k : Option FaultKind) (P : Result A FaultKind → Type 0)
-    (Q : FaultKind → Type 0) → ((kind : FaultKind) → P (Err kind) → Q kind)
-    → IfSome (option_map (λ kind. Err kind) k) P → IfSome k Q
-some_from None P Q h p = tt
-some_from (Some kind) P Q h p = h kind p
+pub some_err : {A B : Type 0} (k : Option FaultKind) (P : Result A FaultKind → Type 0)
+    (Q : Result B FaultKind → Type 0) → ((kind : FaultKind) → P (Err kind) → Q (Err kind))
+    → IfSome (option_map (λ kind. Err kind) k) P → IfSome (option_map (λ kind. Err kind) k) Q
+some_err None P Q h p = tt
+some_err (Some kind) P Q h p = h kind p
 
 -- the fault of a part is passed on as the fault of the whole
 pub gives_passed : {X A : Type 0} (view : X → A) (front : List ℕ → Taken A) (old : Option (List ℕ))

@@ -1,5 +1,5 @@
 -- Bare strings, quoted strings and comments, and their meaning.
-use Rattle.std.specs.Prelude.{ℕ, zero, suc, ◌+◌, Bool, false, if◌then◌else◌, ◌&&◌, ◌||◌, ◌==◌, List, [], ◌∷◌, ◌++◌, length, take, drop, Option, None, Some, Result, Ok, Err}
+use Rattle.std.specs.Prelude.{ℕ, zero, suc, ◌+◌, Bool, false, if◌then◌else◌, ◌&&◌, ◌||◌, ◌==◌, List, [], ◌∷◌, ◌++◌, length, take, Option, None, Some, Result, Ok, Err}
 use Rattle.std.specs.Option.{option_map, option_map_or}
 use Rattle.std.specs.Result.{result_flatten, result_map_both}
 use Rattle.std.specs.Str.{is_utf8}
@@ -9,7 +9,7 @@ use Rattle.plist_base.specs.Trees.{Scalar, Integer, String}
 use Rattle.plist_base.specs.IntegerText.{integer_of_text}
 use Rattle.plist_ascii.specs.declared.dialect.Dialect.{Dialect}
 use Rattle.plist_ascii.specs.declared.dialect.Dialect.TheVariants as dialect
-use Rattle.plist_ascii.specs.TokenPrefixes.{Taken, is_one_of, past_one, run, taken}
+use Rattle.plist_ascii.specs.TokenPrefixes.{Taken, after_byte, followed, is_one_of, past_one, run, taken}
 use Rattle.plist_ascii.specs.Escapes.{escape}
 
 -- a token: the number of bytes taken, and an event, no event or a fault
@@ -56,34 +56,20 @@ bare stops c rest = taken (run stops rest) (bare_event (c ∷ take (run stops re
 abbrev pub ends_run : ℕ → ℕ → Bool
 ends_run quote c = (c == quote) || (c == 92)
 
--- n bytes are taken, which stand for `front`, and then the rest of the string
-abbrev pub piece_then : ℕ → List ℕ → Taken (List ℕ) → Taken (List ℕ)
-piece_then n front t =
-    taken (n + t.bytes) (result_map_both (λ more. front ++ more) (λ fault. fault) t.gives)
+-- the bytes `front` precede what a string stands for
+abbrev pub prepended : (front : List ℕ) → Taken (List ℕ) → Taken (List ℕ)
+prepended front t =
+    taken t.bytes (result_map_both (λ more. front ++ more) (λ fault. fault) t.gives)
 
--- an escape of n bytes is taken, and then the rest of the string, unless the escape has a fault
-abbrev pub escape_then : ℕ → Result (List ℕ) FaultKind → (ℕ → Taken (List ℕ)) → Taken (List ℕ)
-escape_then n (Ok text) more = piece_then n text (more n)
-escape_then n (Err fault) more = taken n (Err fault)
-
-module _ (quote : ℕ) (more : List ℕ → Taken (List ℕ)) where
-  -- what ends a run: the closing quote, an escape, or the end of the input
-  abbrev pub run_end : List ℕ → Taken (List ℕ)
-  run_end [] = taken 0 (Err UnclosedString)
-  run_end (c ∷ rest) =
-      past_one (if c == quote then taken 0 (Ok [])
-      else escape_then (escape rest).bytes (escape rest).gives (λ n. more (drop n rest)))
-
-  -- the longest run of plain bytes, followed by what ends it
-  abbrev pub quoted_by : List ℕ → Taken (List ℕ)
-  quoted_by bytes =
-      piece_then (run (ends_run quote) bytes) (take (run (ends_run quote) bytes) bytes)
-      (run_end (drop (run (ends_run quote) bytes) bytes))
-
--- runs and escapes alternate; `fuel` is at least the number of escapes
+-- the closing quote, an escape after its backslash, or a byte that stands for itself, and then the
+-- rest of the string; `fuel` is at least the number of bytes
 unfoldable pub quoted_in : (quote fuel : ℕ) → List ℕ → Taken (List ℕ)
-quoted_in quote zero bytes = quoted_by quote (λ _. taken 0 (Err UnclosedString)) bytes
-quoted_in quote (suc fuel) bytes = quoted_by quote (quoted_in quote fuel) bytes
+quoted_in quote zero = λ bytes. taken 0 (Err UnclosedString)
+quoted_in quote (suc fuel) = after_byte (λ c rest.
+    if c == quote then taken 0 (Ok [])
+    else if c == 92 then followed rest (escape rest).bytes (escape rest).gives
+    (λ text left. prepended text (quoted_in quote fuel left))
+    else prepended (c ∷ []) (quoted_in quote fuel rest))
 
 -- the bytes of a quoted string up to its closing quote, or its first fault
 abbrev pub quoted : (quote : ℕ) → List ℕ → Taken (List ℕ)

@@ -1,11 +1,12 @@
 //! Takes quoted strings.
 
-ghost use Rattle.std.specs.Prelude.{◌≡◌, ◌+◌, ◌^◌, ◌<◌, ◌++◌, None, Some, Ok, true, false, IfOk, IfErr, OnOk, vec_items};
+ghost use Rattle.std.specs.Prelude.{◌≡◌, ◌+◌, ◌^◌, ◌<◌, ◌++◌, None, Some, Ok, Err, true, false, IfOk, IfErr, OnOk, vec_items};
+ghost use Rattle.std.specs.Option.{option_map};
 ghost use Rattle.plist_base.specs.Events.{event_of};
-ghost use Rattle.plist_ascii.specs.Texts.{quoted, quoted_by, quoted_token, run_end};
-ghost use Rattle.plist_ascii.specs.inner.Parts.{escaped_bytes, EndsRun, Quotes};
+ghost use Rattle.plist_ascii.specs.Texts.{quoted, quoted_token};
+ghost use Rattle.plist_ascii.specs.inner.Parts.{escaped_bytes, run_end, Quotes};
 ghost use Rattle.plist_ascii.specs.Ascii.{IsTextEvent};
-ghost use Rattle.plist_ascii.specs.inner.Inputs.{CountsFailed, TakesFirst, FailsAfter, GivesBy};
+ghost use Rattle.plist_ascii.specs.inner.Inputs.{CountsFailed, TakesFirst, GivesBy};
 
 use crate::byte_reader::ByteReader;
 use crate::fault::TokenFault;
@@ -36,10 +37,8 @@ impl<R: ByteReader> Input<R> {
     // an escape.
     fn run_end(&mut self, quote: u8) -> Result<Option<Escaped>, TokenFault>
         // Result.
-        ensures value { IfOk result (λ piece. TakesFirst R.remaining
-            (λ xs. EndsRun quote xs piece) self.old self.new) }
-        // Errors.
-        ensures fault { IfErr result (FailsAfter R.remaining (run_end quote) self.old self.new) }
+        ensures answers { GivesBy R.remaining (option_map escaped_bytes) (run_end quote) self.old
+            result self.new }
         // State afterwards.
         ensures rises { OnOk result ((self.old.taken < self.new.taken)
             × (self.old.taken < 2 ^ 64)) }
@@ -59,7 +58,8 @@ impl<R: ByteReader> Input<R> {
         ensures value { IfOk result (λ closed. TakesFirst R.remaining
             (Quotes quote closed text.old text.new) self.old self.new) }
         // Errors.
-        ensures fault { IfErr result (FailsAfter R.remaining (quoted_by quote) self.old self.new) }
+        ensures fault { IfErr result (λ f. GivesBy R.remaining (λ text. text) (quoted quote)
+            self.old (Err f) self.new) }
         // State afterwards.
         ensures rises { OnOk result ((self.old.taken < self.new.taken)
             × (self.old.taken < 2 ^ 64)) }

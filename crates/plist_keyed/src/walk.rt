@@ -84,8 +84,9 @@ impl<'a> Walk<'a> {
     fn enter(&mut self, uid: u64) -> Result<(), Error>
         requires walk { IsWalk self.old }
         requires settled { IsIn uid (settled_in self.old.ends) }
-        ensures entered { OnOk result (StepsGive [] (steps_from (objects_seen self.old.objects.now) uid
-            ++ remaining_steps self.old) (remaining_steps self.new)) }
+        ensures entered { OnOk result (StepsGive []
+            (steps_from (objects_seen self.old.objects.now) uid ++ remaining_steps self.old)
+            (remaining_steps self.new)) }
         ensures memory { OnlyMemory result }
         ensures path { IsWalk self.new }
         ensures archive { KeepsArchive self.old self.new }

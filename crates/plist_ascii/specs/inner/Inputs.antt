@@ -15,7 +15,6 @@ use Rattle.plist_ascii.specs.TokenPrefixes.{Taken, run}
 use Rattle.plist_ascii.specs.Texts.{Token, begins_with}
 use Rattle.plist_ascii.specs.Ascii.{IsTextEvent, IsTextToken}
 use Rattle.plist_ascii.specs.Unread.{IfKnown, RisesIfCounted, stops, unread}
-use Rattle.plist_ascii.specs.inner.Parts.{EndsAt}
 
 -- ---- errors and failures
 
@@ -147,13 +146,6 @@ module _ {R : Type 0} (known : R → Option (List ℕ)) where
   abbrev pub TakesFirst : (P : List ℕ → ℕ → Type 0) → Input R → Input R → Type 0
   TakesFirst P old new = IfKnown (unread known old) (λ xs. (n : ℕ) × P xs n
       × (unread known new ≡ Some (drop n xs)) × (new.taken ≡ old.taken + n))
-
-  -- the fault, if it is one in the bytes, is that of the first bytes, which were taken; `by` is how
-  -- a part of a string is taken
-  abbrev pub FailsAfter : (by : (List ℕ → Taken (List ℕ)) → List ℕ → Taken (List ℕ)) → Input R
-      → Input R → TokenFault → Type 0
-  FailsAfter by old new f = (old.taken ≤ new.taken) × IfSome (kind_in_bytes f) (λ kind.
-      TakesFirst (λ xs n. EndsAt by xs n (Err kind)) old new)
 
   -- what is at the front was taken, and its meaning is the value of the result, mapped by `view`,
   -- or its fault is the error; if a read or an allocation failed, nothing is said about the bytes

@@ -1,6 +1,6 @@
 -- What has been taken of a string: its characters, its escapes, and parts that end with an escape
 -- or the closing quote; and strings that end among the bytes at hand.
-use Rattle.std.specs.Prelude.{◌≡◌, ℕ, ◌+◌, ◌<◌, Bool, not, List, [], ◌∷◌, ◌++◌, length, drop, slice_get, Option, None, Some, Result, Ok, Err, MatchBool, MatchOption, encode_utf8}
+use Rattle.std.specs.Prelude.{◌≡◌, ℕ, ◌+◌, ◌<◌, Bool, if◌then◌else◌, not, ◌==◌, List, [], ◌∷◌, ◌++◌, length, drop, slice_get, Option, None, Some, Result, Ok, Err, MatchOption, encode_utf8}
 use Rattle.std.specs.declared.alloc.Global.{Global}
 use Rattle.std.specs.declared.vec.Vec.{Vec}
 use Rattle.plist_base.specs.Events.{ScalarEvent}
@@ -10,8 +10,9 @@ use Rattle.plist_ascii.specs.declared.token.Lead.TheVariants as lead
 use Rattle.plist_ascii.specs.declared.unescape.Escaped.{Escaped}
 use Rattle.plist_ascii.specs.declared.unescape.Escaped.TheVariants as piece
 use Rattle.plist_ascii.specs.Ascii.{is_blank, lead_of, token_by}
-use Rattle.plist_ascii.specs.TokenPrefixes.{Taken, past_one, run, taken}
-use Rattle.plist_ascii.specs.Texts.{ends_run, piece_then, quoted_by, run_end}
+use Rattle.plist_ascii.specs.TokenPrefixes.{Taken, after_byte, followed, past, past_one, run, taken}
+use Rattle.plist_ascii.specs.Escapes.{escape}
+use Rattle.plist_ascii.specs.Texts.{ends_run, prepended, quoted}
 
 -- the bytes that an escape stands for
 abbrev pub escaped_bytes : Escaped → List ℕ
@@ -23,29 +24,21 @@ abbrev pub IsCharOr : FaultKind → Result (List ℕ) FaultKind → Option ℕ �
 IsCharOr fault outcome char =
     MatchOption char (outcome ≡ Err fault) (λ c. outcome ≡ Ok (encode_utf8 c))
 
--- `by` is how a part of a string is taken, given how the rest of the string is taken
-module _ (by : (List ℕ → Taken (List ℕ)) → List ℕ → Taken (List ℕ)) (bytes : List ℕ) (n : ℕ) where
-  -- the string ends after n bytes, with this outcome
-  abbrev pub EndsAt : Result (List ℕ) FaultKind → Type 0
-  EndsAt outcome = (more : List ℕ → Taken (List ℕ)) → by more bytes ≡ taken n outcome
+-- what follows a run of plain bytes: the closing quote, or an escape, and what it stands for
+abbrev pub run_end : (quote : ℕ) → List ℕ → Taken (Option (List ℕ))
+run_end quote = after_byte (λ c rest. if c == quote then taken 0 (Ok None)
+    else followed rest (escape rest).bytes (escape rest).gives (λ text _. taken 0 (Ok (Some text))))
 
-  -- the first n bytes stand for `part`, and the string continues after them
-  abbrev pub GoesOn : (part : List ℕ) → Type 0
-  GoesOn part =
-      (more : List ℕ → Taken (List ℕ)) → by more bytes ≡ piece_then n part (more (drop n bytes))
+-- the first n bytes of a string stand for `part`; after them it is closed, or continues
+abbrev pub QuotesPart : (quote : ℕ) → (closed : Bool) → (part bytes : List ℕ) → (n : ℕ) → Type 0
+QuotesPart quote closed part bytes n = quoted quote bytes ≡ (if closed then taken n (Ok part)
+    else past n (prepended part (quoted quote (drop n bytes))))
 
--- after a run, n bytes are taken: the closing quote, or an escape that stands for `piece`
-abbrev pub EndsRun : (quote : ℕ) → List ℕ → Option Escaped → ℕ → Type 0
-EndsRun quote bytes None n = EndsAt (run_end quote) bytes n (Ok [])
-EndsRun quote bytes (Some piece) n = GoesOn (run_end quote) bytes n (escaped_bytes piece)
-
--- the first n bytes stand for what was appended to the text; after them the string is closed, or
--- continues
+-- the first n bytes stand for what was appended to the text
 abbrev pub Quotes : (quote : ℕ) → (closed : Bool) → (text longer : Vec ℕ Global) → List ℕ → ℕ
     → Type 0
 Quotes quote closed text longer bytes n =
-    (part : List ℕ) × MatchBool closed (EndsAt (quoted_by quote) bytes n (Ok part))
-    (GoesOn (quoted_by quote) bytes n part) × (longer.items ≡ text.items ++ part)
+    (part : List ℕ) × QuotesPart quote closed part bytes n × (longer.items ≡ text.items ++ part)
 
 -- ---- strings at hand
 

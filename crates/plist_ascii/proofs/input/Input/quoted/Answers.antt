@@ -1,8 +1,9 @@
 use Rattle.std.proofs.Common.{arith, ap, sym, refl, Ok}
+use Rattle.plist_ascii.specs.TokenPrefixes.{taken}
 use Rattle.plist_ascii.specs.Texts.{quoted}
 use Rattle.plist_ascii.specs.inner.Inputs.{kind_in_bytes}
-use Rattle.std.specs.Prelude.{vec_items, Err}
-use Rattle.plist_ascii.proofs.TokenOutcomes.{gives_passed, some_by}
+use Rattle.std.specs.Prelude.{vec_items}
+use Rattle.plist_ascii.proofs.TokenOutcomes.{gives_passed, some_err}
 use Rattle.plist_ascii.proofs.Loops.{since_on}
 use Rattle.plist_ascii.proofs.Quotes.{quoting_more, quoting_ends}
 use Rattle.plist_ascii.proofs.input.Input.quoted.Goals as goal
@@ -30,8 +31,8 @@ returns-in_err-part-clause-answers g c =
     let b = c.in_err-part.ensures.fault in
     gives_passed vec_items (quoted c.args.quote) _ _ _ _ _ _ c.from_residual.ensures.1 (
       omega (arith, c.parts.invariant.rises, b.0),
-      some_by (kind_in_bytes c.in_err-part.field-0.0) _ (λ kind. Err kind) _ (λ kind k xs e.
+      some_err (kind_in_bytes c.in_err-part.field-0.0) _ _ (λ kind k xs e.
           let i = c.parts.invariant.goes xs e in
           let t = k i.0 i.1 in
-          quoting_ends _ _ i.2 t.0 t.3 t.1 refl t.2) b.1,
+          quoting_ends _ _ i.2 _ t.2 (ap (taken (quoted c.args.quote i.0).bytes) t.0) refl t.1) b.1,
     )
