@@ -19,7 +19,7 @@ use Rattle.plist_ascii.specs.AsciiReader.{GivesAsciiItem}
 use Rattle.plist_ascii.specs.Ascii.{items_in, items_of_ascii, token}
 use Rattle.plist_ascii.specs.Escapes.{escape, octal_char}
 use Rattle.plist_ascii.specs.Texts.{quoted_in, bare_event, lax_stops, quoted_event}
-use Rattle.plist_callers.specs.SmallInputs.{comment_and_array, empty_array, five_at_true, five_byte_offsets, minus_one, missing_child, nested_arrays, root_is_second, short_real}
+use Rattle.plist_callers.specs.SmallInputs.{comment_and_array, empty_array, five_at_true, five_byte_offsets, minus_one, missing_child, nested_arrays, root_is_second, four_byte_real}
 
 pub of_root_is_second : items_of_file root_is_second
     ≡ array 2 ∷ scalar (Boolean true) ∷ scalar (Boolean true) ∷ close ∷ []
@@ -52,10 +52,10 @@ pub of_empty_array : items_of_file empty_array ≡ array 0 ∷ close ∷ []
 unfolding worked_files empty_array
 of_empty_array = refl
 
-pub of_short_real : items_of_file short_real
+pub of_four_byte_real : items_of_file four_byte_real
     ≡ scalar (Real (Four (0x3F ∷ 0xC0 ∷ 0 ∷ 0 ∷ []))) ∷ []
-unfolding worked_files short_real
-of_short_real = refl
+unfolding worked_files four_byte_real
+of_four_byte_real = refl
 
 pub of_comment_and_array : items_of_ascii lax_stops (take (2 ^ 64 - 1) comment_and_array) 0
     ≡ Ok (StartArray None) ∷ []

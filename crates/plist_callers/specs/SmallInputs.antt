@@ -31,8 +31,8 @@ unfoldable pub empty_array : List ℕ
 empty_array = file "a009 0809" (trailer 1 1 2 0 10)
 
 -- the real 1.5, of four bytes
-unfoldable pub short_real : List ℕ
-short_real = file "223fc00000 08" (trailer 1 1 1 0 13)
+unfoldable pub four_byte_real : List ℕ
+four_byte_real = file "223fc00000 08" (trailer 1 1 1 0 13)
 
 -- a block comment that contains a star, and then the start of an array
 unfoldable pub comment_and_array : List ℕ

@@ -4,7 +4,7 @@
 ghost use Rattle.std.specs.Prelude.{◌≡◌, IfSome, false, negsuc};
 ghost use Rattle.plist_base.specs.Events.{ScalarEvent, event_of};
 ghost use Rattle.plist_base.specs.Trees.{Integer as PlainInteger};
-ghost use Rattle.plist_callers.specs.SmallInputs.{empty_array, five_at_true, five_byte_offsets, minus_one, missing_child, nested_arrays, root_is_second, short_real};
+ghost use Rattle.plist_callers.specs.SmallInputs.{empty_array, five_at_true, five_byte_offsets, minus_one, missing_child, nested_arrays, root_is_second, four_byte_real};
 
 use plist_base::{ErrorKind, Event, Integer, RealBits};
 use plist_binread::BinaryReader;
@@ -134,9 +134,9 @@ pub fn end_wants_memory(alloc: Global, bytes: &[u8]) -> bool
 }
 
 /// Reads the file of a real of four bytes. Returns whether the reader yields a real of eight bytes.
-#[tactic(auto, using(crate::proofs::SmallInputs::of_short_real))]
+#[tactic(auto, using(crate::proofs::SmallInputs::of_four_byte_real))]
 pub fn widens_reals(alloc: Global, bytes: &[u8]) -> bool
-    requires { bytes.now ≡ short_real }
+    requires { bytes.now ≡ four_byte_real }
     ensures { result ≡ false }
 {
     let mut reader = BinaryReader::new(alloc, bytes);
