@@ -2,15 +2,20 @@
 use Rattle.std.specs.Prelude.{◌≡◌, ℕ, ◌+◌, ◌^◌, ◌<◌, ◌≤◌, Bool, true, false, List, length, take, drop, Option, None, Some, Result, IfSome, MatchResult, OnOk, ⊤}
 use Rattle.plist_base.specs.declared.error.Error.{Error}
 use Rattle.plist_base.specs.Events.{PlainEvent, StartArray, StartDictionary, ScalarEvent}
+use Rattle.plist_base.specs.Sources.{ResultCountsIo}
 use Rattle.plist_format.specs.Object.{Object, Scalar, Array, Dictionary, Faulty}
 use Rattle.plist_decode.specs.CountedContent.{content_means}
 use Rattle.plist_decode.specs.Decoded.{IsDecodedThere, content_size, small_count}
 use Rattle.plist_decode.specs.Decoding.{IsRefusedAs, child_count}
+use Rattle.plist_decode.specs.FaultOffsets.{ErrWithin}
 use Rattle.plist_decode.specs.Packed.{is_packed, is_small_event}
 use Rattle.plist_decode.specs.Reading.{object_at}
+use Rattle.plist_decode.specs.Slot.{result_in}
 use Rattle.plist_decode.specs.declared.decoded.Content.{Content}
 use Rattle.plist_decode.specs.declared.decoded.Decoded.{Decoded}
 use Rattle.plist_decode.specs.declared.decoded.Decoded.TheVariants as decoded
+use Rattle.plist_decode.specs.declared.fault_slot.FaultSlot.{FaultSlot}
+use Rattle.plist_decode.specs.declared.fault_slot.StepError.{StepError}
 use Rattle.plist_decode.specs.declared.head.Bounds.{Bounds}
 
 -- whether the object is faulty, so that it has no event
@@ -37,6 +42,15 @@ abbrev pub SetsEvent : {A : Type 0} → Object → (place : ℕ) → Result A Er
     → Type 0
 SetsEvent object place answer current =
     MatchResult answer (λ _. event_of_object object ≡ Some current) (IsRefusedAs object place)
+
+-- the current event is the first one of the object, and isn't small; or the slot stores an error of
+-- the object, which isn't that of a failed read
+pub record SetsLarge {A : Type 0} (object : Object) (place : ℕ) (answer : Result A StepError)
+    (slot : FaultSlot) (current : PlainEvent) : Type 0 where
+  pub sets : SetsEvent object place (result_in answer slot) current
+  pub large : OnOk answer (is_small_event current ≡ false)
+  pub fault : (end : ℕ) → ErrWithin place end (result_in answer slot)
+  pub failures : (count : ℕ) → ResultCountsIo (result_in answer slot) count count
 
 -- if the content lies within known bytes, the current event is that of its object
 abbrev pub SetsContentAt : {A : Type 0} → (known : Option (List ℕ)) → (place : ℕ) → Content

@@ -1,11 +1,10 @@
 //! Hands decoded objects to a visitor.
 
-ghost use Rattle.std.specs.Prelude.{◌≡◌, ℕ, false, true, OnOk};
-ghost use Rattle.plist_base.specs.Sources.{ResultCountsIo};
+ghost use Rattle.std.specs.Prelude.{◌≡◌, false, true, OnOk};
 ghost use Rattle.plist_format.specs.Object.{date, text, wide_text};
 ghost use Rattle.plist_decode.specs.CountedContent.{AreUnits, content_means, unit_size};
 ghost use Rattle.plist_decode.specs.Decoded.{EndsIn64Bits, FailsInContent, FitsBefore, IsLong, IsLongBytes};
-ghost use Rattle.plist_binread.specs.ObjectEvents.{SetsAsSmall, SetsContentAt, SetsDecoded, SetsEvent, is_refused};
+ghost use Rattle.plist_binread.specs.ObjectEvents.{SetsAsSmall, SetsContentAt, SetsDecoded, SetsLarge, is_refused};
 ghost use Rattle.plist_decode.specs.Decoding.{start_event};
 ghost use Rattle.plist_decode.specs.FaultOffsets.{ErrWithin};
 ghost use Rattle.plist_base.specs.Events.{ScalarEvent};
@@ -65,11 +64,8 @@ fn hand_date<V: EventVisitor>(
     slot: &mut FaultSlot,
     visitor: &mut V,
 ) -> Result<ControlFlow<()>, StepError>
-    ensures handed { Hands V.step visitor.old visitor.new result (λ event.
-        SetsEvent (date (content_bytes content)) place (result_in result slot.new) event
-        × OnOk result (is_small_event event ≡ false)) }
-    ensures fault { (end : ℕ) → ErrWithin place end (result_in result slot.new) }
-    ensures failures { (count : ℕ) → ResultCountsIo (result_in result slot.new) count count }
+    ensures { Hands V.step visitor.old visitor.new result
+        (SetsLarge (date (content_bytes content)) place result slot.new) }
 {
     match Date::from_plist_real(content.to_be_bytes()) {
         Ok(date) => Ok(visitor.date(date)),
@@ -102,11 +98,8 @@ fn hand_text<V: EventVisitor>(
     visitor: &mut V,
 ) -> Result<ControlFlow<()>, StepError>
     requires { IsLongBytes KindText bytes.now }
-    ensures handed { Hands V.step visitor.old visitor.new result (λ event.
-        SetsEvent (text bytes.now) place (result_in result slot.new) event
-        × OnOk result (is_small_event event ≡ false)) }
-    ensures fault { (end : ℕ) → ErrWithin place end (result_in result slot.new) }
-    ensures failures { (count : ℕ) → ResultCountsIo (result_in result slot.new) count count }
+    ensures { Hands V.step visitor.old visitor.new result
+        (SetsLarge (text bytes.now) place result slot.new) }
 {
     match text_in(bytes) {
         Some(text) => Ok(visitor.string(CowStr::Borrowed(text))),
@@ -125,11 +118,8 @@ fn hand_long_wide_text<V: EventVisitor>(
     visitor: &mut V,
 ) -> Result<ControlFlow<()>, StepError>
     requires { AreUnits 2 bytes.now }
-    ensures handed { Hands V.step visitor.old visitor.new result (λ event.
-        SetsEvent (wide_text bytes.now) place (result_in result slot.new) event
-        × OnOk result (is_small_event event ≡ false)) }
-    ensures fault { (end : ℕ) → ErrWithin place end (result_in result slot.new) }
-    ensures failures { (count : ℕ) → ResultCountsIo (result_in result slot.new) count count }
+    ensures { Hands V.step visitor.old visitor.new result
+        (SetsLarge (wide_text bytes.now) place result slot.new) }
 {
     let read = wide_text_event(slot.alloc, bytes, place);
     hand_read(read, slot, visitor)
@@ -149,11 +139,8 @@ fn hand_wide_text<V: EventVisitor>(
     visitor: &mut V,
 ) -> Result<ControlFlow<()>, StepError>
     requires { AreUnits 2 bytes.now }
-    ensures handed { Hands V.step visitor.old visitor.new result (λ event.
-        SetsEvent (wide_text bytes.now) place (result_in result slot.new) event
-        × OnOk result (is_small_event event ≡ false)) }
-    ensures fault { (end : ℕ) → ErrWithin place end (result_in result slot.new) }
-    ensures failures { (count : ℕ) → ResultCountsIo (result_in result slot.new) count count }
+    ensures { Hands V.step visitor.old visitor.new result
+        (SetsLarge (wide_text bytes.now) place result slot.new) }
 {
     if bytes.len() > 2 * MAX_UNITS {
         return hand_long_wide_text(bytes, place, slot, visitor);
@@ -178,11 +165,8 @@ pub fn hand_bytes<V: EventVisitor>(
 ) -> Result<ControlFlow<()>, StepError>
     requires units { AreUnits (unit_size kind) bytes.now }
     requires long { IsLongBytes kind bytes.now }
-    ensures handed { Hands V.step visitor.old visitor.new result (λ event.
-        SetsEvent (content_means kind bytes.now) place (result_in result slot.new) event
-        × OnOk result (is_small_event event ≡ false)) }
-    ensures fault { (end : ℕ) → ErrWithin place end (result_in result slot.new) }
-    ensures failures { (count : ℕ) → ResultCountsIo (result_in result slot.new) count count }
+    ensures { Hands V.step visitor.old visitor.new result
+        (SetsLarge (content_means kind bytes.now) place result slot.new) }
 {
     match kind {
         ContentKind::Data => Ok(visitor.data(CowSlice::Borrowed(bytes))),

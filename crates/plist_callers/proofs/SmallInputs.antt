@@ -19,7 +19,7 @@ use Rattle.plist_ascii.specs.AsciiReader.{GivesAsciiItem}
 use Rattle.plist_ascii.specs.Ascii.{items_in, items_of_ascii, token}
 use Rattle.plist_ascii.specs.Escapes.{escape, octal_char}
 use Rattle.plist_ascii.specs.Texts.{quoted_in, bare_event, lax_stops, quoted_event}
-use Rattle.plist_callers.specs.SmallInputs.{comment_and_array, empty_array, five_at_true, five_byte_offsets, four_byte_real, minus_one, missing_child, nested_arrays, root_is_second}
+use Rattle.plist_callers.specs.SmallInputs.{comment_and_array, empty_array, five_at_true, five_byte_offsets, minus_one, missing_child, nested_arrays, root_is_second, four_byte_real}
 
 pub of_root_is_second : items_of_file root_is_second
     ≡ array 2 ∷ scalar (Boolean true) ∷ scalar (Boolean true) ∷ close ∷ []

@@ -4,7 +4,7 @@
 ghost use Rattle.std.specs.Prelude.{◌≡◌, IfSome, false, negsuc};
 ghost use Rattle.plist_base.specs.Events.{ScalarEvent, event_of};
 ghost use Rattle.plist_base.specs.Trees.{Integer as PlainInteger};
-ghost use Rattle.plist_callers.specs.SmallInputs.{empty_array, five_at_true, five_byte_offsets, four_byte_real, minus_one, missing_child, nested_arrays, root_is_second};
+ghost use Rattle.plist_callers.specs.SmallInputs.{empty_array, five_at_true, five_byte_offsets, minus_one, missing_child, nested_arrays, root_is_second, four_byte_real};
 
 use plist_base::{ErrorKind, Event, Integer, RealBits};
 use plist_binread::BinaryReader;

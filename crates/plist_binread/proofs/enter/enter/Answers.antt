@@ -79,7 +79,7 @@ hand_bytes-requires-clause-long g c =
 pub returns-then-lies_in-clause-fault : goal.returns-then-lies_in-clause-fault
 returns-then-lies_in-clause-fault g c =
     err_within _ c.in-At.place c.args.decoder.now.bounds.trailer 0 c.args.decoder.now.bounds.trailer
-    (c.hand_bytes.ensures.fault c.args.decoder.now.bounds.trailer) (omega arith) (omega arith)
+    (c.hand_bytes.ensures.is.fault c.args.decoder.now.bounds.trailer) (omega arith) (omega arith)
 
 pub returns-then-lies_in-clause-falls : goal.returns-then-lies_in-clause-falls
 returns-then-lies_in-clause-falls g c =
@@ -97,7 +97,7 @@ returns-then-lies_in-clause-handed g c =
     let content : Content
     = record { kind = c.in-Long.kind; start = c.in-Long.start; count = c.in-Long.count } in
     let long = decoded.Long c.in-Long.kind c.in-Long.start c.in-Long.count in
-    let h = c.hand_bytes.ensures.handed in
+    let h = c.hand_bytes.ensures in
     let answer = result_in c.hand_bytes.result c.hand_bytes.new.slot in
     let front = seen_front g at in
     let there = known_decoded _ bounds c.args.walk.now c.args.reference.number c.requires.known
@@ -107,7 +107,7 @@ returns-then-lies_in-clause-handed g c =
     c.decode_front-decoded.ensures.decoded)) in
     let sets = long_sets _ bounds c.in-At.place content answer h.event (long_fits g at).0
     (borrowed_sets _ c.in-At.place content c.in-Some.seen.now answer h.event front.lies
-    (c.lies_in.ensures c.if-lies_in.true) (rw c.bytes_in-bytes.ensures at h.is.0)) in
+    (c.lies_in.ensures c.if-lies_in.true) (rw c.bytes_in-bytes.ensures at h.is.sets)) in
     record {
       event = h.event;
       is = (
@@ -117,7 +117,7 @@ returns-then-lies_in-clause-handed g c =
             (long_opens c.args.reference.number c.in-Long.start c.in-Long.count c.in-Long.kind
             c.args.walk.now c.in_ok-kind.ensures.below (search rules)) sets (always_ok _ answer refl),
         cached_if c.args.reference.number c.hand_bytes.result c.hand_bytes.new.slot h.event long
-            c.args.walk.now.tags.items (large_unlike c.hand_bytes.result long h.event h.is.1)
+            c.args.walk.now.tags.items (large_unlike c.hand_bytes.result long h.event h.is.large)
             (λ no. absurd (cc)),
       );
       taken = h.taken;

@@ -6,22 +6,29 @@ use Rattle.plist_decode.proofs.Contents.{text-utf8, text-not_utf8}
 use Rattle.plist_binread.proofs.ObjectEvents.{large_text}
 use Rattle.plist_binread.proofs.hand.hand_text.Goals as goal
 
-pub returns-in-Some-clause-handed : goal.returns-in-Some-clause-handed
-returns-in-Some-clause-handed g c =
+pub returns-in-Some : goal.returns-in-Some
+returns-in-Some g c =
     let is = ap event_of_object (text-utf8 c.args.bytes.now c.in-Some.ensures.1)
     ∙ ap (λ bytes. Some (ScalarEvent (String bytes))) (sym c.in-Some.ensures.0) in
     record {
       event = ScalarEvent (String c.in-Some.text.now);
-      is = (is, large_text c.args.bytes.now _ c.requires is);
+      is = record {
+        sets = is;
+        large = large_text c.args.bytes.now _ c.requires is;
+        fault = λ end. tt;
+        failures = λ count. refl;
+      };
       taken = c.string.ensures;
     }
 
-pub returns-in-None-clause-handed : goal.returns-in-None-clause-handed
-returns-in-None-clause-handed g c = record {
+pub returns-in-None : goal.returns-in-None
+returns-in-None g c = record {
   event = EndCollection;
-  is = (
-    c.refuse_object.ensures.refused _ (text-not_utf8 c.args.bytes.now c.in-None.ensures),
-    tt,
-  );
+  is = record {
+    sets = c.refuse_object.ensures.refused _ (text-not_utf8 c.args.bytes.now c.in-None.ensures);
+    large = tt;
+    fault = c.refuse_object.ensures.fault;
+    failures = c.refuse_object.ensures.failures;
+  };
   taken = refl;
 }
