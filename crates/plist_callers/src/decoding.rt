@@ -9,7 +9,7 @@ use plist_decode::decoder::Decoder;
 use plist_decode::object::decode_front;
 
 /// Decodes the object at an offset from its first bytes, and returns whether it is small. If so,
-/// the decoder has counted it.
+/// and if the decoder's counter counts, it has counted the object.
 pub fn never_counts<C: DecodeCounter>(decoder: &mut Decoder<C>, place: u64, seen: &[u8]) -> bool
     requires { IsFront decoder.old.bounds place seen.now }
     ensures { result ≡ true → C.counts
