@@ -1,5 +1,6 @@
 -- What is written by a writer of files that took all events of a tree.
 use Rattle.std.proofs.Common.{◌≡◌, ◌⊎◌, inl, inr, ℕ, false, List, [], ◌∷◌, ◌++◌, Ok, refl, sym, ap, ◌∙◌, subst, append_assoc, map}
+use Rattle.std.proofs.iter.Next as it
 use Rattle.std.specs.Io.KnownBytes.{Appends}
 use Rattle.std.specs.declared.io.traits.Write.{Ghosts}
 use Rattle.plist_base.specs.Bracketing.{bracketing, without_length, AreAlike, CanContinue}
@@ -9,7 +10,7 @@ use Rattle.plist_base.specs.Writing.{Answer}
 use Rattle.plist_base.proofs.Grammar.{alike_last, alike_with}
 use Rattle.plist_binwrite.specs.declared.sharing.Sharing.{Ghosts as SharingGhosts}
 use Rattle.plist_binwrite.specs.declared.writer.FileWriter.{FileWriter}
-use Rattle.plist_binwrite.specs.FileWriter.{Completes, Holds, IsWriterStep, open_events, failed_of, sink_of}
+use Rattle.plist_binwrite.specs.FileWriter.{Completes, Holds, IsWriterStep, TakesEvent, open_events, failed_of, sink_of}
 use Rattle.plist.specs.WrittenEvents.{TakesAll}
 
 begins : (tree : Tree) → (event : PlainEvent) × (events : List PlainEvent)
@@ -32,12 +33,17 @@ module _ {W S : Type 0} {g : Ghosts W} {h : SharingGhosts S} (tree : Tree) where
       (file : List ℕ) × h.kind.IsFile tree file
       × Appends (g.contents start) (g.contents (sink_of after)) file
 
+  took : (before after : FileWriter W S g h) (event : PlainEvent) → failed_of before ≡ false
+      → Step before event (Ok tt) after
+      → TakesEvent before event (Ok tt) after
+  took before after event fine step = it.if_no _ _ fine step
+
   sent : (start : W) (done : List PlainEvent) (e : PlainEvent) (events : List PlainEvent)
       (before after : FileWriter W S g h) → bracketing tree ≡ done ++ e ∷ events
       → IsHolding start done before → TakesAll Step before (e ∷ events) after
       → SendsFrom start after
   sent start done e [] before after is (alike, fine, inner) (between, step, ends) =
-      last (step.effect fine)
+      last (took before between e fine step).2
     where
       all : AreAlike (open_events before ++ e ∷ []) (bracketing tree)
       all = alike_with (open_events before) done (e ∷ []) alike ∙ ap (map without_length) (sym is)
@@ -53,11 +59,12 @@ module _ {W S : Type 0} {g : Ghosts W} {h : SharingGhosts S} (tree : Tree) where
       )
       last (inr (unwhole, order, same)) = absurd (unwhole (tree, all))
   sent start done e (d ∷ events) before after is (alike, fine, inner) (between, step, more) =
-      next (step.effect fine) (λ order same. sent start (done ++ e ∷ []) d events between after
+      let t = took before between e fine step in
+      next t.2 (λ order same. sent start (done ++ e ∷ []) d events between after
       (is ∙ sym (append_assoc done (e ∷ []) (d ∷ events))) (
         ap (map without_length) order ∙ alike_last (open_events before) e
             ∙ alike_with (open_events before) done (e ∷ []) alike,
-        (step.order fine).1,
+        t.1,
         same ∙ inner,
       )
       more)

@@ -73,6 +73,7 @@ impl<W: Write, S: Sharing> Sealed for FileWriter<W, S> {}
 
 impl<W: Write, S: Sharing> Writer for FileWriter<W, S> {
     ghost use Rattle.plist_binwrite.specs.FileWriter.{IsWriterStep, open_events, failed_of};
+    ghost use Rattle.plist_binwrite.specs.inner.Laws.{takes_law, takes_failed};
 
     ghost held = { open_events };
 
@@ -104,7 +105,7 @@ impl<W: Write, S: Sharing> Writer for FileWriter<W, S> {
         Ok(())
     }
 
-    ghost law = { λ before event answer after step. step.order };
+    ghost law = { takes_law };
 
-    ghost law_of_failed = { λ before event answer after step. step.failure };
+    ghost law_of_failed = { takes_failed };
 }

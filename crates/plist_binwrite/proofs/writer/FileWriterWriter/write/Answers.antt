@@ -1,9 +1,9 @@
-use Rattle.std.proofs.Common.{inr, rules, refl, sym, ◌∙◌}
+use Rattle.std.proofs.Common.{rules, refl, ◌∙◌}
 use Rattle.std.proofs.lemmas.Result.{err_from_is_err_and}
 use Rattle.plist_base.specs.Events.{event_of}
 use Rattle.plist_base.specs.Faults.{fault_of}
 use Rattle.plist_buffer.specs.EventTable.{plain_events}
-use Rattle.plist_binwrite.proofs.Calls.{takes_event, takes_refused, takes_unsent, same_state}
+use Rattle.plist_binwrite.proofs.Calls.{takes_refused, takes_unsent, same_state}
 use Rattle.plist_binwrite.proofs.writer.FileWriterWriter.write.Goals as goal
 
 pub returns-in-Err-Misplaced : goal.returns-in-Err-Misplaced
@@ -20,9 +20,3 @@ returns-in_err-write_file g c =
     let p = err_from_is_err_and c.from_residual.result c.from_residual.ensures.1 in
     rw (p.1, p.2) (takes_unsent c.args.self.now _ (event_of c.args.event) (search rules) (plain_events c.events.result.now)
     t.0 (c.events.ensures ∙ t.1.0) _ refl c.in_err-write_file.ensures)
-
-pub returns-else-is_whole : goal.returns-else-is_whole
-returns-else-is_whole g c =
-    let t = c.in-Ok.ensures.taken in
-    takes_event c.args.self.now _ (event_of c.args.event) c.if-self.false t.0 c.if-self.false
-    (inr (rw (sym c.is_whole.ensures ∙ c.if-is_whole.false) at t.1.1, t.1.0, refl))
