@@ -2,6 +2,7 @@
 
 ghost use Rattle.std.specs.Prelude.{◌≡◌, ℕ, []};
 ghost use Rattle.plist_base.specs.Bracketing.{AreTreeEvents};
+ghost use Rattle.plist_base.specs.Outcomes.{OnlyDevice};
 ghost use Rattle.plist_base.specs.Sinks.{IsSameSink, Puts, pending};
 ghost use Rattle.plist_base.specs.Writing.{answer_of};
 ghost use Rattle.plist_binwrite.specs.Classes.{files_by};
@@ -48,6 +49,7 @@ fn send_plan<W: Write>(
     requires empty { pending sink.old ≡ [] }
     ensures sent { SendsAs (files_by (class_in given.now)) W.contents (events_in given.now)
         (answer_of result) sink.old.writer.now sink.new.writer.now }
+    ensures device { OnlyDevice result }
     ensures same { IsSameSink sink.old sink.new }
 {
     put_file(sink, given, plan)?;

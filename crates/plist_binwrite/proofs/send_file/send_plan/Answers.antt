@@ -31,3 +31,9 @@ pub returns-in_err-put_file-clause-same : goal.returns-in_err-put_file-clause-sa
 returns-in_err-put_file-clause-same g c =
     let o = numbered c.requires.plan.numbered.planned in
     (c.in_err-put_file.ensures o.objects o.describes).same
+
+pub returns-in_err-put_file-clause-device : goal.returns-in_err-put_file-clause-device
+returns-in_err-put_file-clause-device g c =
+    let p = err_from_is_err_and c.from_residual.result c.from_residual.ensures.1 in
+    let o = numbered c.requires.plan.numbered.planned in
+    rw (p.1, p.2) (c.in_err-put_file.ensures o.objects o.describes).follows.0
