@@ -88,19 +88,9 @@ module _ {R C : Type 0} {g : Ghosts R} {h : CounterGhosts C} where
   abbrev pub objects_in_file : BinaryReader R C g h → ℕ
   objects_in_file reader = length reader.walk.tags.items
 
-  -- the number of the object that is entered next, or `None` if there is none
-  abbrev pub number_to_come : List ℕ → BinaryReader R C g h → Option ℕ
-  number_to_come bytes reader =
-      upcoming_number bytes reader.state reader.decoder.bounds reader.walk.frames
-
   -- an upper bound on the number of items that remain
   abbrev pub binary_steps : BinaryReader R C g h → ℕ
   binary_steps reader = by_state reader.state (walk_steps (2 ^ 64) + 1) (weight_in reader.walk) 0
-
-  -- each list of this reader has at most `count` elements
-  abbrev pub ListsAreWithin : (count : ℕ) → BinaryReader R C g h → Type 0
-  ListsAreWithin count reader = (length reader.walk.tags.items ≤ count)
-      × (length reader.walk.contents.items ≤ count) × (length reader.walk.frames ≤ count)
 
   -- what is true of a reader after each call, whatever the call returned
   pub record KeepsInvariant (old new : BinaryReader R C g h) : Type 0 where
@@ -112,8 +102,11 @@ module _ {R C : Type 0} {g : Ghosts R} {h : CounterGhosts C} where
     pub marked : MarksOpenPath new.walk.tags.items (open_in new.walk)
     -- as many decodings are counted as objects are cached
     pub counted : h.counts → h.count (counter_of new) ≡ cached_in new.walk
-    pub lists : IfSome (g.known (binary_source old))
-        (λ bytes. ListsAreWithin (objects_in_head bytes) new)
+    -- each list has at most as many elements as the file has objects
+    pub lists : IfSome (g.known (binary_source old)) (λ bytes.
+        (length new.walk.tags.items ≤ objects_in_head bytes)
+        × (length new.walk.contents.items ≤ objects_in_head bytes)
+        × (length new.walk.frames ≤ objects_in_head bytes))
 
 module _ {R C : Type 0} {g : Ghosts R} {h : CounterGhosts C} (old : BinaryReader R C g h) where
   -- one call yields an item; `shown` returns the event of a value, `coming` the remaining items
@@ -133,8 +126,9 @@ module _ {R C : Type 0} {g : Ghosts R} {h : CounterGhosts C} (old : BinaryReader
     pub head : IfSome (g.known (binary_source old)) (λ bytes. is_walking new.state ≡ true
         → AreBoundsOf (head_of bytes) new.decoder.bounds
         × (objects_in_file new ≡ objects_in_head bytes))
-    pub cached : IfSome (g.known (binary_source old))
-        (λ bytes. IsCachedIfSmall shown (number_to_come bytes old) item new.walk.tags.items)
+    pub cached : IfSome (g.known (binary_source old)) (λ bytes. IsCachedIfSmall shown
+        (upcoming_number bytes old.state old.decoder.bounds old.walk.frames) item
+        new.walk.tags.items)
     pub leaves : KeepsInvariant old new
     -- after an event, and after an error other than `Io` and `OutOfMemory`, the reader counts as many
     -- objects as the head

@@ -22,10 +22,6 @@ with_innermost outer (Some frame) = outer ++ frame ∷ []
 abbrev pub advanced : Frame → Frame
 advanced frame = frame_of frame.object (frame.next + 1) frame.count
 
--- the last frame was removed, or there was none
-abbrev pub PopsLast : (old : List Frame) → Option Frame → (new : List Frame) → Type 0
-PopsLast old last new = (old ≡ with_innermost new last) × (last ≡ None → new ≡ [])
-
 -- this is the next child of the innermost frame, which is the first in the list, and these are the
 -- frames afterwards
 abbrev pub NextOf : (old : List Frame) → NextChild → (new : List Frame) → Type 0

@@ -5,7 +5,7 @@ use Rattle.plist_base.specs.Events.{PlainEvent, StartArray, StartDictionary, Sca
 use Rattle.plist_base.specs.Sources.{ResultCountsIo}
 use Rattle.plist_format.specs.Object.{Object, Scalar, Array, Dictionary, Faulty}
 use Rattle.plist_decode.specs.CountedContent.{content_means}
-use Rattle.plist_decode.specs.Decoded.{IsDecodedThere, content_size, small_count}
+use Rattle.plist_decode.specs.Decoded.{IsDecodedThere, content_size}
 use Rattle.plist_decode.specs.Decoding.{IsRefusedAs, child_count}
 use Rattle.plist_decode.specs.FaultOffsets.{ErrWithin}
 use Rattle.plist_decode.specs.Packed.{is_packed, is_small_event}
@@ -66,8 +66,3 @@ abbrev pub SetsDecoded : {A : Type 0} → (known : Option (List ℕ)) → Bounds
 SetsDecoded known bounds place decoded answer current = IfSome known (λ bytes.
     bounds.trailer ≤ length bytes → IsDecodedThere bytes bounds place decoded
     → SetsEvent (object_at bounds place bytes) place answer current)
-
--- the current event is that of a small scalar only if the object was decoded as one
-abbrev pub SetsAsSmall : {A E : Type 0} → Decoded → Result A E → (current : PlainEvent) → Type 0
-SetsAsSmall decoded answer current =
-    OnOk answer (is_small_event current ≡ true → small_count decoded ≡ 1)

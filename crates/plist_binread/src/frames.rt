@@ -1,7 +1,7 @@
 //! Stores the open collections compactly.
 
-ghost use Rattle.std.specs.Prelude.{◌≡◌, [], ◌∷◌, ◌++◌, reverse, IfSome, OnOk, OnErr};
-ghost use Rattle.plist_binread.specs.Frames.{NextOf, PopsLast, frame_of, widened};
+ghost use Rattle.std.specs.Prelude.{◌≡◌, [], ◌∷◌, ◌++◌, None, reverse, IfSome, OnOk, OnErr};
+ghost use Rattle.plist_binread.specs.Frames.{NextOf, frame_of, widened, with_innermost};
 
 use std::alloc::{AllocError, Global};
 use std::marker::Model;
@@ -128,7 +128,8 @@ impl Stack {
     }
 
     fn pop(&mut self) -> Option<Frame>
-        ensures { PopsLast self.old result self.new }
+        ensures { (self.old ≡ with_innermost self.new result)
+            × (result ≡ None → self.new ≡ []) }
     {
         match self.wide.pop() {
             None => self.narrow.pop().map(widen),

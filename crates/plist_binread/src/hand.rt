@@ -3,8 +3,8 @@
 ghost use Rattle.std.specs.Prelude.{◌≡◌, false, true, OnOk};
 ghost use Rattle.plist_format.specs.Object.{date, text, wide_text};
 ghost use Rattle.plist_decode.specs.CountedContent.{AreUnits, content_means, unit_size};
-ghost use Rattle.plist_decode.specs.Decoded.{EndsIn64Bits, FailsInContent, FitsBefore, IsLong, IsLongBytes};
-ghost use Rattle.plist_binread.specs.ObjectEvents.{SetsAsSmall, SetsContentAt, SetsDecoded, SetsLarge, is_refused};
+ghost use Rattle.plist_decode.specs.Decoded.{EndsIn64Bits, FailsInContent, FitsBefore, IsLong, IsLongBytes, small_count};
+ghost use Rattle.plist_binread.specs.ObjectEvents.{SetsContentAt, SetsDecoded, SetsLarge, is_refused};
 ghost use Rattle.plist_decode.specs.Decoding.{start_event};
 ghost use Rattle.plist_decode.specs.FaultOffsets.{ErrWithin};
 ghost use Rattle.plist_base.specs.Events.{ScalarEvent};
@@ -227,7 +227,7 @@ pub fn hand_decoded<S: Source, C: DecodeCounter, V: EventVisitor>(
     ensures handed { Hands V.step visitor.old visitor.new result (λ event.
         SetsDecoded (S.known source.old) decoder.old.bounds place decoded
         (result_in result decoder.new.slot) event
-        × SetsAsSmall decoded result event) }
+        × OnOk result (is_small_event event ≡ true → small_count decoded ≡ 1)) }
     ensures found { OnOk result (is_refused decoded ≡ false) }
     // Errors.
     ensures fault { ErrWithin place decoder.old.bounds.trailer (result_in result decoder.new.slot) }
