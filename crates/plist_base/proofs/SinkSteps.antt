@@ -1,15 +1,14 @@
 -- Putting bytes into a sink, one part after the other.
-use Rattle.std.proofs.Common.{◌≡◌, ℕ, List, [], ◌++◌, Option, Result, Ok, Err, refl, sym, ap, ◌∙◌, append_assoc, append-nil}
-use Rattle.std.specs.Result.{IsErrAnd, OnOk}
+use Rattle.std.proofs.Common.{◌≡◌, ℕ, ◌+◌, List, [], ◌++◌, length, arith, length-append, subst, Option, Result, Ok, Err, refl, sym, ap, ◌∙◌, append_assoc, append-nil}
+use Rattle.std.specs.Result.{IsErrAnd}
 use Rattle.std.specs.Io.KnownBytes.{Appends}
 use Rattle.std.proofs.KnownBytes.{Appends-trans, Appends-nil}
 use Rattle.plist_base.specs.declared.error.Error.{Error}
 use Rattle.plist_base.specs.declared.sink.Sink.{Sink}
 use Rattle.plist_base.specs.Faults.{Fault, Io, fault_without_offset, fault_of}
-use Rattle.plist_base.specs.Outcomes.{OnlyDevice}
 use Rattle.plist_base.specs.Writing.{Answer, answer_of}
 use Rattle.plist_base.specs.Prefixes.{AppendsPrefix}
-use Rattle.plist_base.specs.Sinks.{IsSameSink, PutsBytes, PutsNothing, pending, written}
+use Rattle.plist_base.specs.Sinks.{HasPut, IsSameSink, IsSizeOrNone, PutsBytes, PutsNothing, pending, written}
 
 -- ---- lists
 
@@ -33,20 +32,31 @@ same_itself = record { writer = refl; buffer = refl }
 pub same_then : {W : Type 0} {a b c : Sink W} → IsSameSink a b → IsSameSink b c → IsSameSink a c
 same_then p q = record { writer = q.writer ∙ p.writer; buffer = q.buffer ∙ p.buffer }
 
+-- these bytes are counted as written, after those that were before
+abbrev Counts : {W : Type 0} → (a b : Sink W) → (xs : List ℕ) → Type 0
+Counts a b xs = (n : ℕ) → IsSizeOrNone a.sent n → IsSizeOrNone b.sent (n + length xs)
+
 module _ {W : Type 0} {contents : W → Option (List ℕ)} where
   -- no bytes are put
   pub puts_none : {a : Sink W} → PutsBytes contents a [] (Ok tt) a
   puts_none {a} = record {
     same = same_itself;
     follows = ([], Appends-nil (written contents a), append-nil (pending a));
+    counted = λ size put. subst (HasPut a) (omega arith) put;
   }
 
   -- bytes are put, and stay pending
   pub puts_pending : {a b : Sink W} {xs : List ℕ} → IsSameSink a b
-      → b.writer.now ≡ a.writer.now → pending b ≡ pending a ++ xs → PutsBytes contents a xs (Ok tt) b
-  puts_pending {a} same kept grown = record {
+      → b.writer.now ≡ a.writer.now → pending b ≡ pending a ++ xs → b.sent ≡ a.sent
+      → PutsBytes contents a xs (Ok tt) b
+  puts_pending {a} {b} {xs} same kept grown still = record {
     same = same;
     follows = ([], rw kept (Appends-nil (written contents a)), sym grown);
+    counted = λ size put. record {
+      sent = put.sent;
+      counted = rw still put.counted;
+      whole = omega (arith, put.whole, ap length grown, length-append (pending a) xs);
+    };
   }
 
   -- nothing is put, and then bytes are
@@ -55,10 +65,16 @@ module _ {W : Type 0} {contents : W → Option (List ℕ)} where
   puts_after {answer = Ok done} n p = record {
     same = same_then n.same p.same;
     follows = rw (n.writer, n.pending) at p.follows;
+    counted = λ size put. p.counted size (record {
+      sent = put.sent;
+      counted = rw n.sent put.counted;
+      whole = rw n.pending put.whole;
+    });
   }
   puts_after {answer = Err fault} n p = record {
     same = same_then n.same p.same;
     follows = rw (n.writer, n.pending) at p.follows;
+    counted = tt;
   }
 
   -- bytes are put, and then more
@@ -74,6 +90,8 @@ module _ {W : Type 0} {contents : W → Option (List ℕ)} where
       joined (pending a) xs ys p.follows.0 (pending b) q.follows.0 (pending c) p.follows.2
           q.follows.2,
     );
+    counted = λ size put. subst (HasPut c) (omega (arith, length-append xs ys))
+        (q.counted _ (p.counted size put));
   }
   puts_then {a} {b} {c} {xs} {ys} {answer = Err fault} p q = record {
     same = same_then p.same q.same;
@@ -88,6 +106,7 @@ module _ {W : Type 0} {contents : W → Option (List ℕ)} where
             q.follows.1.3,
       ),
     );
+    counted = tt;
   }
 
   -- if putting the first bytes fails, so does putting all
@@ -100,6 +119,7 @@ module _ {W : Type 0} {contents : W → Option (List ℕ)} where
       rw append_assoc at (prefix_more (written contents a) (written contents b) (pending a ++ xs) ys
           p.follows.1),
     );
+    counted = tt;
   }
 
   -- the call fails with the error that `?` passes on
@@ -124,30 +144,49 @@ module _ {W : Type 0} {contents : W → Option (List ℕ)} where
   puts_broken {a} {b} {xs} (Err e) error is same kept io front = rw is (record {
     same = same;
     follows = (io, prefix_more (written contents a) (written contents b) (pending a) xs front);
+    counted = tt;
   })
 
-  -- bytes, or a prefix of them, are written when nothing is pending
-  puts_written : {a b : Sink W} {xs : List ℕ} (answer : Result (Unit {0}) Error) → IsSameSink a b
-      → pending a ≡ [] → pending b ≡ [] → OnOk answer (Appends (written contents a) (written contents b) xs)
-      → OnlyDevice answer → AppendsPrefix (written contents a) (written contents b) xs
-      → PutsBytes contents a xs (answer_of answer) b
-  puts_written {xs = xs} (Ok done) same none still sent io front = record {
+  -- bytes are written when nothing is pending
+  pub puts_written : {a b : Sink W} {xs : List ℕ} → IsSameSink a b
+      → pending a ≡ [] → pending b ≡ [] → Counts a b xs
+      → Appends (written contents a) (written contents b) xs → PutsBytes contents a xs (Ok tt) b
+  puts_written {a} {b} {xs} same none still counts sent = record {
     same = same;
     follows = (xs, sent, rw (none, still) (sym (append-nil xs)));
-  }
-  puts_written (Err error) same none still sent io front = record {
-    same = same;
-    follows = (io, rw none front);
+    counted = λ size put. record {
+      sent = put.sent + length xs;
+      counted = counts put.sent put.counted;
+      whole = omega (arith, put.whole, ap length none, ap length still);
+    };
   }
 
-  -- bytes are written after the pending ones were
-  pub puts_emptied : {a b c : Sink W} {xs : List ℕ} (answer : Result (Unit {0}) Error)
-      → PutsBytes contents a [] (Ok tt) b → pending b ≡ [] → IsSameSink b c → pending c ≡ []
-      → OnOk answer (Appends (written contents b) (written contents c) xs) → OnlyDevice answer
-      → AppendsPrefix (written contents b) (written contents c) xs
-      → PutsBytes contents a xs (answer_of answer) c
-  puts_emptied answer emptied none same still sent io front =
-      puts_then emptied (puts_written answer same none still sent io front)
+  -- the pending bytes are written
+  pub puts_flushed : {a b : Sink W} → IsSameSink a b → pending b ≡ []
+      → Counts a b (pending a) → Appends (written contents a) (written contents b) (pending a)
+      → PutsBytes contents a [] (Ok tt) b
+  puts_flushed {a} {b} same still counts sent = record {
+    same = same;
+    follows = (pending a, sent, rw still refl);
+    counted = λ size put. record {
+      sent = put.sent + length (pending a);
+      counted = counts put.sent put.counted;
+      whole = omega (arith, put.whole, ap length still);
+    };
+  }
+
+  -- the write of bytes fails when nothing is pending
+  pub puts_halted : {a b : Sink W} {xs : List ℕ} (answer : Result (Unit {0}) Error) (error : Error)
+      → IsErrAnd answer (λ e. e ≡ error) → IsSameSink a b → pending a ≡ []
+      → fault_of error ≡ fault_without_offset Io
+      → AppendsPrefix (written contents a) (written contents b) xs
+      → PutsBytes contents a xs (answer_of answer) b
+  puts_halted (Ok done) error is same none io front = absurd is
+  puts_halted {a} {b} {xs} (Err e) error is same none io front = rw is (record {
+    same = same;
+    follows = (io, rw none front);
+    counted = tt;
+  })
 
   -- ---- all that was put since nothing was pending
 

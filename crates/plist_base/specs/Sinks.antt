@@ -1,5 +1,5 @@
 -- The bytes that are put into a sink: some are written to its writer, and the rest is pending.
-use Rattle.std.specs.Prelude.{◌≡◌, ℕ, ◌^◌, ◌-◌, List, ◌++◌, take, Option, Result, Ok, Err}
+use Rattle.std.specs.Prelude.{◌≡◌, ℕ, ◌^◌, ◌+◌, ◌-◌, ◌≤◌, List, ◌++◌, length, take, MatchOption, OnOk, Option, Result, Ok, Err}
 use Rattle.std.specs.Io.KnownBytes.{Appends}
 use Rattle.plist_base.specs.declared.error.Error.{Error}
 use Rattle.plist_base.specs.declared.fixed_buffer.FixedBuffer.{FixedBuffer}
@@ -24,6 +24,16 @@ room buffer = sink_capacity - buffer.used
 abbrev pub pending : {W : Type 0} → Sink W → List ℕ
 pending sink = buffered sink.buffer.now
 
+-- `found` is the size, or `None` only if the size is 2^64 or more
+abbrev pub IsSizeOrNone : Option ℕ → (size : ℕ) → Type 0
+IsSizeOrNone found size = MatchOption found (2 ^ 64 ≤ size) (λ number. number ≡ size)
+
+-- `size` bytes were put since the sink was created: some are written, and the rest is pending
+pub record HasPut {W : Type 0} (sink : Sink W) (size : ℕ) : Type 0 where
+  pub sent : ℕ
+  pub counted : IsSizeOrNone sink.sent sent
+  pub whole : size ≡ sent + length (pending sink)
+
 -- both sinks borrow the same writer and the same buffer
 pub record IsSameSink {W : Type 0} (old new : Sink W) : Type 0 where
   pub writer : new.writer.ghost_name ≡ old.writer.ghost_name
@@ -34,6 +44,7 @@ pub record PutsNothing {W : Type 0} (old new : Sink W) : Type 0 where
   pub same : IsSameSink old new
   pub writer : new.writer.now ≡ old.writer.now
   pub pending : pending new ≡ pending old
+  pub sent : new.sent ≡ old.sent
 
 -- a prefix of `all` was appended to the known bytes, and `rest` is the rest of `all`
 abbrev pub WritesBut : (old new : Option (List ℕ)) → (all rest : List ℕ) → Type 0
@@ -58,6 +69,7 @@ module _ {W : Type 0} (contents : W → Option (List ℕ)) where
     where
       pub same : IsSameSink old new
       pub follows : Follows old bytes answer new
+      pub counted : OnOk answer ((size : ℕ) → HasPut old size → HasPut new (size + length bytes))
 
   -- a call puts these bytes, and returns this result
   abbrev pub Puts : (old : Sink W) → (bytes : List ℕ) → Result (Unit {0}) Error → (new : Sink W)

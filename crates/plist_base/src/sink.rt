@@ -1,10 +1,10 @@
 //! A sink, which writes bytes to a writer through a buffer of fixed size.
 
-ghost use Rattle.std.specs.Prelude.{◌≡◌, ◌++◌, ◌+◌, ◌≤◌, [], Ok, true, false, OnOk, length};
+ghost use Rattle.std.specs.Prelude.{◌≡◌, ◌++◌, ◌+◌, ◌≤◌, ℕ, [], Ok, true, false, OnOk, length};
 ghost use Rattle.std.specs.Io.KnownBytes.{Appends};
 ghost use Rattle.plist_base.specs.Outcomes.{OnlyDevice};
 ghost use Rattle.plist_base.specs.Prefixes.{AppendsPrefix};
-ghost use Rattle.plist_base.specs.Sinks.{IsSameSink, Puts, PutsBytes, PutsNothing, buffered, pending, room, sink_capacity, written};
+ghost use Rattle.plist_base.specs.Sinks.{HasPut, IsSameSink, IsSizeOrNone, Puts, PutsBytes, PutsNothing, buffered, pending, room, sink_capacity, written};
 
 use crate::send::{send, send_and_flush};
 use crate::{Error, FixedBuffer};
@@ -34,6 +34,15 @@ pub struct Sink<'s, W> {
     pub writer: &'s mut W,
     /// The bytes that are pending.
     pub buffer: &'s mut FixedBuffer,
+    // The number of bytes that were written, or `None` if it is 2^64 or more.
+    sent: Option<u64>,
+}
+
+// Returns the sum of two numbers of bytes, or `None` if it is 2^64 or more.
+fn sum(sent: Option<u64>, more: usize) -> Option<u64>
+    ensures { (size : ℕ) → IsSizeOrNone sent size → IsSizeOrNone result (size + more) }
+{
+    sent?.checked_add(more as u64)
 }
 
 // Pushes bytes. Copying a few bytes from a local array avoids a call that copies memory.
@@ -58,8 +67,21 @@ impl<'s, W: Write> Sink<'s, W> {
         ensures buffer { result.buffer.ghost_name ≡ buffer.entry.ghost_name }
         ensures unwritten { result.writer.now ≡ writer.old }
         ensures pending { result.buffer.now ≡ buffer.old }
+        ensures position { HasPut result (length (pending result)) }
     {
-        Sink { writer, buffer }
+        Sink {
+            writer,
+            buffer,
+            sent: Some(0),
+        }
+    }
+
+    /// Returns the number of bytes that were put since the sink was created, including those that
+    /// were pending then, or `None` if it is 2^64 or more.
+    pub fn position(&self) -> Option<u64>
+        ensures { (size : ℕ) → HasPut self.now size → IsSizeOrNone result size }
+    {
+        sum(self.sent, self.buffer.as_slice().len())
     }
 
     /// Returns how many more bytes fit into the buffer.
@@ -93,7 +115,9 @@ impl<'s, W: Write> Sink<'s, W> {
         ensures empty { OnOk result (pending self.new ≡ []) }
         ensures room { OnOk result (room self.new.buffer.now ≡ sink_capacity) }
     {
-        send(self.writer, self.buffer.as_slice())?;
+        let bytes = self.buffer.as_slice();
+        send(self.writer, bytes)?;
+        self.sent = sum(self.sent, bytes.len());
         self.buffer.clear();
         Ok(())
     }
@@ -118,7 +142,9 @@ impl<'s, W: Write> Sink<'s, W> {
         ensures { Puts W.contents self.old bytes.now result self.new }
     {
         self.write_pending()?;
-        send(self.writer, bytes)
+        send(self.writer, bytes)?;
+        self.sent = sum(self.sent, bytes.len());
+        Ok(())
     }
 
     /// Puts bytes after all that were put before.
