@@ -110,7 +110,7 @@ module _ {W : Type 0} {contents : W → Option (List ℕ)} where
   }
 
   -- if putting the first bytes fails, so does putting all
-  puts_front : {a b : Sink W} {xs : List ℕ} {fault : Fault} (ys : List ℕ)
+  pub puts_front : {a b : Sink W} {xs : List ℕ} {fault : Fault} (ys : List ℕ)
       → PutsBytes contents a xs (Err fault) b → PutsBytes contents a (xs ++ ys) (Err fault) b
   puts_front {a} {b} {xs} ys p = record {
     same = p.same;

@@ -1,30 +1,41 @@
 -- Objects that lie back to back: their order, their offsets and their sizes.
-use Rattle.std.proofs.Common.{◌≡◌, ◌≢◌, ◌↔◌, ◌⊎◌, inl, inr, ℕ, ◌+◌, ◌<◌, ◌≤◌, true, false, ◌||◌, eqb, List, [], ◌∷◌, ◌++◌, length, get_or, set, map, refl, ap, sym, ◌∙◌, arith, append_assoc, length-append, Option, Some, None, IfSome, subst}
-use Rattle.std.specs.List.{list_any, AllByRecursion, IsDistinct}
-use Rattle.std.proofs.lemmas.Bool.{eqb-true, eqb-false, or_cases, or_parts, false_from_ne_true, true_from_ne_false, eq-eqb}
+use Rattle.std.proofs.Common.{◌≡◌, ◌≢◌, ◌↔◌, ◌⊎◌, inl, inr, ℕ, ◌+◌, ◌<◌, ◌≤◌, true, false, ◌||◌, eqb, List, [], ◌∷◌, ◌++◌, ◌^◌, zero, suc, length, get_or, set, refl, ap, sym, ◌∙◌, arith, append_assoc, append-nil, length-append, Option, None, Some, Ok, Err, replicate, subst}
+use Rattle.std.specs.List.{list_any, IsDistinct}
+use Rattle.std.specs.Option.{unwrap_or}
+use Rattle.std.specs.Result.{OnOk}
+use Rattle.std.proofs.lemmas.Bool.{eqb-true, eqb-false, or_cases, or_left, or_right, or_parts, false_from_ne_true, true_from_ne_false}
 use Rattle.std.proofs.lemmas.Cmp.{nat_eq_equiv}
 use Rattle.std.proofs.lemmas.Grind.{flat_map-append}
 use Rattle.std.proofs.lemmas.List.Recursion.{or_push}
 use Rattle.std.proofs.lemmas.Map.Keys.{IsDistinct-push}
 use Rattle.std.proofs.lemmas.Bool.Decides.{eqb_tells}
-use Rattle.std.proofs.lemmas.List.{get_or-map, get_or-set_same, get_or-set_other, length-set}
+use Rattle.std.proofs.lemmas.List.{get_or-replicate, get_or-set_same, get_or-set_other, length-replicate, length-set}
 use Rattle.plist_format.specs.Container.{magic}
 use Rattle.plist_format.specs.Object.{Object}
 use Rattle.plist_binwrite.specs.Forms.{form, IsWritable}
-use Rattle.plist_binwrite.specs.Written.{object_table, laid_out, Laid}
-use Rattle.plist_binwrite.specs.inner.Layout.{IsOrder}
-use Rattle.std.proofs.lemmas.List.Folds.{list_any_at}
-use Rattle.plist_base.specs.Events.{PlainEvent}
+use Rattle.plist_binwrite.specs.Written.{file_with, object_table, laid_out, Laid, table_and_trailer}
+use Rattle.plist_base.specs.Faults.{Fault}
+use Rattle.plist_base.specs.Sinks.{HasPut, IsSizeOrNone, PutsBytes}
+use Rattle.plist_base.specs.Writing.{Answer}
+use Rattle.plist_base.specs.declared.sink.Sink.{Sink}
+use Rattle.plist_base.proofs.SinkSteps.{puts_as, puts_front, puts_then}
+use Rattle.plist_binwrite.proofs.ClassObjects.{numbered}
+use Rattle.plist_binwrite.proofs.NumberingSteps.{numbers_below}
+use Rattle.plist_binwrite.specs.EventClasses.{events_in}
+use Rattle.std.proofs.lemmas.Bool.Decides.{leb_tells}
+use Rattle.std.proofs.Math.ListN.{get_or-eq_default}
+use Rattle.plist_binwrite.specs.declared.plan.FilePlan.{FilePlan}
+use Rattle.plist_binwrite.specs.inner.Layout.{AreObjectsOf, ArePut, HasPlace, IsFilePlan, IsLayout, IsOrder, KeepsPlaces, PutsAt, PutsFile, number_in}
+use Rattle.plist_binwrite.specs.inner.ObjectSizes.{total_below}
 use Rattle.plist_base.specs.Trees.{Tree, Leaf, Array, Dictionary}
-use Rattle.plist_buffer.specs.EventTable.{HasItem, IsBracketed}
+use Rattle.plist_buffer.specs.EventTable.{HasItem}
 use Rattle.plist_buffer.specs.Occurrences.{OccursAt}
-use Rattle.plist_binwrite.specs.Numberings.{object_of, Describes}
-use Rattle.plist_binwrite.specs.Sizes.{total, IsSizeOrNone, object_size}
-use Rattle.plist_buffer.proofs.Uniques.{any_has}
+use Rattle.plist_binwrite.specs.Numberings.{object_of}
+use Rattle.plist_binwrite.specs.Sizes.{total, object_size}
 use Rattle.plist_binwrite.proofs.TreeObjects.{occurs_at}
 use Rattle.plist_binwrite.proofs.Reading.{length-keys_of, length-values_of}
 use Rattle.plist_binwrite.proofs.ReadingNumbers.{length-table}
-use Rattle.plist_binwrite.proofs.Totals.{total_below, total_all}
+use Rattle.plist_binwrite.proofs.Totals.{total_all, total_some}
 use Rattle.plist_binwrite.proofs.Unfold.{length-references, length-pairs}
 
 -- each number below a count is in the order, once
@@ -155,19 +166,19 @@ module _ {count : ℕ} {order marks : List ℕ} (k v : ℕ) (o : IsOrder count o
   -- no mark is removed
   pub keeps_more : (q : ℕ) → get_or marks q 0 ≢ 0 → get_or (set marks k v) q 0 ≢ 0
   keeps_more q n = elim (eqb_tells q k) [
-    | inl s ↦ λ zero. absurd (omega (
+    | inl s ↦ λ none. absurd (omega (
       arith,
       here,
       positive,
-      zero,
+      none,
       ap (λ j. get_or (set marks k v) j 0)
           (sym s.1),
     ))
-    | inr d ↦ λ zero. n (cc (get_or-set_other marks k q v 0 d.1))
+    | inr d ↦ λ none. n (cc (get_or-set_other marks k q v 0 d.1))
   ]
 
   pub marked_more : get_or (set marks k v) k 0 ≢ 0
-  marked_more zero = absurd (omega (arith, here, positive, zero))
+  marked_more none = absurd (omega (arith, here, positive, none))
 
   pub order_more : IsOrder count (order ++ k ∷ []) (set marks k v)
   order_more = record {
@@ -176,7 +187,7 @@ module _ {count : ℕ} {order marks : List ℕ} (k v : ℕ) (o : IsOrder count o
     below = λ q any. elim (split q any) [ inl t ↦ o.below q t | inr s ↦ omega (arith, s, h) ];
     marked = λ q any. elim (split q any) [
       | inl t ↦ keeps_more q (o.marked q t)
-      | inr s ↦ λ zero. marked_more (ap (λ j. get_or (set marks k v) j 0) (sym s) ∙ zero)
+      | inr s ↦ λ none. marked_more (ap (λ j. get_or (set marks k v) j 0) (sym s) ∙ none)
     ];
     others = λ q any.
         let n = or_parts _ _ (sym (any_snoc q order k) ∙ any) in
@@ -218,92 +229,265 @@ form_size w num (Array ts) p = simp (length-append, length-table, length-referen
 form_size w num (Dictionary ms) p =
     simp (length-append, length-table, length-keys_of, length-values_of, length-pairs)
 
--- ---- an offset in an order
+-- the objects in a longer order
+laid_more : (w : ℕ) (objects : ℕ → Object) (order more : List ℕ)
+    → laid_out w objects (order ++ more) ≡ laid_out w objects order ++ object_table w objects more
+laid_more w objects order more =
+    ap (λ l. magic ++ l) (flat_map-append (λ k. form w (objects k)) order more)
+    ∙ sym (append_assoc magic (object_table w objects order) (object_table w objects more))
 
-pub any_at : (xs : List ℕ) (i : ℕ) → i < length xs → list_any (eqb (get_or xs i 0)) xs ≡ true
-any_at xs i h = list_any_at _ xs i 0 h (eq-eqb _ _ refl)
+laid_one : (w : ℕ) (objects : ℕ → Object) (order : List ℕ) (k : ℕ)
+    → laid_out w objects (order ++ k ∷ []) ≡ laid_out w objects order ++ form w (objects k)
+laid_one w objects order k =
+    laid_more w objects order (k ∷ [])
+    ∙ ap (λ l. laid_out w objects order ++ l) (append-nil (form w (objects k)))
 
--- ---- one more offset
+-- a list of zeros has 0 at each index
+all_zero : (xs : List ℕ) (n : ℕ) → length xs ≡ n → ((k : ℕ) → k < n → get_or xs k 0 ≡ 0) → (k : ℕ)
+    → get_or xs k 0 ≡ 0
+all_zero xs n e h k =
+    elim (leb_tells n k) [ inl a ↦ get_or-eq_default xs 0 (omega arith) | inr b ↦ h k b.1 ]
 
--- the next offset is positive
-pub end_positive : (w : ℕ) (objects : ℕ → Object) (order : List ℕ) (end : Option ℕ)
-    → IsSizeOrNone end (length (laid_out w objects order)) → IfSome end (λ n. 0 < n)
-end_positive w objects order None is = tt
-end_positive w objects order (Some n) is =
-    omega (arith, is, length-magic (object_table w objects order))
+-- ---- the objects of a planned file
 
--- the objects in this order have these offsets, and `found` is the offset after them, or `None` only
--- if that is 2^64 or more
-pub record AreLaidOut (width : ℕ) (objects : ℕ → Object) (order places : List ℕ)
-    (found : Option ℕ) : Type 0 where
-  pub end : IsSizeOrNone found (length (laid_out width objects order))
-  pub laid : IfSome found (λ _. Laid width objects places order 8)
+module _ {plan : FilePlan} (r : IsFilePlan plan) (objects : ℕ → Object)
+    (d : AreObjectsOf plan objects) where
+  abbrev count : ℕ
+  count = plan.numbering.count
 
-pub laid_next : (w : ℕ) (objects : ℕ → Object) (order places : List ℕ) (k v : ℕ)
-    (end size next : Option ℕ) → k < length places → list_any (eqb k) order ≡ false
-    → IsSizeOrNone size (length (form w (objects k))) × IsWritable w (objects k)
-    → IfSome end (λ n. v ≡ n)
-    → ((a b : ℕ) → IsSizeOrNone end a → IsSizeOrNone size b → IsSizeOrNone next (a + b))
-    → (end ≡ None → next ≡ None) → AreLaidOut w objects order places end
-    → AreLaidOut w objects (order ++ k ∷ []) (set places k v) next
-laid_next w objects order places k v end size next below new good is sum none laid = record {
-  end = subst (IsSizeOrNone next) more (sum _ _ laid.end good.0);
-  laid = by end next is none laid.end laid.laid;
+  abbrev body : List ℕ → List ℕ
+  body order = object_table plan.width objects order
+
+  -- an offset is less than 2^64
+  pub laid_below : {order places : List ℕ} → IsOrder count order places
+      → length (laid_out plan.width objects order) < 2 ^ 64
+  laid_below {order} o =
+      omega (
+        arith,
+        length-magic (body order),
+        length-bodies plan.width objects order,
+        total_some (λ k. length (form plan.width (objects k))) count order o.distinct o.below,
+        r.few objects d,
+      )
+
+  -- one more object is put
+  module _ {order places : List ℕ} (l : IsLayout plan objects order places) (k v : ℕ)
+      (h : k < count) (z : get_or places k 0 ≡ 0)
+      (is : v ≡ length (laid_out plan.width objects order)) where
+    positive : 0 < v
+    positive = omega (arith, is, length-magic (body order))
+
+    pub next_layout : IsLayout plan objects (order ++ k ∷ []) (set places k v)
+    next_layout = record {
+      ordered = order_more k v l.ordered h z positive;
+      laid = laid_snoc plan.width objects places order 8 k v (omega (arith, h, l.ordered.long))
+          (not_in_order k v l.ordered h z positive) (r.writable objects d k h)
+          (is ∙ length-magic (body order)) l.laid;
+    }
+
+    pub next_kept : KeepsPlaces plan places (set places k v)
+    next_kept = keeps_more k v l.ordered h z positive
+
+    pub next_placed : get_or (set places k v) k 0 ≢ 0
+    next_placed = marked_more k v l.ordered h z positive
+
+  -- a layout of all objects that goes on from a layout of some of them
+  pub record Continues (order : List ℕ) (n : ℕ) : Type 0 where
+    pub more : List ℕ
+    pub places : List ℕ
+    pub layout : IsLayout plan objects (order ++ more) places
+    pub all : (k : ℕ) → k < n → list_any (eqb k) (order ++ more) ≡ true
+
+  in_more : (order more : List ℕ) (k : ℕ) → list_any (eqb k) order ≡ true
+      → list_any (eqb k) (order ++ more) ≡ true
+  in_more [] more k any = cc
+  in_more (x ∷ order) more k any =
+      let rest = list_any (eqb k) (order ++ more) in
+      elim (or_cases (eqb k x) (list_any (eqb k) order) any) [
+        | inl t ↦ or_left (eqb k x) rest t
+        | inr t ↦ or_right (eqb k x) rest (in_more order more k t)
+      ]
+
+  pub continued : {order places : List ℕ} → IsLayout plan objects order places → (n : ℕ)
+      → n ≤ count → Continues order n
+  continued {order} {places} l zero h = record {
+    more = [];
+    places = places;
+    layout = rw append-nil l;
+    all = λ k low. absurd (omega (arith, low));
+  }
+  continued {order} l (suc n) h =
+      let c = continued l n (omega (arith, h)) in
+      elim (eqb_tells (get_or c.places n 0) 0) [
+        | inl free ↦
+            let next = next_layout c.layout n _ (omega (arith, h)) free.1 refl in
+            let is = append_assoc order c.more (n ∷ []) in
+            let places = set c.places n (length (laid_out plan.width objects (order ++ c.more))) in
+            record {
+              more = c.more ++ n ∷ [];
+              places = places;
+              layout = subst (λ order. IsLayout plan objects order places) is next;
+              all = λ k low. subst (λ order. list_any (eqb k) order ≡ true) is (elim (eqb_tells k n) [
+                | inl same ↦ any_snoc k (order ++ c.more) n ∙ or_right (list_any (eqb k) (order ++ c.more)) (eqb k n) same.0
+                | inr other ↦ in_more _ _ k (c.all k (omega (arith, low, other.1)))
+              ]);
+            }
+        | inr some ↦ record {
+          more = c.more;
+          places = c.places;
+          layout = c.layout;
+          all = λ k low. elim (eqb_tells k n) [
+            | inl same ↦ in_order k c.layout.ordered (λ none. some.1 (ap (λ j. get_or c.places j 0) (sym same.1) ∙ none))
+            | inr other ↦ c.all k (omega (arith, low, other.1))
+          ];
+        }
+      ]
+
+-- ---- putting objects
+
+module _ {plan : FilePlan} (r : IsFilePlan plan) {W : Type 0} {contents : W → Option (List ℕ)}
+    {start : Sink W} where
+  -- nothing but the magic is put
+  pub start_put : {places : List ℕ} {answer : Answer} {sink : Sink W}
+      → places ≡ replicate plan.numbering.count 0 → PutsBytes contents start magic answer sink
+      → ArePut plan contents start places answer sink
+  start_put {places} zeros put =
+      let of = numbered r.numbered.planned in
+      let count = plan.numbering.count in
+      let long : length places ≡ count = ap length zeros ∙ length-replicate count 0 in
+      record {
+        objects = of.objects;
+        described = of.describes;
+        order = [];
+        layout = record {
+          ordered = order_none count places long (all_zero places count long
+              (λ k h. ap (λ l. get_or l k 0) zeros ∙ get_or-replicate count k 0 0 h));
+          laid = tt;
+        };
+        put = puts_as (sym (append-nil magic)) put;
+      }
+
+  -- a file goes on with objects that weren't put before a write failed
+  pub part_put : {places : List ℕ} {fault : Fault} {sink : Sink W}
+      → ArePut plan contents start places (Err fault) sink
+      → PutsFile plan contents start (Err fault) sink
+  part_put a =
+      let c = continued r a.objects a.described a.layout plan.numbering.count (omega arith) in
+      let w = plan.width in
+      record {
+        objects = a.objects;
+        described = a.described;
+        order = a.order ++ c.more;
+        places = c.places;
+        layout = c.layout;
+        all = c.all;
+        put = puts_as (sym (goes_on w a.objects c.places a.order c.more)) (puts_front _ a.put);
+      }
+    where
+      goes_on : (w : ℕ) (objects : ℕ → Object) (places order more : List ℕ)
+          → file_with w objects places (order ++ more) ≡ laid_out w objects order
+          ++ (object_table w objects more
+          ++ table_and_trailer places (length (laid_out w objects (order ++ more))))
+      goes_on w objects places order more =
+          let rest = table_and_trailer places (length (laid_out w objects (order ++ more))) in
+          ap (λ l. l ++ rest) (laid_more w objects order more)
+          ∙ append_assoc (laid_out w objects order) (object_table w objects more) rest
+
+  module _ {places : List ℕ} {sink : Sink W} (a : ArePut plan contents start places (Ok tt) sink)
+      (none : HasPut start 0) where
+    -- so many bytes were put
+    pub position_is : (v : ℕ) → ((n : ℕ) → HasPut sink n → n < 2 ^ 64 → v ≡ n)
+        → v ≡ length (laid_out plan.width a.objects a.order)
+    position_is v is =
+        is _ (subst (HasPut sink) (omega arith) (a.put.counted 0 none))
+        (laid_below r a.objects a.described a.layout.ordered)
+
+    -- the offset table and the trailer follow all objects
+    pub all_put : ((k : ℕ) → k < plan.numbering.count → get_or places k 0 ≢ 0) → (v : ℕ)
+        → ((n : ℕ) → HasPut sink n → n < 2 ^ 64 → v ≡ n) → (answer : Answer) (new : Sink W)
+        → PutsBytes contents sink (table_and_trailer places v) answer new
+        → PutsFile plan contents start answer new
+    all_put all v is answer new put = record {
+      objects = a.objects;
+      described = a.described;
+      order = a.order;
+      places = places;
+      layout = a.layout;
+      all = λ k h. in_order k a.layout.ordered (all k h);
+      put = puts_then a.put (rw (position_is v is) at put);
+    }
+
+    module _ (p : ℕ) (item : HasItem (events_in plan.given) p)
+        (free : get_or places (number_in plan p) 0 ≡ 0) (v : ℕ)
+        (is : (n : ℕ) → HasPut sink n → n < 2 ^ 64 → v ≡ n) where
+      abbrev k : ℕ
+      k = number_in plan p
+
+      below : k < plan.numbering.count
+      below = numbers_below r.numbered.planned p item.0 item.1
+
+      -- the object of one more event is put
+      pub put_next : {answer : Answer} {new : Sink W}
+          → ((t : Tree) → OccursAt (events_in plan.given) t p
+          → PutsBytes contents sink (form plan.width (object_of (number_in plan) t p)) answer new)
+          → ArePut plan contents start (set places k v) answer new
+      put_next put =
+          let u = occurs_at (events_in plan.given) r.numbered.planned.whole p item.0 item.1 in
+          record {
+            objects = a.objects;
+            described = a.described;
+            order = a.order ++ k ∷ [];
+            layout = next_layout r a.objects a.described a.layout k v below free (position_is v is);
+            put = puts_as (sym (laid_one plan.width a.objects a.order k))
+                (puts_then a.put (rw (← a.described u.0 p u.1) at (put u.0 u.1)));
+          }
+
+      pub put_kept : KeepsPlaces plan places (set places k v)
+      put_kept = next_kept r a.objects a.described a.layout k v below free (position_is v is)
+
+      pub put_placed : HasPlace plan (set places k v) p
+      put_placed = next_placed r a.objects a.described a.layout k v below free (position_is v is)
+
+-- a fact holds on success
+on_ok : {A : Type 0} (answer : Answer) → A → OnOk answer A
+on_ok (Ok done) a = a
+on_ok (Err fault) a = tt
+
+-- a known number is that of the option
+pub number_told : (place : Option ℕ) (default v : ℕ) → v ≡ unwrap_or place default → (n : ℕ)
+    → IsSizeOrNone place n → n < 2 ^ 64 → v ≡ n
+number_told None default v is n large small = absurd (omega (arith, large, small))
+number_told (Some m) default v is n same small = is ∙ same
+
+-- the object of an event is put
+pub puts_first : {plan : FilePlan} (r : IsFilePlan plan) {W : Type 0}
+    {contents : W → Option (List ℕ)} {places : List ℕ} {sink new : Sink W} (p : ℕ)
+    (item : HasItem (events_in plan.given) p) (free : get_or places (number_in plan p) 0 ≡ 0)
+    (v : ℕ) (is : (n : ℕ) → HasPut sink n → n < 2 ^ 64 → v ≡ n) (answer : Answer)
+    → ((t : Tree) → OccursAt (events_in plan.given) t p
+    → PutsBytes contents sink (form plan.width (object_of (number_in plan) t p)) answer new)
+    → PutsAt plan contents p (places, sink) answer (set places (number_in plan p) v, new)
+puts_first {plan} r {places = places} p item free v is answer put = record {
+  long = length-set places (number_in plan p) v;
+  step = λ start none a. (
+    put_next r a none p item free v is put,
+    put_kept r a none p item free v is,
+    on_ok answer (λ again. put_placed r a none p item free v is),
+  );
 }
-  where
-    f : ℕ → List ℕ
-    f j = form w (objects j)
 
-    more : length (laid_out w objects order) + length (f k)
-        ≡ length (laid_out w objects (order ++ k ∷ []))
-    more =
-        omega (
-          arith,
-          length-magic (object_table w objects order),
-          length-magic (object_table w objects (order ++ k ∷ [])),
-          ap length (flat_map-append f order (k ∷ [])),
-          length-append (object_table w objects order) (f k ++ []),
-          length-append (f k) [],
-        )
-
-    by : (end next : Option ℕ) → IfSome end (λ n. v ≡ n) → (end ≡ None → next ≡ None)
-        → IsSizeOrNone end (length (laid_out w objects order))
-        → IfSome end (λ _. Laid w objects places order 8)
-        → IfSome next (λ _. Laid w objects (set places k v) (order ++ k ∷ []) 8)
-    by None (Some m) is none given laid = let e : Some m ≡ None = none refl in cc
-    by (Some n) (Some m) is none given laid =
-        laid_snoc w objects places order 8 k v below new good.1
-        (is ∙ given ∙ length-magic (object_table w objects order)) laid
-    by end None is none given laid = tt
-
--- the object of the event at an index is that of the tree which begins there
-module _ {es : List PlainEvent} {number : ℕ → ℕ} (whole : IsBracketed es) (objects : ℕ → Object)
-    (describes : Describes es number objects) (p : ℕ) (item : HasItem es p) where
-  pub described_at : (u : Tree) × OccursAt es u p × (objects (number p) ≡ object_of number u p)
-  described_at = let u = occurs_at es whole p item.0 item.1 in (u.0, u.1, describes u.0 p u.1)
-
-  pub sized : (w : ℕ) (given : Option ℕ)
-      → ((t : Tree) → OccursAt es t p → IsSizeOrNone given (object_size w t))
-      → ((t : Tree) → OccursAt es t p → IsWritable w (object_of number t p))
-      → IsSizeOrNone given (length (form w (objects (number p))))
-      × IsWritable w (objects (number p))
-  sized w given size good =
-      let d = described_at in (
-        rw (ap (λ v. length (form w v)) d.2 ∙ form_size w number d.0 p) (size d.0 d.1),
-        rw d.2 (good d.0 d.1),
-      )
-
--- the object at an index of the order is that of the tree which begins at the event there
-module _ {es : List PlainEvent} {number : ℕ → ℕ} (whole : IsBracketed es) (objects : ℕ → Object)
-    (describes : Describes es number objects) (order : List ℕ)
-    (items : AllByRecursion (HasItem es) order) (i p : ℕ) (within : i < length order)
-    (e : p ≡ get_or order i 0) where
-  pub described : (u : Tree) × OccursAt es u p
-      × (objects (get_or (map number order) i 0) ≡ object_of number u p)
-  described =
-      let here = any_has (HasItem es) order _ items (any_at order i within) in
-      let d = described_at whole objects describes p (subst (HasItem es) (sym e) here) in (
-        d.0,
-        d.1,
-        ap objects (get_or-map number order i 0 0 within ∙ ap number (sym e)) ∙ d.2,
-      )
+-- the objects of two events are put, one after the other
+module _ {plan : FilePlan} {W : Type 0} {contents : W → Option (List ℕ)}
+    {p q : ℕ} {a b c : List ℕ × Sink W} where
+  pub puts_both : (answer : Answer) → PutsAt plan contents p a (Ok tt) b
+      → PutsAt plan contents q b answer c → PutsAt plan contents p a answer c
+  puts_both answer one two = record {
+    long = two.long ∙ one.long;
+    step = λ start none put.
+        let first = one.step start none put in
+        let second = two.step start none first.0 in (
+          second.0,
+          λ k n. second.1 k (first.1 k n),
+          on_ok answer (λ item. second.1 _ (first.2 item)),
+        );
+  }

@@ -22,7 +22,8 @@ use Rattle.plist_buffer.proofs.SameScalars.{tells_both}
 use Rattle.plist_buffer.proofs.TreeOccurrences.{occurs_whole}
 use Rattle.plist_binwrite.proofs.ObjectOffsets.{AllOnce, form_size, total_bodies}
 use Rattle.plist_binwrite.proofs.NumberingSteps.{known_number}
-use Rattle.plist_binwrite.proofs.Totals.{total_below, count_below, total_all, unique_member, unique_distinct, total-map, total_equal, total_one}
+use Rattle.plist_binwrite.specs.inner.ObjectSizes.{total_below}
+use Rattle.plist_binwrite.proofs.Totals.{count_below, total_all, unique_member, unique_distinct, total-map, total_equal, total_one}
 use Rattle.plist_buffer.proofs.Uniques.{all_from, all_unique, members_self, member_has, unique_seen}
 
 -- ---- a plan's numbers
@@ -73,14 +74,12 @@ module _ {es : List PlainEvent} {class : ℕ → ℕ} {by_class : List ℕ} {cou
       ∙ ap length (sym kept_numbers) ∙ length-map (representatives class whole)
       number
 
-  -- the objects of a plan have as many bytes as one object for each class
-  pub planned_size : (w : ℕ) (objects : ℕ → Object)
+  -- all objects of a plan have as many bytes as one object for each class
+  pub planned_total : (w : ℕ) (objects : ℕ → Object)
       → Describes es (number_by class by_class) objects
-      → (order : List ℕ) → AllOnce (count) order
-      → length (object_table w objects order) ≡ objects_by class w whole
-  planned_size w objects describes order all =
-      total_bodies w objects order (count) all
-      ∙ sym (total_numbers (λ k. length (form w (objects k))))
+      → total_below (λ k. length (form w (objects k))) count ≡ objects_by class w whole
+  planned_total w objects describes =
+      sym (total_numbers (λ k. length (form w (objects k))))
       ∙ ap (total (λ k. length (form w (objects k)))) (sym kept_numbers)
       ∙ total-map number (λ k. length (form w (objects k)))
       (representatives class whole)
@@ -92,3 +91,11 @@ module _ {es : List PlainEvent} {class : ℕ → ℕ} {by_class : List ℕ} {cou
       ∙ form_size w (number_by class by_class) one.1 one.0)
       (representatives class whole)
       (all_unique (Stands es) (same_class class) (positions whole 0) stand))
+
+  -- the objects of a plan have as many bytes in any order
+  pub planned_size : (w : ℕ) (objects : ℕ → Object)
+      → Describes es (number_by class by_class) objects
+      → (order : List ℕ) → AllOnce (count) order
+      → length (object_table w objects order) ≡ objects_by class w whole
+  planned_size w objects describes order all =
+      total_bodies w objects order count all ∙ planned_total w objects describes

@@ -1,38 +1,48 @@
 -- A planned file is that of its tree, with one object for each class, and `send_plan` writes that
 -- file.
-use Rattle.std.proofs.Common.{◌≡◌, ℕ, ◌+◌, ◌-◌, ◌*◌, ◌^◌, ◌<◌, List, [], ◌++◌, length, take, drop, get_or, map, Some, Ok, refl, ap, sym, ◌∙◌, arith, ◌≤◌, true, eqb, Option, None, Result, Err, OnOk, subst}
-use Rattle.std.specs.List.{list_any, slice_get}
+use Rattle.std.proofs.Common.{◌≡◌, ℕ, ◌+◌, ◌-◌, ◌*◌, ◌^◌, ◌<◌, List, [], ◌++◌, length, take, drop, get_or, map, Some, Ok, refl, ap, sym, ◌∙◌, arith, ◌≤◌, Option, Result, Err, OnOk, subst}
+use Rattle.std.specs.List.{slice_get}
 use Rattle.std.specs.Prelude.{option_map}
 use Rattle.std.proofs.lemmas.List.Elements.{All-from_get_or, recursion_from_All}
 use Rattle.std.proofs.lemmas.Option.{slice_get-map, slice_get-get_or}
 use Rattle.plist_base.specs.Bracketing.{bracketing, lengthless, AreTreeEvents}
 use Rattle.plist_base.specs.Events.{PlainEvent}
 use Rattle.plist_base.specs.Trees.{Tree}
-use Rattle.plist_format.specs.Container.{magic, Head, head_of}
+use Rattle.plist_format.specs.Container.{Head, head_of}
 use Rattle.plist_format.specs.Object.{Object, object_in}
 use Rattle.plist_format.specs.Unfolding.{TableEntry, table_of, unfolding_of, until_fault, items_with, items_of_file}
 use Rattle.plist_format.specs.Visits.{visits_of, visits_with, visits}
 use Rattle.plist_format.proofs.Tables.{length-table_of}
 use Rattle.plist_binwrite.specs.Classes.{IsFileBy, count_by, objects_by, size_by, files_by}
-use Rattle.plist_binwrite.specs.Sizes.{collections_in, IsSizeOrNone, size_with}
+use Rattle.plist_base.specs.Sinks.{IsSizeOrNone}
+use Rattle.plist_binwrite.specs.Sizes.{collections_in, size_with}
 use Rattle.plist_binwrite.specs.Forms.{form, table_form, AllFit, reference_width, least_width}
 use Rattle.plist_binwrite.specs.Numberings.{Describes}
 use Rattle.plist_binwrite.specs.EventClasses.{class_in, events_in}
-use Rattle.plist_binwrite.specs.inner.Layout.{file_of, numbers_in, IsFilePlan, AreObjectsOf, IsLayout}
-use Rattle.plist_binwrite.specs.inner.Numbering.{IsPlanned, object_number, number_by}
+use Rattle.plist_binwrite.specs.inner.Layout.{IsFilePlan, PutsFile}
+use Rattle.plist_binwrite.specs.inner.ObjectSizes.{AreSizes, fixed_at, references_at, total_below}
+use Rattle.plist_binwrite.specs.declared.numbering.Numbering.{Numbering}
+use Rattle.plist_binwrite.specs.Forms.{IsWritable}
+use Rattle.plist_binwrite.specs.Numberings.{object_of}
+use Rattle.plist_buffer.specs.Occurrences.{OccursAt}
+use Rattle.plist_binwrite.proofs.NumberingSteps.{known_number, numbers_below}
+use Rattle.plist_binwrite.proofs.ObjectOffsets.{form_size}
+use Rattle.plist_binwrite.proofs.Totals.{total_below_same, total_below_sum}
+use Rattle.plist_binwrite.proofs.TreeObjects.{object_fits, occurs_at, size_split}
+use Rattle.plist_binwrite.specs.inner.Numbering.{IsNumberingOfEvents, IsPlanned, object_number, number_by}
 use Rattle.plist_buffer.specs.Occurrences.{positions}
-use Rattle.plist_binwrite.specs.Written.{Laid, laid_out, object_table, table_and_trailer}
+use Rattle.plist_binwrite.specs.Written.{Laid, file_with, laid_out, object_table}
 use Rattle.plist_binwrite.specs.declared.classes.Classed.{Classed}
 use Rattle.plist_binwrite.specs.declared.plan.FilePlan.{FilePlan}
 use Rattle.plist_binwrite.proofs.ClassObjects.{Numbered, numbered, number_apart, number_below}
-use Rattle.plist_binwrite.proofs.PlanClasses.{planned_count, planned_size}
+use Rattle.plist_binwrite.proofs.PlanClasses.{planned_count, planned_size, planned_total}
 use Rattle.plist_binwrite.proofs.ObjectOffsets.{AllOnce, length-magic, found_place, object_there}
 use Rattle.plist_binwrite.proofs.Reading.{form_read}
 use Rattle.plist_binwrite.proofs.ReadingNumbers.{with_table_and_trailer, drop_front, width_positive, last, length_closed, front_is, head_is}
 use Rattle.plist_buffer.proofs.TreeOccurrences.{occurs_whole}
 use Rattle.plist_binwrite.proofs.Unfold.{Shows, unfolds_whole, no_fault}
 use Rattle.plist_binwrite.proofs.LeastWidths.{width_holds}
-use Rattle.plist_base.specs.Faults.{Io, fault_without_offset}
+use Rattle.plist_base.specs.Faults.{Fault}
 use Rattle.plist_base.specs.Outcomes.{OnlyDevice}
 use Rattle.plist_base.specs.declared.error.Error.{Error}
 use Rattle.plist_base.specs.Writing.{Answer, answer_of}
@@ -40,8 +50,8 @@ use Rattle.plist_base.proofs.Grammar.{complete_of_whole}
 use Rattle.std.specs.Io.KnownBytes.{Appends}
 use Rattle.plist_base.specs.declared.sink.Sink.{Sink}
 use Rattle.plist_base.specs.Prefixes.{AppendsPrefix}
-use Rattle.plist_base.specs.Sinks.{PutsBytes, pending, written}
-use Rattle.plist_base.proofs.SinkSteps.{sent_part, sent_whole}
+use Rattle.plist_base.specs.Sinks.{pending, written}
+use Rattle.plist_base.proofs.SinkSteps.{put_part, sent_part, sent_whole}
 use Rattle.plist_binwrite.specs.SendingAs.{IsOfTree, SendsAs}
 use Rattle.plist_buffer.proofs.Lengthless.{plain_lengthless}
 
@@ -175,133 +185,135 @@ module _ {es : List PlainEvent} {class : ℕ → ℕ} {by_class : List ℕ} {cou
       fits = fits;
     }
 
-end_is : (end : Option ℕ) (objects count : ℕ) → IsSizeOrNone end (8 + objects)
-    → size_with count objects < 2 ^ 64 → end ≡ Some (8 + objects)
-end_is None objects count large fits = absurd (omega (arith, large, fits))
-end_is (Some end) objects count is fits = ap Some is
+-- ---- a planned file
 
-module _ {given : Classed} {plan : FilePlan} (l : IsLayout given plan)
-    (all : (k : ℕ) → k < plan.numbering.count → list_any (eqb k) (numbers_in given plan) ≡ true) where
-  abbrev order : List ℕ
-  order = numbers_in given plan
+module _ {given : Classed} {numbering : Numbering} (n : IsNumberingOfEvents given numbering)
+    (objects : ℕ → Object) (d : Describes (events_in given) (object_number given numbering) objects)
+  where
+    abbrev es : List PlainEvent
+    es = events_in given
 
-  once : AllOnce plan.numbering.count order
-  once = record { distinct = l.order.distinct; numbered = λ k. (l.order.below k, all k) }
+    -- the event at which the tree of an object begins, and the object
+    found : (k : ℕ) → k < numbering.count → (t : Tree) × OccursAt es t (n.planned.numbered.first k)
+        × (objects k ≡ object_of (object_number given numbering) t (n.planned.numbered.first k))
+    found k h =
+        let item = (n.planned.numbered.known k h).0 in
+        let u = occurs_at es n.planned.whole _ item.0 item.1 in
+        (u.0, u.1, ap objects (sym (known_number n.planned.numbered k h)) ∙ d u.0 _ u.1)
 
-  module _ (t : Tree) (e : events_in given ≡ lengthless t) where
-    abbrev size_of_all : ℕ
-    size_of_all = objects_by (class_in given) (reference_width (count_by (class_in given) t)) t
+    -- all objects can be written
+    pub can_write : (w : ℕ) → numbering.count ≤ 256 ^ w → length es < 2 ^ 64 → (k : ℕ)
+        → k < numbering.count → IsWritable w (objects k)
+    can_write w fits few k h =
+        let f = found k h in
+        rw f.2 (object_fits es _ numbering.count w (numbers_below n.planned) fits few _
+        (n.sizes.writable k h) f.0 f.1)
 
-    -- the offset of the offset table is the length of the magic and the objects
-    table_told : IsSizeOrNone plan.end (8 + size_of_all)
-    table_told =
-        let of = numbered l.numbered.planned in
-        subst (IsSizeOrNone plan.end)
-        (ap (λ v. length (laid_out v of.objects order)) l.width
-        ∙ laid_length l.numbered.planned t e of.objects of.describes order once)
-        (l.end of.objects of.describes)
+    -- the number of bytes of all objects
+    pub size_told : (w : ℕ) → total_below (λ k. length (form w (objects k))) numbering.count
+        ≡ total_below (λ k. fixed_at es (n.planned.numbered.first k)) numbering.count
+        + total_below (λ k. references_at es (n.planned.numbered.first k)) numbering.count * w
+    size_told w =
+        total_below_same _ _ numbering.count (λ k h. let f = found k h in
+        ap (λ o. length (form w o)) f.2 ∙ form_size w _ f.0 _ ∙ size_split w f.0 f.1)
+        ∙ total_below_sum _ _ w numbering.count
 
-    -- the number of objects is that of the classes
-    count_told : length plan.places ≡ count_by (class_in given) t
-    count_told = l.order.long ∙ planned_count l.numbered.planned t e
+module _ {given : Classed} {numbering : Numbering} (n : IsNumberingOfEvents given numbering)
+    (size : Option ℕ)
+    (is : (fixed references : ℕ) → AreSizes numbering.sizes fixed references
+    → IsSizeOrNone size (fixed + references * reference_width numbering.count)) where
+  abbrev number : ℕ → ℕ
+  number = object_number given numbering
+
+  of : Numbered (events_in given) number
+  of = numbered n.planned
+
+  abbrev bytes_of : (ℕ → Object) → ℕ
+  bytes_of objects =
+      total_below (λ k. length (form (reference_width numbering.count) (objects k))) numbering.count
+
+  -- the size is that of all objects
+  size_is : (objects : ℕ → Object) → Describes (events_in given) number objects
+      → IsSizeOrNone size (bytes_of objects)
+  size_is objects d =
+      rw (size_told n objects d (reference_width numbering.count)) (is _ _ n.sizes.sums)
+
+  -- it is the size of the objects of a tree by its classes
+  by_tree : (t : Tree) → events_in given ≡ lengthless t
+      → size_by (class_in given) t ≡ size_with numbering.count (bytes_of of.objects)
+  by_tree t e =
+      let count = planned_count n.planned t e in
+      rw (← count)
+      (ap (size_with numbering.count)
+      (sym (planned_total n.planned t e (reference_width numbering.count) of.objects of.describes)))
 
   -- the file has 2^64 bytes or more
   pub oversized : AreTreeEvents (events_in given)
-      → ((objects : ℕ) → IsSizeOrNone plan.end (8 + objects)
-      → 2 ^ 64 ≤ size_with (length plan.places) objects)
+      → ((objects : ℕ) → IsSizeOrNone size objects → 2 ^ 64 ≤ size_with numbering.count objects)
       → IsOfTree (events_in given) (λ tree. 2 ^ 64 ≤ size_by (class_in given) tree)
-  oversized whole exceeds = (
-    complete_of_whole (events_in given) whole,
+  oversized tree exceeds = (
+    complete_of_whole (events_in given) tree,
+    λ t alike. rw (by_tree t (plain_lengthless given.events.now t alike))
+        (exceeds _ (size_is of.objects of.describes)),
+  )
+
+  -- the numbering is the plan of a file
+  pub plan_made : (width : ℕ) → width ≡ reference_width numbering.count → width ≤ 8
+      → numbering.count ≤ 256 ^ width → length (events_in given) < 2 ^ 64
+      → ((objects : ℕ) → IsSizeOrNone size objects → size_with numbering.count objects < 2 ^ 64)
+      → IsFilePlan (record { given = given; numbering = numbering; width = width })
+  plan_made width wide narrow fit few fits = record {
+    numbered = n;
+    width = wide;
+    narrow = narrow;
+    writable = λ objects d. can_write n objects d width fit few;
+    few = λ objects d. rw wide (omega (arith, fits _ (size_is objects d)));
+    small = λ t e. rw (by_tree t e) (fits _ (size_is of.objects of.describes));
+  }
+
+-- ---- what is put
+
+module _ {plan : FilePlan} (r : IsFilePlan plan) {W : Type 0} {contents : W → Option (List ℕ)}
+    {start : Sink W} where
+  -- the file of a plan is that of its tree
+  pub file_made : {answer : Answer} {sink : Sink W} (p : PutsFile plan contents start answer sink)
+      → AreTreeEvents (events_in plan.given) → IsOfTree (events_in plan.given)
+      (λ tree. IsFileBy (class_in plan.given) tree (file_with plan.width p.objects p.places p.order))
+  file_made p tree = (
+    complete_of_whole (events_in plan.given) tree,
     λ t alike.
-        let e = plain_lengthless given.events.now t alike in
-        subst (λ k. 2 ^ 64 ≤ size_with k (size_of_all t e)) (count_told t e)
-        (exceeds (size_of_all t e) (table_told t e)),
+        let e = plain_lengthless plan.given.events.now t alike in
+        let o = p.layout.ordered in
+        let wide : plan.width ≡ reference_width (length p.places) =
+        r.width ∙ ap reference_width (sym o.long) in
+        let once : AllOnce plan.numbering.count p.order =
+        record { distinct = o.distinct; numbered = λ k. (o.below k, p.all k) } in
+        subst
+        (λ w. IsFileBy (class_in plan.given) t (file_with w p.objects p.places p.order))
+        (sym wide)
+        (finished r.numbered.planned t e p.objects p.described p.order once p.places
+        (rw wide at p.layout.laid) o.long (r.small t e)),
   )
 
-  module _ (fits : (objects : ℕ) → IsSizeOrNone plan.end (8 + objects)
-      → size_with (length plan.places) objects < 2 ^ 64) where
-    -- the offset after the objects is known
-    known : (objects : ℕ → Object) → AreObjectsOf given plan objects
-        → plan.end ≡ Some (length (laid_out plan.width objects order))
-    known objects d =
-        let body = object_table plan.width objects order in
-        let end : IsSizeOrNone plan.end (8 + length body) =
-        subst (IsSizeOrNone plan.end) (length-magic body) (l.end objects d) in
-        end_is plan.end (length body) (length plan.places) end (fits (length body) end)
-        ∙ ap Some (sym (length-magic body))
+  module _ (empty : pending start ≡ []) (tree : AreTreeEvents (events_in plan.given)) where
+    -- the file is put, and the pending bytes are written
+    pub sends_file : {middle : Sink W} (new : Sink W) → PutsFile plan contents start (Ok tt) middle
+        → (answer : Result (Unit {0}) Error)
+        → OnOk answer (Appends (written contents middle) (written contents new) (pending middle))
+        → AppendsPrefix (written contents middle) (written contents new) (pending middle)
+        → OnlyDevice answer → SendsAs (files_by (class_in plan.given)) contents
+        (events_in plan.given) (answer_of answer) start.writer.now new.writer.now
+    sends_file new p (Ok done) sent prefix failed = (_, file_made p tree, sent_whole _ empty p.put sent)
+    sends_file new p (Err error) sent prefix failed =
+        subst (λ fault. SendsAs (files_by (class_in plan.given)) contents (events_in plan.given)
+        (Err fault) start.writer.now new.writer.now) (sym failed)
+        (refl, (_, file_made p tree, sent_part _ empty p.put prefix))
 
-    widths : plan.width ≡ reference_width (length plan.places)
-    widths = l.width ∙ ap reference_width (sym l.order.long)
-
-    all_fit : (t : Tree) → events_in given ≡ lengthless t → size_by (class_in given) t < 2 ^ 64
-    all_fit t e =
-        let objects = objects_by (class_in given) (reference_width (count_by (class_in given) t)) t
-        in
-        subst (λ k. size_with k objects < 2 ^ 64) (count_told t e)
-        (fits objects (table_told t e))
-
-    -- what is laid out is the plan of the file
-    pub plan_made : IsFilePlan given plan
-    plan_made = record {
-      layout = l;
-      table = known;
-      file = λ objects d t e.
-          subst
-          (λ w. IsFileBy (class_in given) t
-          (with_table_and_trailer (laid_out w objects order) plan.places))
-          (sym widths)
-          (finished l.numbered.planned t e objects d order once plan.places
-          (subst (λ w. Laid w objects plan.places order 8) widths
-          (rw (known objects d) at (l.laid objects d))) l.order.long (all_fit t e));
-    }
-
--- the parts are put one after another
-pub file_is : (objects : ℕ → Object) (order places : List ℕ) (table width : ℕ)
-    → table ≡ length (laid_out width objects order) → magic
-    ++ (object_table width objects order ++ table_and_trailer places table)
-    ≡ with_table_and_trailer (laid_out width objects order) places
-file_is objects order places table width e = cc
-
--- the file is written; or an I/O operation fails, and a prefix of the file is written
-abbrev pub SendsPlan : {W : Type 0} (contents : W → Option (List ℕ)) → Classed → FilePlan → Answer
-    → (old new : W) → Type 0
-SendsPlan contents given plan (Ok done) old new = (objects : ℕ → Object)
-    → AreObjectsOf given plan objects
-    → Appends (contents old) (contents new) (file_of given plan objects)
-SendsPlan contents given plan (Err fault) old new = (fault ≡ fault_without_offset Io)
-    × ((objects : ℕ → Object) → AreObjectsOf given plan objects
-    → AppendsPrefix (contents old) (contents new) (file_of given plan objects))
-
--- the pending bytes are written at the end
-pub sends_end : {W : Type 0} (contents : W → Option (List ℕ)) (given : Classed) (plan : FilePlan)
-    (old middle new : Sink W) → pending old ≡ [] → (answer : Result (Unit {0}) Error)
-    → OnOk answer (Appends (written contents middle) (written contents new) (pending middle))
-    → AppendsPrefix (written contents middle) (written contents new) (pending middle)
-    → OnlyDevice answer
-    → ((objects : ℕ → Object) → AreObjectsOf given plan objects
-    → PutsBytes contents old (file_of given plan objects) (Ok tt) middle)
-    → SendsPlan contents given plan (answer_of answer) old.writer.now new.writer.now
-sends_end contents given plan old middle new empty (Ok done) sent prefix failed put =
-    λ objects d. sent_whole _ empty (put objects d) sent
-sends_end contents given plan old middle new empty (Err error) sent prefix failed put =
-    (failed, λ objects d. sent_part _ empty (put objects d) prefix)
-
--- ---- what is written
-
-module _ {W : Type 0} (contents : W → Option (List ℕ)) (given : Classed) (old new : W)
-    (whole : AreTreeEvents (events_in given)) {plan : FilePlan} (r : IsFilePlan given plan) where
-  of : Numbered (events_in given) (object_number given plan.numbering)
-  of = numbered r.numbered.planned
-
-  is_file : IsOfTree (events_in given)
-      (λ tree. IsFileBy (class_in given) tree (file_of given plan of.objects))
-  is_file = (
-    complete_of_whole (events_in given) whole,
-    λ t alike. r.file of.objects of.describes t (plain_lengthless given.events.now t alike),
-  )
-
-  pub plan_sends : (answer : Answer) → SendsPlan contents given plan answer old new
-      → SendsAs (files_by (class_in given)) contents (events_in given) answer old new
-  plan_sends (Ok done) s = (file_of given plan of.objects, is_file, s of.objects of.describes)
-  plan_sends (Err fault) s =
-      rw s.0 (refl, (file_of given plan of.objects, is_file, s.1 of.objects of.describes))
+    -- a write fails before the file is put
+    pub sends_part : {new : Sink W} {fault : Fault} → PutsFile plan contents start (Err fault) new
+        → SendsAs (files_by (class_in plan.given)) contents (events_in plan.given) (Err fault)
+        start.writer.now new.writer.now
+    sends_part {new} p =
+        subst (λ fault. SendsAs (files_by (class_in plan.given)) contents (events_in plan.given)
+        (Err fault) start.writer.now new.writer.now) (sym p.put.follows.0)
+        (refl, (_, file_made p tree, put_part empty p.put))

@@ -1,5 +1,5 @@
 -- Totals over distinct keys.
-use Rattle.std.proofs.Common.{◌≡◌, ◌⊎◌, inl, inr, ℕ, zero, suc, ◌+◌, ◌<◌, ◌≤◌, Bool, true, false, not, cond, ◌||◌, ◌&&◌, eqb, List, [], ◌∷◌, length, map, refl, ap, sym, ◌∙◌, subst, arith}
+use Rattle.std.proofs.Common.{◌≡◌, ◌⊎◌, inl, inr, ℕ, zero, suc, ◌+◌, ◌*◌, ◌<◌, ◌≤◌, Bool, true, false, not, cond, ◌||◌, ◌&&◌, eqb, List, [], ◌∷◌, length, map, refl, ap, sym, ◌∙◌, subst, arith}
 use Rattle.std.specs.List.{AllByRecursion, IsDistinct, filter}
 use Rattle.std.specs.Set.{is_member, unique_keys}
 use Rattle.std.proofs.lemmas.Bool.{or_parts, or_left, and_parts, and_from, eq-eqb, ne_eqb, eqb-true, eqb-false, not-true, not_from_false}
@@ -8,12 +8,24 @@ use Rattle.std.proofs.lemmas.List.Elements.{All-filter, All-from_recursion, recu
 use Rattle.std.proofs.lemmas.Map.Made.{is_member-filter}
 use Rattle.std.proofs.lemmas.Bool.Decides.{eqb_tells}
 use Rattle.plist_binwrite.specs.Sizes.{total}
+use Rattle.plist_binwrite.specs.inner.ObjectSizes.{total_below}
+use Rattle.std.proofs.Math.Nat.{add-mul}
 use Rattle.plist_buffer.proofs.Uniques.{few_below}
 
--- the sum of the weights of the numbers below a count
-abbrev pub total_below : (ℕ → ℕ) → ℕ → ℕ
-total_below w zero = 0
-total_below w (suc n) = w n + total_below w n
+pub total_below_same : (f g : ℕ → ℕ) (n : ℕ) → ((k : ℕ) → k < n → f k ≡ g k)
+    → total_below f n ≡ total_below g n
+total_below_same f g zero same = refl
+total_below_same f g (suc n) same = omega (
+  arith,
+  same n (omega arith),
+  total_below_same f g n (λ k h. same k (omega (arith, h))),
+)
+
+pub total_below_sum : (f g : ℕ → ℕ) (w n : ℕ)
+    → total_below (λ k. f k + g k * w) n ≡ total_below f n + total_below g n * w
+total_below_sum f g w zero = omega arith
+total_below_sum f g w (suc n) =
+    omega (arith, total_below_sum f g w n, add-mul (g n) (total_below g n) w)
 
 pub count_below : (n : ℕ) → total_below (λ x. 1) n ≡ n
 count_below zero = refl
@@ -55,6 +67,43 @@ module _ (w : ℕ → ℕ) where
             rw f.0 (omega arith)
       ]
 
+  less_out : (x : ℕ) (ys : List ℕ) → IsDistinct eqb ys → total w ys ≤ w x + total w (others x ys)
+  unfolding IsDistinct
+  less_out x [] d = omega arith
+  less_out x (y ∷ ys) d =
+      elim (eqb_tells x y) [
+        | inl t ↦
+            let all = subst (λ k. AllByRecursion (λ z. eqb k z ≡ false) ys) (sym t.1) d.0 in
+            rw t.0 (omega (arith, ap (total w) (none_out x ys all), ap w t.1))
+        | inr f ↦ rw f.0 (omega (arith, less_out x ys d.1))
+      ]
+
+  left : (n q : ℕ) (xs : List ℕ)
+      → is_member eqb (others n xs) q ≡ (is_member eqb xs q && not (eqb n q))
+  left n q xs =
+      is_member-filter nat_eq_equiv (λ y. not _) q
+      (λ x e. ap (λ k. not (eqb n k)) (eqb-true q x e)) xs
+
+  still_low : (n q : ℕ) (xs : List ℕ) → ((q : ℕ) → is_member eqb xs q ≡ true → q < suc n)
+      → is_member eqb (others n xs) q ≡ true → q < n
+  still_low n q xs low h =
+      let p : (is_member eqb xs q ≡ true) × (not (eqb n q) ≡ true) = and_parts _ _
+      (sym (left n q xs) ∙ h) in
+      omega (arith, low q p.0, eqb-false n q (not-true _ p.1))
+
+  -- distinct numbers below a count have at most the total of all numbers below it
+  pub total_some : (n : ℕ) (xs : List ℕ) → IsDistinct eqb xs
+      → ((q : ℕ) → is_member eqb xs q ≡ true → q < n) → total w xs ≤ total_below w n
+  total_some zero [] d low = omega arith
+  total_some zero (x ∷ xs) d low =
+      absurd (omega (arith, low x (or_left _ _ (eq-eqb x x refl))))
+  total_some (suc n) xs d low =
+      omega (
+        arith,
+        less_out n xs d,
+        total_some n (others n xs) (distinct_out n xs d) (λ q h. still_low n q xs low h),
+      )
+
   -- distinct numbers that are exactly those below a count have the total of the numbers below it
   pub total_all : (n : ℕ) (xs : List ℕ) → IsDistinct eqb xs
       → ((q : ℕ) → is_member eqb xs q ≡ true → q < n)
@@ -65,16 +114,10 @@ module _ (w : ℕ → ℕ) where
   total_all (suc n) xs d low all =
       cc (
         one_out n xs d (all n (omega arith)),
-        total_all n (others n xs) (distinct_out n xs d)
-            (λ q h. let p : (is_member eqb xs q ≡ true) × (not (eqb n q) ≡ true) = and_parts _ _
-            (sym (left q) ∙ h) in omega (arith, low q p.0, eqb-false n q (not-true _ p.1)))
-            (λ q h. left q ∙ and_from _ _ (all q (omega (arith, h)))
+        total_all n (others n xs) (distinct_out n xs d) (λ q h. still_low n q xs low h)
+            (λ q h. left n q xs ∙ and_from _ _ (all q (omega (arith, h)))
             (not_from_false _ (ne_eqb n q (λ e. omega (arith, e, h))))),
       )
-    where
-      left : (q : ℕ) → is_member eqb (others n xs) q ≡ (is_member eqb xs q && not (eqb n q))
-      left q = is_member-filter nat_eq_equiv (λ y. not _) q
-          (λ x e. ap (λ k. not (eqb n k)) (eqb-true q x e)) xs
 
 -- `eq` decides whether two keys are equal
 module _ {K : Type 0} (eq : K → K → Bool) (tells : (a b : K)

@@ -1,5 +1,5 @@
 -- The objects of trees by their indices: their forms, their sizes, and that they can be written.
-use Rattle.std.proofs.Common.{◌≡◌, ◌⊎◌, inl, inr, ℕ, ◌+◌, ◌*◌, ◌^◌, ◌<◌, ◌≤◌, false, List, ◌∷◌, ◌++◌, length, flat_map, map, Option, None, Some, SomeIff, refl, ap, ◌∙◌, subst, arith, length-append}
+use Rattle.std.proofs.Common.{◌≡◌, ◌⊎◌, inl, inr, ℕ, ◌+◌, ◌*◌, ◌^◌, ◌<◌, ◌≤◌, false, List, ◌∷◌, ◌++◌, length, flat_map, map, Option, None, Some, SomeIff, refl, ap, ◌∙◌, arith, length-append}
 use Rattle.std.proofs.lemmas.List.{length-map}
 use Rattle.std.proofs.lemmas.Bool.{cases_lt}
 use Rattle.plist_base.specs.Events.{PlainEvent, ScalarEvent, shape_of}
@@ -11,17 +11,17 @@ use Rattle.plist_binwrite.specs.Numberings.{object_of}
 use Rattle.plist_binwrite.specs.Forms.{length_form, units_of, is_ascii_text, scalar_form, form, key_numbers, value_numbers, IsWritable, IsWritableScalar, AllFit}
 use Rattle.std.specs.Int.{bytes_high_first}
 use Rattle.plist_buffer.specs.EventTable.{is_end, event_at, item_indices, key_indices, value_indices, IsBracketed}
-use Rattle.plist_binwrite.specs.Sizes.{IsSizeOrNone}
+use Rattle.plist_base.specs.Sinks.{IsSizeOrNone}
+use Rattle.plist_binwrite.specs.Sizes.{object_size}
+use Rattle.plist_binwrite.specs.inner.ObjectSizes.{fixed_at, references_at}
 use Rattle.plist_buffer.specs.Children.{half_of}
 use Rattle.plist_buffer.specs.declared.children.Half.TheVariants.{Keys, Values}
 use Rattle.plist_format.specs.Marker.{high_half}
 use Rattle.plist_format.specs.declared.marker.CountedKind.{CountedKind}
 use Rattle.plist_format.specs.declared.marker.CountedKind.TheVariants as counted
 use Rattle.plist_binwrite.specs.EventClasses.{events_in}
-use Rattle.plist_binwrite.specs.declared.classes.Classed.{Classed}
 use Rattle.plist_binwrite.specs.declared.plan.FilePlan.{FilePlan}
-use Rattle.plist_binwrite.specs.inner.Numbering.{object_number}
-use Rattle.plist_binwrite.specs.inner.Layout.{references_of}
+use Rattle.plist_binwrite.specs.inner.Layout.{number_in, references_of}
 use Rattle.plist_buffer.specs.inner.Entries.{is_leaf}
 use Rattle.plist_buffer.proofs.TreeOccurrences.{occurs_whole, occurs_items, occurs_pairs, occurs_item, occurs_next, occurs_key, occurs_value, occurs_next_pair}
 use Rattle.plist_buffer.proofs.TreeStarts.{stands_single, starts_array, starts_dictionary, no_start, begins, occurs_in}
@@ -158,17 +158,17 @@ module _ (num : ℕ → ℕ) where
   values_are (MemberAnd k t ms) q = ap (λ l. num (q + 1) ∷ l) (values_are ms _)
 
 -- the bytes of a collection are those of its object
-module _ (given : Classed) (plan : FilePlan) where
+module _ (plan : FilePlan) where
   abbrev es : List PlainEvent
-  es = events_in given
+  es = events_in plan.given
 
   abbrev num : ℕ → ℕ
-  num = object_number given plan.numbering
+  num = number_in plan
 
   -- the bytes of a collection: its length, and the references to its keys and to its items or values
   abbrev collection_form : CountedKind → (index : ℕ) → List ℕ
   collection_form kind index = length_form (high_half kind) (length (half_of es Values index))
-      ++ (references_of given plan Keys index ++ references_of given plan Values index)
+      ++ (references_of plan Keys index ++ references_of plan Values index)
 
   -- the bytes of the object of a tree that begins at an index
   abbrev tree_form : Tree → (index : ℕ) → List ℕ
@@ -196,13 +196,12 @@ module _ (given : Classed) (plan : FilePlan) where
         length-pairs num ms (p + 1),
       ) refl
 
--- a size that is computed from the number of references is that of the dictionary
-pub dictionary_told : (given : Option ℕ) (w count pairs : ℕ) → count ≡ pairs
-    → IsSizeOrNone given (length (length_form 0xd count) + 2 * count * w)
-    → IsSizeOrNone given (length (length_form 0xd pairs) + (pairs * w + pairs * w))
-dictionary_told given w count pairs h told_is =
-    let two : 2 * count * w ≡ pairs * w + pairs * w = rw h (grind arith) in
-    subst (IsSizeOrNone _) (λ i. length (length_form 0xd (h i)) + two i) told_is
+-- the size of the object of a tree, by the event at which it begins
+pub size_split : {es : List PlainEvent} {p : ℕ} (w : ℕ) (t : Tree) → OccursAt es t p
+    → object_size w t ≡ fixed_at es p + references_at es p * w
+size_split w (Leaf x) s = rw (stands_single s) (omega arith)
+size_split w (Array ts) s = rw (count_items s, starts_array s) refl
+size_split w (Dictionary ms) s = rw (count_pairs s, starts_dictionary s) (grind arith)
 
 pub told_if : (given : Option ℕ) (event_count : ℕ) → SomeIff given (event_count < 2 ^ 64) event_count
     → IsSizeOrNone given event_count

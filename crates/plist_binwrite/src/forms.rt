@@ -19,7 +19,6 @@ use crate::push::{
 pub use crate::text::put_text;
 use crate::widths::{offset_width, reference_width};
 use plist_base::{Date, Error, Integer, RealBits, Sink, Uid};
-use plist_buffer::compact_numbers::CompactNumbers;
 use plist_buffer::stored_scalar::ScalarRef;
 pub use plist_format::CountedKind;
 use std::io::Write;
@@ -134,13 +133,13 @@ pub fn put_integer<W: Write>(sink: &mut Sink<'_, W>, value: Integer) -> Result<(
 pub fn put_numbers<W: Write>(
     sink: &mut Sink<'_, W>,
     width: usize,
-    list: &CompactNumbers,
+    list: &[u64],
 ) -> Result<(), Error>
     requires width { width ≤ 8 }
     ensures { Puts W.contents sink.old (table_form width list.now) result sink.new }
 {
     for index in 0..list.len() {
-        let number = list.get(index) as u64;
+        let number = list[index];
         if !try_put_number(sink, width, number) {
             put_number(sink, width, number)?;
         }
@@ -150,31 +149,27 @@ pub fn put_numbers<W: Write>(
 
 /// Puts the trailer of a file with `count` objects, whose offset table lies at the byte offset
 /// `table`. The root is object 0.
-pub fn put_trailer<W: Write>(
-    sink: &mut Sink<'_, W>,
-    count: usize,
-    table: usize,
-) -> Result<(), Error>
+pub fn put_trailer<W: Write>(sink: &mut Sink<'_, W>, count: usize, table: u64) -> Result<(), Error>
     ensures { Puts W.contents sink.old (trailer_of count table) result sink.new }
 {
-    let wide = offset_width(table as u64) as u8;
+    let wide = offset_width(table) as u8;
     let narrow = reference_width(count as u64) as u8;
     sink.put(&[0, 0, 0, 0, 0, 0, wide, narrow])?;
     put_number(sink, 8, count as u64)?;
     put_number(sink, 8, 0)?;
-    put_number(sink, 8, table as u64)
+    put_number(sink, 8, table)
 }
 
 /// Puts the offset table, which contains the byte offset of each object, and then the trailer. The
 /// table itself lies at the byte offset `table`.
 pub fn put_table_and_trailer<W: Write>(
     sink: &mut Sink<'_, W>,
-    places: &CompactNumbers,
-    table: usize,
+    places: &[u64],
+    table: u64,
 ) -> Result<(), Error>
     ensures { Puts W.contents sink.old (table_and_trailer places.now table) result sink.new }
 {
-    let width = offset_width(table as u64);
+    let width = offset_width(table);
     put_numbers(sink, width, places)?;
     put_trailer(sink, places.len(), table)
 }

@@ -1,4 +1,4 @@
-//! Assigns a number to the object of each class.
+//! Assigns a number to the object of each class, and computes the sizes of these objects.
 
 ghost use Rattle.plist_binwrite.specs.EventClasses.{IsClassed, events_in};
 ghost use Rattle.plist_buffer.specs.EventTable.{IsBracketed};
@@ -6,11 +6,12 @@ ghost use Rattle.plist_binwrite.specs.inner.Numbering.{IsNumberingOfEvents};
 ghost use Rattle.std.specs.Prelude.{IfOk};
 
 use crate::classes::Classed;
+use crate::size::{ObjectSizes, size_of_object};
 use plist_buffer::children::{Children, Half, begins_collection};
 use plist_buffer::compact_numbers::CompactNumbers;
 use std::alloc::{AllocError, Global};
 
-/// The number of each class's object.
+/// The number of each class's object, and the sizes of the objects.
 #[derive(Drop)]
 pub struct Numbering {
     /// One more than the number of each class's object, indexed by the class, or 0 if the object
@@ -18,6 +19,8 @@ pub struct Numbering {
     pub by_class: CompactNumbers,
     /// The number of objects that have numbers. Their numbers are those below `count`.
     pub count: usize,
+    /// The sizes of these objects together.
+    pub sizes: ObjectSizes,
 }
 
 impl Numbering {
@@ -27,14 +30,20 @@ impl Numbering {
     ghost use Rattle.plist_buffer.specs.EventTable.{HasItem, IsBracketed};
     ghost use Rattle.plist_buffer.specs.declared.children.Half.TheVariants.{Keys, Values};
     ghost use Rattle.plist_binwrite.specs.inner.Numbering.{IsNumbered, IsNumberedSoFar, Numbers, object_number};
+    ghost use Rattle.plist_binwrite.specs.inner.ObjectSizes.{AreSizes};
 
     // Creates a numbering in which no object has a number.
     fn new(alloc: Global, bound: usize) -> Result<Numbering, AllocError>
         ensures unknown { IfOk result (λ r. r.by_class ≡ replicate bound 0) }
         ensures none { IfOk result (λ r. r.count ≡ 0) }
+        ensures sizes { IfOk result (λ r. AreSizes r.sizes 0 0) }
     {
         let by_class = CompactNumbers::zeros(alloc, bound)?;
-        Ok(Numbering { by_class, count: 0 })
+        Ok(Numbering {
+            by_class,
+            count: 0,
+            sizes: ObjectSizes::none(),
+        })
     }
 
     /// Returns the number of the object of the event at an index.
@@ -69,6 +78,7 @@ impl Numbering {
         };
         self.by_class.set(class, count)?;
         self.count = count;
+        self.sizes = self.sizes.plus(size_of_object(given.events, index));
         Ok(())
     }
 

@@ -1,23 +1,20 @@
-//! Puts the objects of a planned file.
+//! Puts the objects of a planned file, and stores their offsets.
 
-ghost use Rattle.std.specs.Prelude.{◌≡◌, ◌<◌, ◌++◌, ℕ, Ok, length, true, false};
+ghost use Rattle.std.specs.Prelude.{◌≡◌, ◌≢◌, ◌<◌, ◌++◌, ℕ, Ok, OnOk, length, slice_index, true, false};
 ghost use Rattle.plist_base.specs.Events.{ScalarEvent};
-ghost use Rattle.plist_base.specs.Sinks.{Puts, PutsBytes, PutsNothing};
+ghost use Rattle.plist_base.specs.Sinks.{HasPut, Puts, PutsBytes, PutsNothing};
 ghost use Rattle.plist_base.specs.Trees.{Scalar, Tree};
+ghost use Rattle.plist_base.specs.Writing.{answer_of};
 ghost use Rattle.plist_binwrite.specs.EventClasses.{events_in};
-ghost use Rattle.plist_buffer.specs.EventTable.{plain_events, table_event};
+ghost use Rattle.plist_buffer.specs.EventTable.{HasItem, plain_events, table_event};
 ghost use Rattle.plist_binwrite.specs.Forms.{form, length_form, scalar_form};
 ghost use Rattle.plist_binwrite.specs.Numberings.{object_of};
-ghost use Rattle.plist_binwrite.specs.Written.{object_table};
 ghost use Rattle.plist_buffer.specs.Children.{half_of};
 ghost use Rattle.plist_buffer.specs.declared.children.Half.TheVariants.{Keys, Values};
 ghost use Rattle.plist_format.specs.Marker.{high_half};
-ghost use Rattle.plist_format.specs.Object.{Object};
 ghost use Rattle.plist_buffer.specs.Occurrences.{OccursAt};
-ghost use Rattle.plist_binwrite.specs.inner.Layout.{AreObjectsOf, IsFilePlan, numbers_in, references_of};
-ghost use Rattle.plist_binwrite.specs.inner.Numbering.{object_number};
+ghost use Rattle.plist_binwrite.specs.inner.Layout.{ArePut, IsFilePlan, PutsAt, number_in, references_of};
 
-use crate::classes::Classed;
 use crate::forms::{CountedKind, put_length, put_number, put_scalar, try_put_number};
 use crate::plan::FilePlan;
 use crate::push::push_scalar;
@@ -31,18 +28,17 @@ use std::io::Write;
 #[inline(always)]
 fn put_half<W: Write>(
     sink: &mut Sink<'_, W>,
-    given: &Classed<'_, '_>,
-    plan: &FilePlan,
+    plan: &FilePlan<'_, '_>,
     index: usize,
     half: Half,
 ) -> Result<(), Error>
-    requires plan { IsFilePlan given.now plan.now }
-    requires index { index < length (events_in given.now) }
-    ensures { Puts W.contents sink.old (references_of given.now plan.now half index) result
+    requires plan { IsFilePlan plan.now }
+    requires index { index < length (events_in plan.now.given) }
+    ensures { Puts W.contents sink.old (references_of plan.now half index) result
         sink.new }
 {
-    for child in Children::new(given.events, index, half) {
-        let number = plan.numbering.number(given, child) as u64;
+    for child in Children::new(plan.given.events, index, half) {
+        let number = plan.numbering.number(&plan.given, child) as u64;
         if !try_put_number(sink, plan.width, number) {
             put_number(sink, plan.width, number)?;
         }
@@ -53,25 +49,24 @@ fn put_half<W: Write>(
 // Puts the object of the collection that begins at an index.
 fn put_collection<W: Write>(
     sink: &mut Sink<'_, W>,
-    given: &Classed<'_, '_>,
-    plan: &FilePlan,
+    plan: &FilePlan<'_, '_>,
     index: usize,
     kind: CountedKind,
 ) -> Result<(), Error>
-    requires plan { IsFilePlan given.now plan.now }
-    requires index { index < length (events_in given.now) }
+    requires plan { IsFilePlan plan.now }
+    requires index { index < length (events_in plan.now.given) }
     ensures { Puts W.contents sink.old
-        (length_form (high_half kind) (length (half_of (events_in given.now) Values index))
-        ++ (references_of given.now plan.now Keys index
-        ++ references_of given.now plan.now Values index)) result sink.new }
+        (length_form (high_half kind) (length (half_of (events_in plan.now.given) Values index))
+        ++ (references_of plan.now Keys index
+        ++ references_of plan.now Values index)) result sink.new }
 {
     put_length(
         sink,
         kind,
-        count_children(given.events, index, Half::Values) as u64,
+        count_children(plan.given.events, index, Half::Values) as u64,
     )?;
-    put_half(sink, given, plan, index, Half::Keys)?;
-    put_half(sink, given, plan, index, Half::Values)
+    put_half(sink, plan, index, Half::Keys)?;
+    put_half(sink, plan, index, Half::Values)
 }
 
 // Puts the object of the scalar at an index, if it surely fits into the buffer and isn't a string
@@ -96,48 +91,96 @@ fn try_put_object<W: Write>(sink: &mut Sink<'_, W>, events: &EventTable<'_>, ind
 // Puts the object of the tree that begins at an index.
 fn put_object<W: Write>(
     sink: &mut Sink<'_, W>,
-    given: &Classed<'_, '_>,
-    plan: &FilePlan,
+    plan: &FilePlan<'_, '_>,
     index: usize,
 ) -> Result<(), Error>
-    requires plan { IsFilePlan given.now plan.now }
-    requires index { index < length (events_in given.now) }
-    ensures { (tree : Tree) → OccursAt (events_in given.now) tree index
+    requires plan { IsFilePlan plan.now }
+    requires index { index < length (events_in plan.now.given) }
+    ensures { (tree : Tree) → OccursAt (events_in plan.now.given) tree index
         → Puts W.contents sink.old (form plan.now.width
-        (object_of (object_number given.now plan.now.numbering) tree index)) result sink.new }
+        (object_of (number_in plan.now) tree index)) result sink.new }
 {
-    match given.events.kind_at(index) {
-        EventShape::StartArray => put_collection(sink, given, plan, index, CountedKind::Array),
-        EventShape::StartDictionary => put_collection(
-            sink,
-            given,
-            plan,
-            index,
-            CountedKind::Dictionary,
-        ),
-        EventShape::Scalar | EventShape::EndCollection => match given.events.scalar_at(index) {
+    match plan.given.events.kind_at(index) {
+        EventShape::StartArray => put_collection(sink, plan, index, CountedKind::Array),
+        EventShape::StartDictionary => put_collection(sink, plan, index, CountedKind::Dictionary),
+        EventShape::Scalar | EventShape::EndCollection => match plan.given.events.scalar_at(index) {
             Some(scalar) => put_scalar(sink, scalar),
             None => Ok(()),
         },
     }
 }
 
-/// Puts all objects of a planned file, in the order of the plan. An error is that of [`Sink::put`].
+// Puts the object of the event at an index and stores its offset, unless it was put before.
+#[inline(always)]
+fn put_first<W: Write>(
+    sink: &mut Sink<'_, W>,
+    plan: &FilePlan<'_, '_>,
+    places: &mut [u64],
+    index: usize,
+) -> Result<(), Error>
+    requires plan { IsFilePlan plan.now }
+    requires item { HasItem (events_in plan.now.given) index }
+    requires long { length places.old ≡ plan.now.numbering.count }
+    ensures { PutsAt plan.now W.contents index (places.old, sink.old) (answer_of result)
+        (places.new, sink.new) }
+{
+    let number = plan.numbering.number(&plan.given, index);
+    if places[number] != 0 {
+        return Ok(());
+    }
+    // No offset is 2^64 or more.
+    places[number] = sink.position().unwrap_or(u64::MAX);
+    if try_put_object(sink, plan.given.events, index) {
+        return Ok(());
+    }
+    put_object(sink, plan, index)
+}
+
+// Puts the object of the event at an index, and then those of its keys, unless they were put before.
+// An end has no object.
+fn put_here<W: Write>(
+    sink: &mut Sink<'_, W>,
+    plan: &FilePlan<'_, '_>,
+    places: &mut [u64],
+    index: usize,
+) -> Result<(), Error>
+    requires plan { IsFilePlan plan.now }
+    requires index { index < length (events_in plan.now.given) }
+    requires long { length places.old ≡ plan.now.numbering.count }
+    ensures { PutsAt plan.now W.contents index (places.old, sink.old) (answer_of result)
+        (places.new, sink.new) }
+{
+    match plan.given.events.kind_at(index) {
+        EventShape::EndCollection => Ok(()),
+        EventShape::Scalar | EventShape::StartArray => put_first(sink, plan, places, index),
+        EventShape::StartDictionary => {
+            put_first(sink, plan, places, index)?;
+            for key in Children::new(plan.given.events, index, Half::Keys) {
+                put_first(sink, plan, places, key)?;
+            }
+            Ok(())
+        }
+    }
+}
+
+/// Puts all objects of a planned file into a sink, and stores the offset of each. `places` has one
+/// number for each object, all of which are 0. The objects are put in the order of their first
+/// events, except that the keys of a dictionary precede its values. An error is that of
+/// [`Sink::put`].
 pub fn put_objects<W: Write>(
     sink: &mut Sink<'_, W>,
-    given: &Classed<'_, '_>,
-    plan: &FilePlan,
+    plan: &FilePlan<'_, '_>,
+    places: &mut [u64],
 ) -> Result<(), Error>
-    requires { IsFilePlan given.now plan.now }
-    ensures { (objects : ℕ → Object) → AreObjectsOf given.now plan.now objects
-        → Puts W.contents sink.old
-        (object_table plan.now.width objects (numbers_in given.now plan.now)) result sink.new }
+    requires plan { IsFilePlan plan.now }
+    requires long { length places.old ≡ plan.now.numbering.count }
+    ensures { (start : Sink W) → HasPut start 0
+        → ArePut plan.now W.contents start places.old (Ok tt) sink.old
+        → ArePut plan.now W.contents start places.new (answer_of result) sink.new
+        × OnOk result ((k : ℕ) → k < plan.now.numbering.count → slice_index places.new k ≢ 0) }
 {
-    for index in 0..plan.order.len() {
-        let first = plan.order.get(index);
-        if !try_put_object(sink, given.events, first) {
-            put_object(sink, given, plan, first)?;
-        }
+    for index in 0..plan.given.events.len() {
+        put_here(sink, plan, places, index)?;
     }
     Ok(())
 }

@@ -1,17 +1,16 @@
 //! Plans and writes the file of a whole property list.
 
-ghost use Rattle.std.specs.Prelude.{◌≡◌, ℕ, []};
+ghost use Rattle.std.specs.Prelude.{◌≡◌, [], replicate};
 ghost use Rattle.plist_base.specs.Bracketing.{AreTreeEvents};
 ghost use Rattle.plist_base.specs.Outcomes.{OnlyDevice};
-ghost use Rattle.plist_base.specs.Sinks.{IsSameSink, Puts, pending};
+ghost use Rattle.plist_base.specs.Sinks.{HasPut, IsSameSink, pending};
 ghost use Rattle.plist_base.specs.Writing.{answer_of};
 ghost use Rattle.plist_binwrite.specs.Classes.{files_by};
 ghost use Rattle.plist_binwrite.specs.EventClasses.{IsClassed, class_in, events_in};
 ghost use Rattle.plist_buffer.specs.EventTable.{plain_events};
 ghost use Rattle.plist_binwrite.specs.Files.{least_files};
 ghost use Rattle.plist_binwrite.specs.SendingAs.{SendsAs};
-ghost use Rattle.plist_binwrite.specs.inner.Layout.{AreObjectsOf, IsFilePlan, file_of};
-ghost use Rattle.plist_format.specs.Object.{Object};
+ghost use Rattle.plist_binwrite.specs.inner.Layout.{IsFilePlan, PutsFile};
 
 use crate::classes::{Classed, Classes};
 use crate::forms::put_table_and_trailer;
@@ -22,37 +21,43 @@ use plist_buffer::event_table::EventTable;
 use std::alloc::Global;
 use std::io::Write;
 
-// Puts a planned file.
+// Puts a planned file into a sink into which no byte was put. `places` has one number for each
+// object, all of which are 0.
 fn put_file<W: Write>(
     sink: &mut Sink<'_, W>,
-    given: &Classed<'_, '_>,
-    plan: &FilePlan,
+    plan: &FilePlan<'_, '_>,
+    places: &mut [u64],
 ) -> Result<(), Error>
-    requires plan { IsFilePlan given.now plan.now }
-    ensures { (objects : ℕ → Object) → AreObjectsOf given.now plan.now objects
-        → Puts W.contents sink.old (file_of given.now plan.now objects) result sink.new }
+    requires plan { IsFilePlan plan.now }
+    requires zeros { places.old ≡ replicate plan.now.numbering.count 0 }
+    requires start { HasPut sink.old 0 }
+    ensures { PutsFile plan.now W.contents sink.old (answer_of result) sink.new }
 {
     sink.put(b"bplist00")?;
-    put_objects(sink, given, plan)?;
-    put_table_and_trailer(sink, &plan.places, plan.table())
+    put_objects(sink, plan, places)?;
+    // No offset is 2^64 or more.
+    let table = sink.position().unwrap_or(u64::MAX);
+    put_table_and_trailer(sink, places, table)
 }
 
 // Puts a planned file into a sink without pending bytes, and then writes what is pending and
 // flushes the writer. The call allocates no memory.
 fn send_plan<W: Write>(
     sink: &mut Sink<'_, W>,
-    given: &Classed<'_, '_>,
-    plan: &FilePlan,
+    plan: &FilePlan<'_, '_>,
+    places: &mut [u64],
 ) -> Result<(), Error>
-    requires whole { AreTreeEvents (events_in given.now) }
-    requires plan { IsFilePlan given.now plan.now }
+    requires whole { AreTreeEvents (events_in plan.now.given) }
+    requires plan { IsFilePlan plan.now }
+    requires zeros { places.old ≡ replicate plan.now.numbering.count 0 }
+    requires start { HasPut sink.old 0 }
     requires empty { pending sink.old ≡ [] }
-    ensures sent { SendsAs (files_by (class_in given.now)) W.contents (events_in given.now)
-        (answer_of result) sink.old.writer.now sink.new.writer.now }
+    ensures sent { SendsAs (files_by (class_in plan.now.given)) W.contents
+        (events_in plan.now.given) (answer_of result) sink.old.writer.now sink.new.writer.now }
     ensures device { OnlyDevice result }
     ensures same { IsSameSink sink.old sink.new }
 {
-    put_file(sink, given, plan)?;
+    put_file(sink, plan, places)?;
     sink.finish()
 }
 
@@ -70,18 +75,19 @@ fn send_plan<W: Write>(
 /// written, and all of it if the flush failed. No error has an offset.
 pub fn write_file_by_class<W: Write>(
     alloc: Global,
-    given: &Classed<'_, '_>,
+    given: Classed<'_, '_>,
     writer: &mut W,
 ) -> Result<(), Error>
-    requires whole { AreTreeEvents (events_in given.now) }
-    requires classed { IsClassed given.now }
-    ensures { SendsAs (files_by (class_in given.now)) W.contents (events_in given.now)
+    requires whole { AreTreeEvents (events_in given) }
+    requires classed { IsClassed given }
+    ensures { SendsAs (files_by (class_in given.entry)) W.contents (events_in given.entry)
         (answer_of result) writer.old writer.new }
 {
     let mut buffer = FixedBuffer::new(alloc)?;
     let plan = plan_file(alloc, given)?;
+    let mut places = vec![in alloc; 0u64; plan.numbering.count]?;
     let mut sink = Sink::new(&mut buffer, writer);
-    send_plan(&mut sink, given, &plan)
+    send_plan(&mut sink, &plan, &mut places)
 }
 
 /// Plans the file of a whole property list's events, writes it and flushes the writer. The file has
@@ -104,5 +110,5 @@ pub fn write_file<W: Write>(
         events,
         classes: &Classes::EqualScalars,
     };
-    write_file_by_class(alloc, &given, writer)
+    write_file_by_class(alloc, given, writer)
 }

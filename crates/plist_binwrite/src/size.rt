@@ -1,15 +1,16 @@
 //! Computes the lengths of objects and of the file in bytes, before any byte is written. A length
 //! of 2^64 or more is `None`.
 
-ghost use Rattle.std.specs.Prelude.{◌≡◌, ◌+◌, ◌*◌, ◌≤◌, ◌<◌, ◌^◌, ℕ, length, true, false, None};
+ghost use Rattle.std.specs.Prelude.{◌≡◌, ◌+◌, ◌*◌, ◌≤◌, ◌<◌, ◌^◌, ℕ, length, true, false};
 ghost use Rattle.plist_base.specs.Events.{ScalarEvent};
 ghost use Rattle.plist_base.specs.Trees as trees;
-ghost use Rattle.plist_base.specs.Trees.{Scalar, Tree};
+ghost use Rattle.plist_base.specs.Trees.{Scalar};
 ghost use Rattle.plist_buffer.specs.Children.{half_of};
 ghost use Rattle.plist_buffer.specs.EventTable.{plain_events, table_event};
 ghost use Rattle.plist_binwrite.specs.Forms.{IsWritableScalar, unsigned_form, length_form, scalar_form};
-ghost use Rattle.plist_buffer.specs.Occurrences.{OccursAt};
-ghost use Rattle.plist_binwrite.specs.Sizes.{IsSizeOrNone, object_size, size_with};
+ghost use Rattle.plist_base.specs.Sinks.{IsSizeOrNone};
+ghost use Rattle.plist_binwrite.specs.Sizes.{size_with};
+ghost use Rattle.plist_binwrite.specs.inner.ObjectSizes.{AreSizes, fixed_at, references_at};
 ghost use Rattle.plist_buffer.specs.StoredScalars.{scalar_of_ref};
 
 use crate::text::{count_units, is_ascii_text};
@@ -24,9 +25,17 @@ use plist_format::LowHalf;
 pub fn add(length: Option<u64>, more: Option<u64>) -> Option<u64>
     ensures sum { (a b : ℕ) → IsSizeOrNone length a → IsSizeOrNone more b
         → IsSizeOrNone result (a + b) }
-    ensures none { length ≡ None → result ≡ None }
 {
     length?.checked_add(more?)
+}
+
+// Returns the product of a length and a factor that isn't 0, or `None` if it is 2^64 or more, or if
+// the length is `None`.
+fn times(length: Option<u64>, factor: u64) -> Option<u64>
+    requires { 1 ≤ factor }
+    ensures { (size : ℕ) → IsSizeOrNone length size → IsSizeOrNone result (size * factor) }
+{
+    length?.checked_mul(factor)
 }
 
 // Returns the length of an unsigned integer with its marker, in bytes.
@@ -117,15 +126,6 @@ fn length_of_scalar(scalar: ScalarRef<'_>) -> Option<u64>
     }
 }
 
-// Returns the length of a collection's object in bytes, or `None` if it is 2^64 or more. The
-// object is a marker with this count, followed by `references` references of `width` bytes each.
-fn length_of_collection(count: u64, references: u64, width: u64) -> Option<u64>
-    ensures value { (high : ℕ) → IsSizeOrNone result (length (length_form high count)
-        + references * width) }
-{
-    add(Some(length_of_count(count)), references.checked_mul(width))
-}
-
 /// Returns the number of children in one half of the collection that begins at an index.
 pub fn count_children(events: &EventTable<'_>, index: usize, half: Half) -> usize
     requires { index < length (plain_events events.now) }
@@ -134,27 +134,81 @@ pub fn count_children(events: &EventTable<'_>, index: usize, half: Half) -> usiz
     Children::new(events, index, half).count()
 }
 
-/// Returns the size of the object of the tree that begins at an index, if each reference has
-/// `width` bytes.
-pub fn size_of_object(events: &EventTable<'_>, width: usize, index: usize) -> Option<u64>
+/// The size of objects in bytes, if the width of a reference isn't known yet.
+#[derive(Clone, Copy)]
+pub struct ObjectSizes {
+    /// The bytes of markers, lengths and contents, or `None` if they are 2^64 or more.
+    pub fixed: Option<u64>,
+    /// The number of references, or `None` if it is 2^64 or more.
+    pub references: Option<u64>,
+}
+
+impl ObjectSizes {
+    ghost use Rattle.std.specs.Prelude.{◌+◌, ◌*◌, ◌≤◌, ℕ};
+    ghost use Rattle.plist_base.specs.Sinks.{IsSizeOrNone};
+    ghost use Rattle.plist_binwrite.specs.inner.ObjectSizes.{AreSizes};
+
+    /// Returns the size of no objects.
+    pub fn none() -> ObjectSizes
+        ensures { AreSizes result 0 0 }
+    {
+        ObjectSizes {
+            fixed: Some(0),
+            references: Some(0),
+        }
+    }
+
+    /// Returns the size of these objects and others together.
+    pub fn plus(self, other: ObjectSizes) -> ObjectSizes
+        ensures { (a b c d : ℕ) → AreSizes self a b → AreSizes other c d
+            → AreSizes result (c + a) (d + b) }
+    {
+        ObjectSizes {
+            fixed: add(other.fixed, self.fixed),
+            references: add(other.references, self.references),
+        }
+    }
+
+    /// Returns the number of bytes if a reference has `width` bytes, or `None` if it is 2^64 or
+    /// more.
+    pub fn with_width(self, width: usize) -> Option<u64>
+        requires { 1 ≤ width }
+        ensures { (fixed references : ℕ) → AreSizes self fixed references
+            → IsSizeOrNone result (fixed + references * width) }
+    {
+        add(self.fixed, times(self.references, width as u64))
+    }
+}
+
+/// Returns the size of the object of the event at an index. An end has no object.
+pub fn size_of_object(events: &EventTable<'_>, index: usize) -> ObjectSizes
     requires index { index < length (plain_events events.now) }
-    ensures size { (t : Tree) → OccursAt (plain_events events.now) t index
-        → IsSizeOrNone result (object_size width t) }
+    ensures size { AreSizes result (fixed_at (plain_events events.now) index)
+        (references_at (plain_events events.now) index) }
     ensures writable { (x : Scalar) → table_event events.now index ≡ ScalarEvent x
         → IsWritableScalar x }
 {
     match events.kind_at(index) {
         EventShape::StartArray => {
             let count = count_children(events, index, Half::Values) as u64;
-            length_of_collection(count, count, width as u64)
+            ObjectSizes {
+                fixed: Some(length_of_count(count)),
+                references: Some(count),
+            }
         }
         EventShape::StartDictionary => {
             let count = count_children(events, index, Half::Values) as u64;
-            length_of_collection(count, 2 * count, width as u64)
+            ObjectSizes {
+                fixed: Some(length_of_count(count)),
+                references: Some(2 * count),
+            }
         }
-        EventShape::Scalar | EventShape::EndCollection => match events.scalar_at(index) {
-            Some(scalar) => length_of_scalar(scalar),
-            None => Some(0),
+        EventShape::Scalar | EventShape::EndCollection => ObjectSizes {
+            fixed: match events.scalar_at(index) {
+                Some(scalar) => length_of_scalar(scalar),
+                None => Some(0),
+            },
+            references: Some(0),
         },
     }
 }
@@ -167,16 +221,16 @@ fn size_of_file(table: u64, count: u64) -> Option<u64>
     add(add(Some(table), offsets), Some(32))
 }
 
-/// Returns whether a file with `count` objects, whose offset table lies at `table`, or at 2^64 or
-/// more if that is `None`, has less than 2^64 bytes. The call allocates no memory.
-pub fn has_size(table: Option<u64>, count: u64) -> bool
-    ensures fits { result ≡ true → (objects : ℕ) → IsSizeOrNone table (8 + objects)
-        → size_with count objects < 2 ^ 64 }
-    ensures oversized { result ≡ false → (objects : ℕ) → IsSizeOrNone table (8 + objects)
-        → 2 ^ 64 ≤ size_with count objects }
+/// Returns whether a file with `count` objects, which have `objects` bytes together, has less than
+/// 2^64 bytes. The call allocates no memory.
+pub fn has_size(objects: Option<u64>, count: u64) -> bool
+    ensures fits { result ≡ true → (size : ℕ) → IsSizeOrNone objects size
+        → size_with count size < 2 ^ 64 }
+    ensures oversized { result ≡ false → (size : ℕ) → IsSizeOrNone objects size
+        → 2 ^ 64 ≤ size_with count size }
 {
-    match table {
-        Some(place) => size_of_file(place, count).is_some(),
+    match add(objects, Some(8)) {
+        Some(table) => size_of_file(table, count).is_some(),
         None => false,
     }
 }

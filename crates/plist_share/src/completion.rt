@@ -29,6 +29,6 @@ impl Sharing for EqualTrees {
             events,
             classes: &classes,
         };
-        write_file_by_class(alloc, &given, writer)
+        write_file_by_class(alloc, given, writer)
     }
 }

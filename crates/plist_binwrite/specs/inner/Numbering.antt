@@ -8,6 +8,7 @@ use Rattle.plist_binwrite.specs.Classes.{AreClasses}
 use Rattle.plist_binwrite.specs.EventClasses.{IsListed, class_in, events_in}
 use Rattle.plist_binwrite.specs.declared.classes.Classed.{Classed}
 use Rattle.plist_binwrite.specs.declared.numbering.Numbering.{Numbering}
+use Rattle.plist_binwrite.specs.inner.ObjectSizes.{AreSizesOf}
 
 -- 1 more than the number of an event's object, or 0 if that has no number yet
 abbrev pub stored_by : (class : ℕ → ℕ) (by_class : List ℕ) → (index : ℕ) → ℕ
@@ -48,16 +49,18 @@ module _ (given : Classed) where
   abbrev pub IsNumbered : Numbering → (index : ℕ) → Type 0
   IsNumbered numbering index = 0 < stored_by (class_in given) numbering.by_class index
 
-  -- all objects of a tree's events have numbers
+  -- all objects of a tree's events have numbers, and their sizes are known
   pub record IsNumberingOfEvents (numbering : Numbering) : Type 0 where
     pub listed : IsListed given
     pub planned : IsPlanned (events_in given) (class_in given) numbering.by_class numbering.count
     pub open planned use *
+    pub sizes : AreSizesOf (events_in given) planned.numbered.first numbering.count numbering.sizes
 
-  -- the classes are as many as the list says, and the numbers so far follow the classes
+  -- the classes are as many as the list says, and the numbers and sizes so far follow the classes
   pub record IsNumberedSoFar (found : Numbering) : Type 0 where
     pub listed : IsListed given
     pub plan : IsPlan (events_in given) (class_in given) found.by_class found.count
+    pub sizes : AreSizesOf (events_in given) plan.first found.count found.sizes
 
   -- the objects of the events at these indices have numbers now, and each object that had a number
   -- keeps it

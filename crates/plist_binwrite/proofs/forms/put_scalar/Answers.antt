@@ -17,4 +17,4 @@ returns-in-Data g c =
 pub returns-in-Date : goal.returns-in-Date
 returns-in-Date g c =
     rw c.in-Date.is (puts_then c.in_ok-make_room.ensures.put
-    (puts_pending (record { writer = refl; buffer = refl }) refl c.push_date.ensures.pushed))
+    (puts_pending (record { writer = refl; buffer = refl }) refl c.push_date.ensures.pushed refl))

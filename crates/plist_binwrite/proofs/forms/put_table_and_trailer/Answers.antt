@@ -9,4 +9,4 @@ returns-in_err-put_numbers g c =
 pub returns : goal.returns
 returns g c =
     puts_then (rw c.offset_width-width.ensures.value at c.in_ok-put_numbers.ensures)
-    (rw c.len.ensures at c.put_trailer.ensures)
+    c.put_trailer.ensures

@@ -11,10 +11,10 @@ use Rattle.plist_binwrite.proofs.objects.put_half.Goals as goal
 use Rattle.plist_binwrite.proofs.objects.put_half.Goals.{After-into_iter-child-iterator as Begun, In-Some as Next}
 
 begun : (g : _) (c : Begun g) → indices_left c.into_iter-child-iterator.result
-    ≡ half_of (events_in c.args.given.now) c.args.half c.args.index
+    ≡ half_of (events_in c.args.plan.now.given) c.args.half c.args.index
 begun g c = cc (c.into_iter-child-iterator.ensures.into_iter_gives, c.new-child-items.ensures)
 
-items : (g : _) (c : Next g) → AllByRecursion (HasItem (events_in c.args.given.now))
+items : (g : _) (c : Next g) → AllByRecursion (HasItem (events_in c.args.plan.now.given))
     (c.in-Some.child ∷ indices_left c.next.new.self)
 items g c = subst (AllByRecursion (HasItem _)) c.in-Some.ensures.steps c.loop-child.invariant.items
 
@@ -29,7 +29,7 @@ loop-child-init g c = record {
 -- the remaining references, with the next one
 abbrev rest : (g : _) (c : Next g) → List ℕ → List ℕ
 rest g c l = table_form c.args.plan.now.width
-    (map (object_number c.args.given.now c.args.plan.now.numbering) l)
+    (map (object_number c.args.plan.now.given c.args.plan.now.numbering) l)
 
 pub loop-child-preserved : goal.loop-child-preserved
 loop-child-preserved g c =
@@ -68,6 +68,6 @@ returns-in_err-put_number g c =
 pub returns : goal.returns
 returns g c =
     let all : List ℕ → List ℕ = λ l. table_form c.args.plan.now.width
-    (map (object_number c.args.given.now c.args.plan.now.numbering) l) in
+    (map (object_number c.args.plan.now.given c.args.plan.now.numbering) l) in
     puts_as (ap all (begun g (goal.at.returns g c).After-into_iter-child-iterator))
     (c.loop-child.invariant.put _ _ (puts_as (ap all (sym c.in-None.ensures.steps.0)) puts_none))

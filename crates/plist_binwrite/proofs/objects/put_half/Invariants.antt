@@ -10,9 +10,9 @@ use Rattle.plist_binwrite.proofs.objects.put_half.Given as goal
 
 abbrev pub invariant-loop-child : goal.invariant-loop-child
 invariant-loop-child g l = record {
-  put : PutsRest g.W.Write.contents (object_number l.given l.plan.numbering) l.plan.width l.initial.sink
+  put : PutsRest g.W.Write.contents (object_number l.plan.given l.plan.numbering) l.plan.width l.initial.sink
       (table_form l.plan.width
-      (map (object_number l.given l.plan.numbering) (indices_left l.initial.child-iterator)))
+      (map (object_number l.plan.given l.plan.numbering) (indices_left l.initial.child-iterator)))
       l.sink (indices_left l.child-iterator);
-  items : AllByRecursion (HasItem (events_in l.given)) (indices_left l.child-iterator);
+  items : AllByRecursion (HasItem (events_in l.plan.given)) (indices_left l.child-iterator);
 }

@@ -6,12 +6,12 @@ use Rattle.plist_binwrite.proofs.objects.put_object.Goals as goal
 pub returns-in-StartArray : goal.returns-in-StartArray
 returns-in-StartArray g c =
     of_array c.kind_at.ensures _ c.in-StartArray.is
-    (λ ts s. puts_as (array_is c.args.given.now c.args.plan.now s) c.put_collection.ensures)
+    (λ ts s. puts_as (array_is c.args.plan.now s) c.put_collection.ensures)
 
 pub returns-in-StartDictionary : goal.returns-in-StartDictionary
 returns-in-StartDictionary g c =
     of_dictionary c.kind_at.ensures _ c.in-StartDictionary.is
-    (λ ms s. puts_as (dictionary_is c.args.given.now c.args.plan.now s) c.put_collection-in-StartDictionary.ensures)
+    (λ ms s. puts_as (dictionary_is c.args.plan.now s) c.put_collection-in-StartDictionary.ensures)
 
 pub returns-in-None : goal.returns-in-None
 returns-in-None g c =

@@ -1,59 +1,35 @@
-use Rattle.std.proofs.Common.{◌<◌, ◌∙◌, length, map, ap, arith, sym}
-use Rattle.std.proofs.lemmas.List.{length-map, take_all}
-use Rattle.plist_binwrite.specs.Forms.{form}
-use Rattle.plist_base.proofs.SinkSteps.{puts_after, puts_then, puts_refused, puts_as}
-use Rattle.plist_binwrite.proofs.NumberLists.{one_part, all_parts}
-use Rattle.plist_binwrite.specs.inner.Layout.{numbers_in}
-use Rattle.plist_binwrite.specs.inner.Numbering.{object_number}
-use Rattle.plist_binwrite.proofs.ObjectOffsets.{described}
-use Rattle.plist_binwrite.proofs.TreeObjects.{scalar_there}
+use Rattle.std.proofs.Common.{◌≢◌, arith, below_more, get_or, subst, ◌∙◌}
+use Rattle.std.proofs.lemmas.Result.{err_from_is_err_and}
+use Rattle.plist_binwrite.proofs.NumberingSteps.{known_number}
 use Rattle.plist_binwrite.proofs.objects.put_objects.Goals as goal
-use Rattle.plist_binwrite.proofs.objects.put_objects.Goals.{then-not-try_put_object+in_ok-put_object, else-not-try_put_object}
 
 pub loop-index-preserved : goal.loop-index-preserved
-loop-index-preserved g c = λ objects d.
-    let plan = c.args.plan.now in
-    let i = c.loop-index.index in
-    let within : i < length plan.order =
-    omega (arith, c.loop-index-test.true, c.len-index-end.ensures) in
-    let u = described c.requires.numbered.whole objects d plan.order c.requires.items i _ within
-    c.get-first.ensures in
-    let numbers = numbers_in c.args.given.now plan in
-    let here : i < length numbers =
-    omega (arith, length-map plan.order (object_number c.args.given.now plan.numbering), within) in
-    puts_as (one_part (λ k. form plan.width (objects k)) numbers i here)
-    (puts_then (c.loop-index.invariant objects d) (elim c.if-not-try_put_object.branch [
-      | then-not-try_put_object+in_ok-put_object w ↦ rw w.sink-is
-          (puts_after (c.try_put_object.ensures.unchanged w.if-not-try_put_object.true)
-          (rw (← u.2) at (w.in_ok-put_object.ensures u.0 u.1)))
-      | else-not-try_put_object w ↦
-          let put = c.try_put_object.ensures.put w.if-not-try_put_object.false in
-          rw w.sink-is
-          (puts_as (scalar_there _ plan.width put.0 put.1 u.0 u.1
-          ∙ ap (form plan.width) (sym u.2)) put.2)
-    ]))
+loop-index-preserved g c =
+    let one = c.in_ok-put_here.ensures in
+    record {
+      long = one.long ∙ c.loop-index.invariant.long;
+      put = λ start none put.
+          let before = c.loop-index.invariant.put start none put in
+          let after = one.step start none before.0 in (
+            after.0,
+            below_more _ _ (λ p lt item. after.1 _ (before.1 p lt item)) after.2,
+          );
+    }
 
-pub returns-in_err-put_object : goal.returns-in_err-put_object
-returns-in_err-put_object g c = λ objects d.
-    let plan = c.args.plan.now in
-    let i = c.loop-index.index in
-    let within : i < length plan.order =
-    omega (arith, c.loop-index-test.true, c.len-index-end.ensures) in
-    let u = described c.requires.numbered.whole objects d plan.order c.requires.items i _ within
-    c.get-first.ensures in
-    let numbers = numbers_in c.args.given.now plan in
-    let here : i < length numbers =
-    omega (arith, length-map plan.order (object_number c.args.given.now plan.numbering), within) in
-    puts_as (all_parts (λ k. form plan.width (objects k)) numbers i here)
-    (puts_refused _ _ _ c.from_residual.ensures.1
-    (puts_then (c.loop-index.invariant objects d)
-    (puts_after (c.try_put_object.ensures.unchanged c.if-not-try_put_object.true)
-    (rw (← u.2) at (c.in_err-put_object.ensures u.0 u.1)))))
+pub returns-in_err-put_here : goal.returns-in_err-put_here
+returns-in_err-put_here g c = λ start none put.
+    let p = err_from_is_err_and c.from_residual.result c.from_residual.ensures.1 in
+    let before = c.loop-index.invariant.put start none put in
+    rw (p.1, p.2) ((c.in_err-put_here.ensures.step start none before.0).0, tt)
 
 pub returns : goal.returns
-returns g c = λ objects d.
-    let plan = c.args.plan.now in
-    let number = object_number c.args.given.now plan.numbering in
-    rw (take_all c.loop-index.index (map number plan.order)
-    (omega (arith, c.loop-index-test.false, c.len-index-end.ensures, length-map plan.order number)))
-    at (c.loop-index.invariant objects d)
+returns g c = λ start none put.
+    let planned = c.requires.plan.numbered.planned in
+    let after = c.loop-index.invariant.put start none put in (
+      after.0,
+      λ k h.
+          let known = planned.numbered.known k h in
+          subst (λ n. get_or c.loop-index.places n 0 ≢ 0) (known_number planned.numbered k h)
+          (after.1 _ (omega (arith, known.0.0, c.loop-index-test.false, c.len-index-end.ensures))
+          known.0),
+    )

@@ -1,11 +1,16 @@
-use Rattle.std.proofs.Common.{ℕ, take, Ok}
-use Rattle.plist_format.specs.Object.{Object}
-use Rattle.plist_base.specs.Sinks.{PutsBytes}
-use Rattle.plist_binwrite.specs.inner.Layout.{AreObjectsOf, numbers_in}
-use Rattle.plist_binwrite.specs.Written.{object_table}
+use Rattle.std.proofs.Common.{◌≡◌, ◌<◌, ℕ, Ok, length}
+use Rattle.plist_base.specs.Sinks.{HasPut}
+use Rattle.plist_base.specs.declared.sink.Sink.{Sink}
+use Rattle.plist_binwrite.specs.EventClasses.{events_in}
+use Rattle.plist_buffer.specs.EventTable.{HasItem}
+use Rattle.plist_binwrite.specs.inner.Layout.{ArePut, HasPlace}
 use Rattle.plist_binwrite.proofs.objects.put_objects.Given as goal
 
 abbrev pub invariant-loop-index : goal.invariant-loop-index
-invariant-loop-index g l = (objects : ℕ → Object) → AreObjectsOf l.given l.plan objects
-    → PutsBytes g.W.Write.contents l.initial.sink
-    (object_table l.plan.width objects (take l.index (numbers_in l.given l.plan))) (Ok tt) l.sink
+invariant-loop-index g l = record {
+  long : length l.places ≡ l.plan.numbering.count;
+  put : (start : Sink g.row.W.Denot) → HasPut start 0
+      → ArePut l.plan g.W.Write.contents start l.fn.places (Ok tt) l.fn.sink
+      → ArePut l.plan g.W.Write.contents start l.places (Ok tt) l.sink
+      × ((p : ℕ) → p < l.index → HasItem (events_in l.plan.given) p → HasPlace l.plan l.places p);
+}

@@ -9,15 +9,15 @@ use Rattle.plist_binwrite.proofs.send_file.write_file_by_class.Goals as goal
 
 pub returns : goal.returns
 returns g c =
-    let given = c.args.given.now in
+    let given = c.args.given in
     subst (λ w. SendsAs (files_by (class_in given)) g.W.Write.contents (events_in given)
     (answer_of c.send_plan.result) c.args.writer.now w)
     (search rules)
-    (rw c.new-sink.ensures.unwritten at c.send_plan.ensures.sent)
+    (rw (c.new-sink.ensures.unwritten, c.in_ok-plan.ensures.plan.1) at c.send_plan.ensures.sent)
 
 pub returns-in_err-plan : goal.returns-in_err-plan
 returns-in_err-plan g c =
     let p = err_from_is_err_and c.from_residual-in_err-plan.result
     c.from_residual-in_err-plan.ensures.1 in
-    rw (p.1, p.2) (sends_nothing g.W.Write.contents c.args.given.now _ _ _
+    rw (p.1, p.2) (sends_nothing g.W.Write.contents c.args.given _ _ _
     c.in_err-plan.ensures.refused (search rules))

@@ -1,7 +1,7 @@
 use Rattle.std.proofs.Common.{◌≡◌, get_or, ap, sym, ◌∙◌, arith}
 use Rattle.plist_binwrite.specs.inner.Numbering.{stored_by}
 use Rattle.plist_binwrite.specs.EventClasses.{class_in}
-use Rattle.plist_binwrite.proofs.NumberingSteps.{kept_more, numbered_more, plan_more}
+use Rattle.plist_binwrite.proofs.NumberingSteps.{kept_more, numbered_more, plan_more, sizes_more}
 use Rattle.plist_binwrite.proofs.numbering.Numbering.number_one.Goals as goal
 
 pub returns-clause-numbers : goal.returns-clause-numbers
@@ -17,6 +17,8 @@ returns-clause-numbers c =
       so_far = record {
         listed = c.requires.so_far.listed;
         plan = plan_more plan c.args.index item none c.in-Some.ensures.0;
+        sizes = sizes_more plan c.args.index item none c.in-Some.ensures.0 c.requires.so_far.sizes
+            c.size_of_object.ensures.size c.size_of_object.ensures.writable c.plus-self.ensures;
       };
       keeps = kept_more plan c.args.index item none c.in-Some.ensures.0;
       numbered = (numbered_more plan c.args.index item none c.in-Some.ensures.0, tt);

@@ -1,0 +1,39 @@
+use Rattle.std.proofs.Common.{◌≡◌, Err, Ok, sym, subst}
+use Rattle.std.proofs.lemmas.Result.{err_from_is_err_and}
+use Rattle.std.specs.List.{AllByRecursion}
+use Rattle.plist_buffer.specs.Children.{half_of, indices_left}
+use Rattle.plist_binwrite.specs.EventClasses.{events_in}
+use Rattle.plist_buffer.specs.EventTable.{HasItem}
+use Rattle.plist_buffer.specs.declared.children.Half.TheVariants.{Keys}
+use Rattle.plist_buffer.proofs.ChildIndices.{are_items}
+use Rattle.plist_binwrite.proofs.ObjectOffsets.{puts_both}
+use Rattle.plist_binwrite.proofs.objects.put_here.Goals as goal
+use Rattle.plist_binwrite.proofs.objects.put_here.Goals.{After-into_iter-key-iterator as Begun}
+
+begun : (g : _) (c : Begun g) → indices_left c.into_iter-key-iterator.result
+    ≡ half_of (events_in c.args.plan.now.given) Keys c.args.index
+begun g c = cc (c.into_iter-key-iterator.ensures.into_iter_gives, c.new-key-items.ensures)
+
+pub loop-key-init : goal.loop-key-init
+loop-key-init g c = record {
+  put = c.in_ok-put_first-in-StartDictionary.ensures;
+  items = subst (AllByRecursion (HasItem _))
+      (sym (begun g (goal.at.loop-key-init g c).After-into_iter-key-iterator))
+      (are_items _ Keys c.args.index);
+}
+
+pub loop-key-preserved : goal.loop-key-preserved
+loop-key-preserved g c =
+    let i = c.loop-key.invariant in
+    record {
+      put = puts_both (Ok tt) i.put c.in_ok-put_first-in-StartDictionary-2.ensures;
+      items = (subst (AllByRecursion (HasItem _)) c.in-Some.ensures.steps i.items).1;
+    }
+
+pub returns-in_err-put_first-in-StartDictionary-2 :
+    goal.returns-in_err-put_first-in-StartDictionary-2
+returns-in_err-put_first-in-StartDictionary-2 g c =
+    let p = err_from_is_err_and c.from_residual-in_err-put_first-in-StartDictionary-2.result
+    c.from_residual-in_err-put_first-in-StartDictionary-2.ensures.1 in
+    rw (p.1, p.2) (puts_both (Err _) c.loop-key.invariant.put
+    c.in_err-put_first-in-StartDictionary-2.ensures)
