@@ -15,10 +15,10 @@ use Rattle.plist_format.specs.Object.{Object}
 use Rattle.plist_binwrite.specs.Forms.{form, IsWritable}
 use Rattle.plist_binwrite.specs.Written.{file_with, object_table, laid_out, Laid, table_and_trailer}
 use Rattle.plist_base.specs.Faults.{Fault}
-use Rattle.plist_base.specs.Sinks.{HasPut, IsSizeOrNone, PutsBytes}
+use Rattle.plist_base.specs.Sinks.{HasPut, IsSizeOrNone, PutsBytes, PutsNothing}
 use Rattle.plist_base.specs.Writing.{Answer}
 use Rattle.plist_base.specs.declared.sink.Sink.{Sink}
-use Rattle.plist_base.proofs.SinkSteps.{puts_as, puts_front, puts_then}
+use Rattle.plist_base.proofs.SinkSteps.{puts_after, puts_as, puts_front, puts_none, puts_then}
 use Rattle.plist_binwrite.proofs.ClassObjects.{numbered}
 use Rattle.plist_binwrite.proofs.NumberingSteps.{numbers_below}
 use Rattle.plist_binwrite.specs.EventClasses.{events_in}
@@ -491,3 +491,22 @@ module _ {plan : FilePlan} {W : Type 0} {contents : W → Option (List ℕ)}
           on_ok answer (λ item. second.1 _ (first.2 item)),
         );
   }
+
+-- nothing is put, and then the object of an event is
+pub puts_at_after : {plan : FilePlan} {W : Type 0} {contents : W → Option (List ℕ)} {p : ℕ}
+    {places still : List ℕ} {sink same : Sink W} {answer : Answer} {new : List ℕ × Sink W}
+    → PutsNothing sink same × (still ≡ places) → PutsAt plan contents p (still, same) answer new
+    → PutsAt plan contents p (places, sink) answer new
+puts_at_after {plan} {contents = contents} {places} {same = same} n one = record {
+  long = one.long ∙ ap length n.1;
+  step = λ start none a.
+      let b : ArePut plan contents start places (Ok tt) same = record {
+        objects = a.objects;
+        described = a.described;
+        order = a.order;
+        layout = a.layout;
+        put = puts_as (append-nil _) (puts_then a.put (puts_after n.0 puts_none));
+      } in
+      let after = one.step start none (subst (λ l. ArePut plan contents start l (Ok tt) same) (sym n.1) b) in
+      (after.0, λ k some. after.1 k (λ none. some (ap (λ l. get_or l k 0) (sym n.1) ∙ none)), after.2);
+}

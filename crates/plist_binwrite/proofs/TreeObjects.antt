@@ -1,8 +1,8 @@
 -- The objects of trees by their indices: their forms, their sizes, and that they can be written.
-use Rattle.std.proofs.Common.{◌≡◌, ◌⊎◌, inl, inr, ℕ, ◌+◌, ◌*◌, ◌^◌, ◌<◌, ◌≤◌, false, List, ◌∷◌, ◌++◌, length, flat_map, map, Option, None, Some, SomeIff, refl, ap, ◌∙◌, arith, length-append}
+use Rattle.std.proofs.Common.{◌≡◌, ◌⊎◌, inl, inr, ℕ, ◌+◌, ◌*◌, ◌^◌, ◌<◌, ◌≤◌, false, List, ◌∷◌, ◌++◌, length, flat_map, map, Option, None, Some, SomeIff, refl, ap, subst, ◌∙◌, arith, length-append}
 use Rattle.std.proofs.lemmas.List.{length-map}
 use Rattle.std.proofs.lemmas.Bool.{cases_lt}
-use Rattle.plist_base.specs.Events.{PlainEvent, ScalarEvent, shape_of}
+use Rattle.plist_base.specs.Events.{PlainEvent, EndCollection, ScalarEvent, StartArray, StartDictionary, shape_of}
 use Rattle.plist_base.specs.Trees.{number_of_trees, number_of_members, Scalar, String, Tree, Leaf, Array, Dictionary, Trees, NoTrees, TreeAnd, Members, NoMembers, MemberAnd}
 use Rattle.plist_base.specs.declared.event.EventShape.{EventShape}
 use Rattle.plist_base.specs.declared.event.EventShape.TheVariants as shape
@@ -13,7 +13,7 @@ use Rattle.std.specs.Int.{bytes_high_first}
 use Rattle.plist_buffer.specs.EventTable.{is_end, event_at, item_indices, key_indices, value_indices, IsBracketed}
 use Rattle.plist_base.specs.Sinks.{IsSizeOrNone}
 use Rattle.plist_binwrite.specs.Sizes.{object_size}
-use Rattle.plist_binwrite.specs.inner.ObjectSizes.{fixed_at, references_at}
+use Rattle.plist_binwrite.specs.inner.ObjectSizes.{AreSizes, fixed_at, fixed_of, references_at, references_of_event}
 use Rattle.plist_buffer.specs.Children.{half_of}
 use Rattle.plist_buffer.specs.declared.children.Half.TheVariants.{Keys, Values}
 use Rattle.plist_format.specs.Marker.{high_half}
@@ -21,6 +21,7 @@ use Rattle.plist_format.specs.declared.marker.CountedKind.{CountedKind}
 use Rattle.plist_format.specs.declared.marker.CountedKind.TheVariants as counted
 use Rattle.plist_binwrite.specs.EventClasses.{events_in}
 use Rattle.plist_binwrite.specs.declared.plan.FilePlan.{FilePlan}
+use Rattle.plist_binwrite.specs.declared.size.ObjectSizes.{ObjectSizes}
 use Rattle.plist_binwrite.specs.inner.Layout.{number_in, references_of}
 use Rattle.plist_buffer.specs.inner.Entries.{is_leaf}
 use Rattle.plist_buffer.proofs.TreeOccurrences.{occurs_whole, occurs_items, occurs_pairs, occurs_item, occurs_next, occurs_key, occurs_value, occurs_next_pair}
@@ -195,6 +196,34 @@ module _ (plan : FilePlan) where
         length-values ms (p + 1),
         length-pairs num ms (p + 1),
       ) refl
+
+-- the size of the object of a collection that begins with an event of this shape
+pub array_sizes : (event : PlainEvent) (count : ℕ) → shape.StartArray ≡ shape_of event
+    → (length (length_form 0xa count) ≡ fixed_of event count)
+    × (count ≡ references_of_event event count)
+array_sizes (StartArray hint) count is = (refl, refl)
+array_sizes (StartDictionary hint) count is = cc
+array_sizes EndCollection count is = cc
+array_sizes (ScalarEvent x) count is = cc
+
+pub dictionary_sizes : (event : PlainEvent) (count : ℕ) → shape.StartDictionary ≡ shape_of event
+    → (length (length_form 0xd count) ≡ fixed_of event count)
+    × (2 * count ≡ references_of_event event count)
+dictionary_sizes (StartDictionary hint) count is = (refl, refl)
+dictionary_sizes (StartArray hint) count is = cc
+dictionary_sizes EndCollection count is = cc
+dictionary_sizes (ScalarEvent x) count is = cc
+
+-- the size of one more object is added
+pub sizes_with : (es : List PlainEvent) (index : ℕ) {old new : ObjectSizes} (fixed : Option ℕ)
+    (size references : ℕ) → IsSizeOrNone fixed size → size ≡ fixed_at es index
+    → references ≡ references_at es index
+    → ((a b c : ℕ) → AreSizes old a b → IsSizeOrNone fixed c → AreSizes new (c + a) (references + b))
+    → (a b : ℕ) → AreSizes old a b
+    → AreSizes new (fixed_at es index + a) (references_at es index + b)
+sizes_with all index {new = new} fixed size count is e f added a b s =
+    subst (λ n. AreSizes new (n + a) (references_at all index + b)) e
+    (subst (λ n. AreSizes new (size + a) (n + b)) f (added a b size s is))
 
 -- the size of the object of a tree, by the event at which it begins
 pub size_split : {es : List PlainEvent} {p : ℕ} (w : ℕ) (t : Tree) → OccursAt es t p

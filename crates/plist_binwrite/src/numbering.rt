@@ -6,7 +6,7 @@ ghost use Rattle.plist_binwrite.specs.inner.Numbering.{IsNumberingOfEvents};
 ghost use Rattle.std.specs.Prelude.{IfOk};
 
 use crate::classes::Classed;
-use crate::size::{ObjectSizes, size_of_object};
+use crate::size::ObjectSizes;
 use plist_buffer::children::{Children, Half, begins_collection};
 use plist_buffer::compact_numbers::CompactNumbers;
 use std::alloc::{AllocError, Global};
@@ -78,7 +78,7 @@ impl Numbering {
         };
         self.by_class.set(class, count)?;
         self.count = count;
-        self.sizes = self.sizes.plus(size_of_object(given.events, index));
+        self.sizes.add_object(given.events, index);
         Ok(())
     }
 

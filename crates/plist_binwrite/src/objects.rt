@@ -110,8 +110,38 @@ fn put_object<W: Write>(
     }
 }
 
-// Puts the object of the event at an index and stores its offset, unless it was put before.
+// Puts the object of the event at an index and stores its offset, unless it was put before, and
+// returns `true`. If the object isn't that of a scalar, or may not fit into the buffer, or is a string
+// with characters outside ASCII, nothing is put, and the result is `false`.
 #[inline(always)]
+fn try_put_first<W: Write>(
+    sink: &mut Sink<'_, W>,
+    plan: &FilePlan<'_, '_>,
+    places: &mut [u64],
+    index: usize,
+) -> bool
+    requires plan { IsFilePlan plan.now }
+    requires item { HasItem (events_in plan.now.given) index }
+    requires long { length places.old ≡ plan.now.numbering.count }
+    ensures put { result ≡ true → PutsAt plan.now W.contents index (places.old, sink.old) (Ok tt)
+        (places.new, sink.new) }
+    ensures unchanged { result ≡ false → PutsNothing sink.old sink.new
+        × (places.new ≡ places.old) }
+{
+    let number = plan.numbering.number(&plan.given, index);
+    if places[number] != 0 {
+        return true;
+    }
+    // No offset is 2^64 or more.
+    let place = sink.position().unwrap_or(u64::MAX);
+    if !try_put_object(sink, plan.given.events, index) {
+        return false;
+    }
+    places[number] = place;
+    true
+}
+
+// Puts the object of the event at an index and stores its offset, unless it was put before.
 fn put_first<W: Write>(
     sink: &mut Sink<'_, W>,
     plan: &FilePlan<'_, '_>,
@@ -128,16 +158,36 @@ fn put_first<W: Write>(
     if places[number] != 0 {
         return Ok(());
     }
-    // No offset is 2^64 or more.
     places[number] = sink.position().unwrap_or(u64::MAX);
-    if try_put_object(sink, plan.given.events, index) {
-        return Ok(());
-    }
     put_object(sink, plan, index)
 }
 
-// Puts the object of the event at an index, and then those of its keys, unless they were put before.
-// An end has no object.
+// Does for the event at an index what `try_put_first` does. An end has no object. The result is `false`
+// for a collection.
+#[inline(always)]
+fn try_put_here<W: Write>(
+    sink: &mut Sink<'_, W>,
+    plan: &FilePlan<'_, '_>,
+    places: &mut [u64],
+    index: usize,
+) -> bool
+    requires plan { IsFilePlan plan.now }
+    requires index { index < length (events_in plan.now.given) }
+    requires long { length places.old ≡ plan.now.numbering.count }
+    ensures put { result ≡ true → PutsAt plan.now W.contents index (places.old, sink.old) (Ok tt)
+        (places.new, sink.new) }
+    ensures unchanged { result ≡ false → PutsNothing sink.old sink.new
+        × (places.new ≡ places.old) }
+{
+    match plan.given.events.kind_at(index) {
+        EventShape::EndCollection => true,
+        EventShape::Scalar => try_put_first(sink, plan, places, index),
+        EventShape::StartArray | EventShape::StartDictionary => false,
+    }
+}
+
+// Puts the object of the event at an index, and then those of its keys, and stores their offsets,
+// unless they were put before. An end has no object.
 fn put_here<W: Write>(
     sink: &mut Sink<'_, W>,
     plan: &FilePlan<'_, '_>,
@@ -156,7 +206,9 @@ fn put_here<W: Write>(
         EventShape::StartDictionary => {
             put_first(sink, plan, places, index)?;
             for key in Children::new(plan.given.events, index, Half::Keys) {
-                put_first(sink, plan, places, key)?;
+                if !try_put_first(sink, plan, places, key) {
+                    put_first(sink, plan, places, key)?;
+                }
             }
             Ok(())
         }
@@ -180,7 +232,9 @@ pub fn put_objects<W: Write>(
         × OnOk result ((k : ℕ) → k < plan.now.numbering.count → slice_index places.new k ≢ 0) }
 {
     for index in 0..plan.given.events.len() {
-        put_here(sink, plan, places, index)?;
+        if !try_put_here(sink, plan, places, index) {
+            put_here(sink, plan, places, index)?;
+        }
     }
     Ok(())
 }

@@ -144,9 +144,13 @@ pub struct ObjectSizes {
 }
 
 impl ObjectSizes {
-    ghost use Rattle.std.specs.Prelude.{◌+◌, ◌*◌, ◌≤◌, ℕ};
+    ghost use Rattle.std.specs.Prelude.{◌≡◌, ◌+◌, ◌*◌, ◌≤◌, ◌<◌, ℕ, length};
+    ghost use Rattle.plist_base.specs.Events.{ScalarEvent};
     ghost use Rattle.plist_base.specs.Sinks.{IsSizeOrNone};
-    ghost use Rattle.plist_binwrite.specs.inner.ObjectSizes.{AreSizes};
+    ghost use Rattle.plist_base.specs.Trees.{Scalar};
+    ghost use Rattle.plist_binwrite.specs.Forms.{IsWritableScalar};
+    ghost use Rattle.plist_binwrite.specs.inner.ObjectSizes.{AreSizes, fixed_at, references_at};
+    ghost use Rattle.plist_buffer.specs.EventTable.{plain_events, table_event};
 
     /// Returns the size of no objects.
     pub fn none() -> ObjectSizes
@@ -158,14 +162,39 @@ impl ObjectSizes {
         }
     }
 
-    /// Returns the size of these objects and others together.
-    pub fn plus(self, other: ObjectSizes) -> ObjectSizes
-        ensures { (a b c d : ℕ) → AreSizes self a b → AreSizes other c d
-            → AreSizes result (c + a) (d + b) }
+    // Adds the size of one more object.
+    #[inline(always)]
+    fn add(&mut self, fixed: Option<u64>, references: u64)
+        ensures { (a b c : ℕ) → AreSizes self.old a b → IsSizeOrNone fixed c
+            → AreSizes self.new (c + a) (references + b) }
     {
-        ObjectSizes {
-            fixed: add(other.fixed, self.fixed),
-            references: add(other.references, self.references),
+        self.fixed = add(fixed, self.fixed);
+        self.references = add(Some(references), self.references);
+    }
+
+    /// Adds the size of the object of the event at an index. An end has no object.
+    pub fn add_object(&mut self, events: &EventTable<'_>, index: usize)
+        requires index { index < length (plain_events events.now) }
+        ensures size { (a b : ℕ) → AreSizes self.old a b
+            → AreSizes self.new (fixed_at (plain_events events.now) index + a)
+            (references_at (plain_events events.now) index + b) }
+        ensures writable { (x : Scalar) → table_event events.now index ≡ ScalarEvent x
+            → IsWritableScalar x }
+    {
+        match events.kind_at(index) {
+            EventShape::StartArray => {
+                let count = count_children(events, index, Half::Values) as u64;
+                self.add(Some(length_of_count(count)), count);
+            }
+            EventShape::StartDictionary => {
+                let count = count_children(events, index, Half::Values) as u64;
+                self.add(Some(length_of_count(count)), 2 * count);
+            }
+            EventShape::Scalar | EventShape::EndCollection => {
+                if let Some(scalar) = events.scalar_at(index) {
+                    self.add(length_of_scalar(scalar), 0);
+                }
+            }
         }
     }
 
@@ -177,39 +206,6 @@ impl ObjectSizes {
             → IsSizeOrNone result (fixed + references * width) }
     {
         add(self.fixed, times(self.references, width as u64))
-    }
-}
-
-/// Returns the size of the object of the event at an index. An end has no object.
-pub fn size_of_object(events: &EventTable<'_>, index: usize) -> ObjectSizes
-    requires index { index < length (plain_events events.now) }
-    ensures size { AreSizes result (fixed_at (plain_events events.now) index)
-        (references_at (plain_events events.now) index) }
-    ensures writable { (x : Scalar) → table_event events.now index ≡ ScalarEvent x
-        → IsWritableScalar x }
-{
-    match events.kind_at(index) {
-        EventShape::StartArray => {
-            let count = count_children(events, index, Half::Values) as u64;
-            ObjectSizes {
-                fixed: Some(length_of_count(count)),
-                references: Some(count),
-            }
-        }
-        EventShape::StartDictionary => {
-            let count = count_children(events, index, Half::Values) as u64;
-            ObjectSizes {
-                fixed: Some(length_of_count(count)),
-                references: Some(2 * count),
-            }
-        }
-        EventShape::Scalar | EventShape::EndCollection => ObjectSizes {
-            fixed: match events.scalar_at(index) {
-                Some(scalar) => length_of_scalar(scalar),
-                None => Some(0),
-            },
-            references: Some(0),
-        },
     }
 }
 

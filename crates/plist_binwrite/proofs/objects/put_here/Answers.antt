@@ -6,7 +6,7 @@ use Rattle.plist_binwrite.specs.EventClasses.{events_in}
 use Rattle.plist_buffer.specs.EventTable.{HasItem}
 use Rattle.plist_buffer.specs.declared.children.Half.TheVariants.{Keys}
 use Rattle.plist_buffer.proofs.ChildIndices.{are_items}
-use Rattle.plist_binwrite.proofs.ObjectOffsets.{puts_both}
+use Rattle.plist_binwrite.proofs.ObjectOffsets.{puts_at_after, puts_both}
 use Rattle.plist_binwrite.proofs.objects.put_here.Goals as goal
 use Rattle.plist_binwrite.proofs.objects.put_here.Goals.{After-into_iter-key-iterator as Begun}
 
@@ -26,7 +26,17 @@ pub loop-key-preserved : goal.loop-key-preserved
 loop-key-preserved g c =
     let i = c.loop-key.invariant in
     record {
-      put = puts_both (Ok tt) i.put c.in_ok-put_first-in-StartDictionary-2.ensures;
+      put = puts_both (Ok tt) i.put (c.try_put_first.ensures.put c.if-not-try_put_first.false);
+      items = (subst (AllByRecursion (HasItem _)) c.in-Some.ensures.steps i.items).1;
+    }
+
+pub loop-key-preserved-in-Continue-branch-2 : goal.loop-key-preserved-in-Continue-branch-2
+loop-key-preserved-in-Continue-branch-2 g c =
+    let i = c.loop-key.invariant in
+    record {
+      put = puts_both (Ok tt) i.put
+          (puts_at_after (c.try_put_first.ensures.unchanged c.if-not-try_put_first.true)
+          c.in_ok-put_first-in-StartDictionary-2.ensures);
       items = (subst (AllByRecursion (HasItem _)) c.in-Some.ensures.steps i.items).1;
     }
 
@@ -36,4 +46,5 @@ returns-in_err-put_first-in-StartDictionary-2 g c =
     let p = err_from_is_err_and c.from_residual-in_err-put_first-in-StartDictionary-2.result
     c.from_residual-in_err-put_first-in-StartDictionary-2.ensures.1 in
     rw (p.1, p.2) (puts_both (Err _) c.loop-key.invariant.put
-    c.in_err-put_first-in-StartDictionary-2.ensures)
+    (puts_at_after (c.try_put_first.ensures.unchanged c.if-not-try_put_first.true)
+    c.in_err-put_first-in-StartDictionary-2.ensures))

@@ -1,11 +1,25 @@
-use Rattle.std.proofs.Common.{◌≢◌, arith, below_more, get_or, subst, ◌∙◌}
+use Rattle.std.proofs.Common.{◌≢◌, Ok, arith, below_more, get_or, subst, ◌∙◌}
 use Rattle.std.proofs.lemmas.Result.{err_from_is_err_and}
 use Rattle.plist_binwrite.proofs.NumberingSteps.{known_number}
+use Rattle.plist_binwrite.specs.inner.Layout.{PutsAt}
+use Rattle.plist_binwrite.proofs.ObjectOffsets.{puts_at_after}
 use Rattle.plist_binwrite.proofs.objects.put_objects.Goals as goal
+use Rattle.plist_binwrite.proofs.objects.put_objects.Goals.{Joined-not-try_put_here as Joined, then-not-try_put_here+in_ok-put_here, else-not-try_put_here}
+
+-- the object of the event at the index is put
+one : (g : _) (c : Joined g) → PutsAt c.args.plan.now g.W.Write.contents c.loop-index.index
+    (c.loop-index.places, c.loop-index.sink) (Ok tt) (c.if-not-try_put_here.places, c.if-not-try_put_here.sink)
+one g c = elim c.if-not-try_put_here.branch [
+  | then-not-try_put_here+in_ok-put_here w ↦ rw (w.sink-is, w.places-is)
+      (puts_at_after (c.try_put_here.ensures.unchanged w.if-not-try_put_here.true)
+      w.in_ok-put_here.ensures)
+  | else-not-try_put_here w ↦ rw (w.sink-is, w.places-is)
+      (c.try_put_here.ensures.put w.if-not-try_put_here.false)
+]
 
 pub loop-index-preserved : goal.loop-index-preserved
 loop-index-preserved g c =
-    let one = c.in_ok-put_here.ensures in
+    let one = one g (goal.at.loop-index-preserved g c).Joined-not-try_put_here in
     record {
       long = one.long ∙ c.loop-index.invariant.long;
       put = λ start none put.
@@ -20,7 +34,9 @@ pub returns-in_err-put_here : goal.returns-in_err-put_here
 returns-in_err-put_here g c = λ start none put.
     let p = err_from_is_err_and c.from_residual.result c.from_residual.ensures.1 in
     let before = c.loop-index.invariant.put start none put in
-    rw (p.1, p.2) ((c.in_err-put_here.ensures.step start none before.0).0, tt)
+    let refused = puts_at_after (c.try_put_here.ensures.unchanged c.if-not-try_put_here.true)
+    c.in_err-put_here.ensures in
+    rw (p.1, p.2) ((refused.step start none before.0).0, tt)
 
 pub returns : goal.returns
 returns g c = λ start none put.

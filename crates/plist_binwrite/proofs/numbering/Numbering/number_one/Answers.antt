@@ -18,7 +18,7 @@ returns-clause-numbers c =
         listed = c.requires.so_far.listed;
         plan = plan_more plan c.args.index item none c.in-Some.ensures.0;
         sizes = sizes_more plan c.args.index item none c.in-Some.ensures.0 c.requires.so_far.sizes
-            c.size_of_object.ensures.size c.size_of_object.ensures.writable c.plus-self.ensures;
+            c.add_object.ensures.size c.add_object.ensures.writable;
       };
       keeps = kept_more plan c.args.index item none c.in-Some.ensures.0;
       numbered = (numbered_more plan c.args.index item none c.in-Some.ensures.0, tt);
