@@ -1,5 +1,5 @@
 -- The objects of trees by their indices: their forms, their sizes, and that they can be written.
-use Rattle.std.proofs.Common.{◌≡◌, ◌⊎◌, inl, inr, ℕ, ◌+◌, ◌*◌, ◌^◌, ◌<◌, ◌≤◌, false, List, ◌∷◌, ◌++◌, length, flat_map, map, Option, None, Some, SomeIff, refl, ap, subst, ◌∙◌, arith, length-append}
+use Rattle.std.proofs.Common.{◌≡◌, ◌⊎◌, inl, inr, ℕ, ◌+◌, ◌*◌, ◌^◌, ◌<◌, ◌≤◌, false, List, ◌∷◌, length, flat_map, map, Option, None, Some, SomeIff, refl, ap, subst, ◌∙◌, arith, length-append}
 use Rattle.std.proofs.lemmas.List.{length-map}
 use Rattle.std.proofs.lemmas.Bool.{cases_lt}
 use Rattle.plist_base.specs.Events.{PlainEvent, EndCollection, ScalarEvent, StartArray, StartDictionary, shape_of}
@@ -15,14 +15,12 @@ use Rattle.plist_base.specs.Sinks.{IsSizeOrNone}
 use Rattle.plist_binwrite.specs.Sizes.{object_size}
 use Rattle.plist_binwrite.specs.inner.ObjectSizes.{AreSizes, fixed_at, fixed_of, references_at, references_of_event}
 use Rattle.plist_buffer.specs.Children.{half_of}
-use Rattle.plist_buffer.specs.declared.children.Half.TheVariants.{Keys, Values}
-use Rattle.plist_format.specs.Marker.{high_half}
-use Rattle.plist_format.specs.declared.marker.CountedKind.{CountedKind}
+use Rattle.plist_buffer.specs.declared.children.Half.TheVariants.{Values}
 use Rattle.plist_format.specs.declared.marker.CountedKind.TheVariants as counted
 use Rattle.plist_binwrite.specs.EventClasses.{events_in}
 use Rattle.plist_binwrite.specs.declared.plan.FilePlan.{FilePlan}
 use Rattle.plist_binwrite.specs.declared.size.ObjectSizes.{ObjectSizes}
-use Rattle.plist_binwrite.specs.inner.Layout.{number_in, references_of}
+use Rattle.plist_binwrite.specs.inner.Layout.{collection_form, number_in}
 use Rattle.plist_buffer.specs.inner.Entries.{is_leaf}
 use Rattle.plist_buffer.proofs.TreeOccurrences.{occurs_whole, occurs_items, occurs_pairs, occurs_item, occurs_next, occurs_key, occurs_value, occurs_next_pair}
 use Rattle.plist_buffer.proofs.TreeStarts.{stands_single, starts_array, starts_dictionary, no_start, begins, occurs_in}
@@ -166,17 +164,12 @@ module _ (plan : FilePlan) where
   abbrev num : ℕ → ℕ
   num = number_in plan
 
-  -- the bytes of a collection: its length, and the references to its keys and to its items or values
-  abbrev collection_form : CountedKind → (index : ℕ) → List ℕ
-  collection_form kind index = length_form (high_half kind) (length (half_of es Values index))
-      ++ (references_of plan Keys index ++ references_of plan Values index)
-
   -- the bytes of the object of a tree that begins at an index
   abbrev tree_form : Tree → (index : ℕ) → List ℕ
   tree_form tree index = form plan.width (object_of num tree index)
 
   pub array_is : {p : ℕ} {ts : Trees} → OccursAt es (Array ts) p
-      → collection_form counted.Array p ≡ tree_form (Array ts) p
+      → collection_form plan counted.Array p ≡ tree_form (Array ts) p
   array_is {p} {ts} s =
       rw (
         keys_are_in es (Array ts) p s,
@@ -186,7 +179,7 @@ module _ (plan : FilePlan) where
       ) refl
 
   pub dictionary_is : {p : ℕ} {ms : Members} → OccursAt es (Dictionary ms) p
-      → collection_form counted.Dictionary p ≡ tree_form (Dictionary ms) p
+      → collection_form plan counted.Dictionary p ≡ tree_form (Dictionary ms) p
   dictionary_is {p} {ms} s =
       rw (
         keys_are_in es (Dictionary ms) p s,

@@ -1,31 +1,57 @@
 //! Puts the objects of a planned file, and stores their offsets.
 
-ghost use Rattle.std.specs.Prelude.{◌≡◌, ◌≢◌, ◌<◌, ◌++◌, ℕ, Ok, OnOk, length, slice_index, true, false};
+ghost use Rattle.std.specs.Prelude.{◌≡◌, ◌≢◌, ◌<◌, ◌≤◌, ◌+◌, ◌*◌, ℕ, [], Ok, OnOk, length, slice_index, true, false};
+ghost use Rattle.std.specs.List.{AllByRecursion};
 ghost use Rattle.plist_base.specs.Events.{ScalarEvent};
-ghost use Rattle.plist_base.specs.Sinks.{HasPut, Puts, PutsBytes, PutsNothing};
+ghost use Rattle.plist_base.specs.Sinks.{HasPut, Puts, PutsBytes, PutsNothing, room};
 ghost use Rattle.plist_base.specs.Trees.{Scalar, Tree};
 ghost use Rattle.plist_base.specs.Writing.{answer_of};
 ghost use Rattle.plist_binwrite.specs.EventClasses.{events_in};
 ghost use Rattle.plist_buffer.specs.EventTable.{HasItem, plain_events, table_event};
-ghost use Rattle.plist_binwrite.specs.Forms.{form, length_form, scalar_form};
+ghost use Rattle.plist_binwrite.specs.Forms.{form, scalar_form};
 ghost use Rattle.plist_binwrite.specs.Numberings.{object_of};
-ghost use Rattle.plist_buffer.specs.Children.{half_of};
-ghost use Rattle.plist_buffer.specs.declared.children.Half.TheVariants.{Keys, Values};
-ghost use Rattle.plist_format.specs.Marker.{high_half};
+ghost use Rattle.plist_buffer.specs.Children.{indices_left};
 ghost use Rattle.plist_buffer.specs.Occurrences.{OccursAt};
-ghost use Rattle.plist_binwrite.specs.inner.Layout.{ArePut, IsFilePlan, PutsAt, number_in, references_of};
+ghost use Rattle.plist_binwrite.specs.inner.Layout.{ArePut, IsFilePlan, PushesReferences, PutsAt, collection_form, number_in, references_of};
 
-use crate::forms::{CountedKind, put_length, put_number, put_scalar, try_put_number};
+use crate::forms::{CountedKind, put_length, put_scalar};
 use crate::plan::FilePlan;
-use crate::push::push_scalar;
+use crate::push::{push_length, push_number, push_scalar};
 use crate::size::count_children;
-use plist_base::{Error, EventShape, Sink};
+use plist_base::{Error, EventShape, FixedBuffer, Sink};
 use plist_buffer::children::{Children, Half};
 use plist_buffer::event_table::EventTable;
 use std::io::Write;
 
-// Puts the references to one half of the children of the collection that begins at an index.
+// Pushes references to the children that an iterator still has to yield, as long as there is room for
+// eight bytes, and returns whether all are pushed. There must be room for eight bytes.
 #[inline(always)]
+fn push_references(
+    buffer: &mut FixedBuffer,
+    plan: &FilePlan<'_, '_>,
+    children: &mut Children<'_, '_>,
+) -> bool
+    requires plan { IsFilePlan plan.now }
+    requires items { AllByRecursion (HasItem (events_in plan.now.given)) (indices_left children.old) }
+    requires room { 8 ≤ room buffer.old }
+    ensures pushed { PushesReferences plan.now (buffer.old, indices_left children.old)
+        (buffer.new, indices_left children.new) }
+    ensures all { result ≡ true → (indices_left children.new ≡ []) × (8 ≤ room buffer.new) }
+    ensures some { result ≡ false
+        → length (indices_left children.new) < length (indices_left children.old) }
+    ensures fits { 8 + 8 * length (indices_left children.old) ≤ room buffer.old → result ≡ true }
+{
+    while let Some(child) = children.next() {
+        let number = plan.numbering.number(&plan.given, child);
+        push_number(buffer, plan.width, number as u64);
+        if buffer.room() < 8 {
+            return false;
+        }
+    }
+    true
+}
+
+// Puts the references to one half of the children of the collection that begins at an index.
 fn put_half<W: Write>(
     sink: &mut Sink<'_, W>,
     plan: &FilePlan<'_, '_>,
@@ -34,16 +60,15 @@ fn put_half<W: Write>(
 ) -> Result<(), Error>
     requires plan { IsFilePlan plan.now }
     requires index { index < length (events_in plan.now.given) }
-    ensures { Puts W.contents sink.old (references_of plan.now half index) result
-        sink.new }
+    ensures { Puts W.contents sink.old (references_of plan.now half index) result sink.new }
 {
-    for child in Children::new(plan.given.events, index, half) {
-        let number = plan.numbering.number(&plan.given, child) as u64;
-        if !try_put_number(sink, plan.width, number) {
-            put_number(sink, plan.width, number)?;
+    let mut children = Children::new(plan.given.events, index, half);
+    loop {
+        sink.make_room(8)?;
+        if push_references(sink.buffer, plan, &mut children) {
+            return Ok(());
         }
     }
-    Ok(())
 }
 
 // Puts the object of the collection that begins at an index.
@@ -55,25 +80,45 @@ fn put_collection<W: Write>(
 ) -> Result<(), Error>
     requires plan { IsFilePlan plan.now }
     requires index { index < length (events_in plan.now.given) }
-    ensures { Puts W.contents sink.old
-        (length_form (high_half kind) (length (half_of (events_in plan.now.given) Values index))
-        ++ (references_of plan.now Keys index
-        ++ references_of plan.now Values index)) result sink.new }
+    ensures { Puts W.contents sink.old (collection_form plan.now kind index) result sink.new }
 {
-    put_length(
-        sink,
-        kind,
-        count_children(plan.given.events, index, Half::Values) as u64,
-    )?;
+    let count = count_children(plan.given.events, index, Half::Values);
+    put_length(sink, kind, count as u64)?;
     put_half(sink, plan, index, Half::Keys)?;
     put_half(sink, plan, index, Half::Values)
+}
+
+// Puts the object of the collection that begins at an index, if it surely fits into the buffer, and
+// returns whether it was put.
+fn try_put_collection<W: Write>(
+    sink: &mut Sink<'_, W>,
+    plan: &FilePlan<'_, '_>,
+    index: usize,
+    kind: CountedKind,
+) -> bool
+    requires plan { IsFilePlan plan.now }
+    requires index { index < length (events_in plan.now.given) }
+    ensures put { result ≡ true → PutsBytes W.contents sink.old
+        (collection_form plan.now kind index) (Ok tt) sink.new }
+    ensures unchanged { result ≡ false → PutsNothing sink.old sink.new }
+{
+    let events = plan.given.events;
+    let count = count_children(events, index, Half::Values);
+    // There are as many keys as values, if any, and a reference has at most eight bytes.
+    if count > 2048 || sink.room() < 32 + 16 * count {
+        return false;
+    }
+    push_length(sink.buffer, kind, count as u64);
+    let mut keys = Children::new(events, index, Half::Keys);
+    let mut values = Children::new(events, index, Half::Values);
+    push_references(sink.buffer, plan, &mut keys) && push_references(sink.buffer, plan, &mut values)
 }
 
 // Puts the object of the scalar at an index, if it surely fits into the buffer and isn't a string
 // with characters outside ASCII, and returns whether it was put. If no scalar is at the index,
 // nothing is put.
 #[inline(always)]
-fn try_put_object<W: Write>(sink: &mut Sink<'_, W>, events: &EventTable<'_>, index: usize) -> bool
+fn try_put_scalar<W: Write>(sink: &mut Sink<'_, W>, events: &EventTable<'_>, index: usize) -> bool
     requires { index < length (plain_events events.now) }
     ensures put { result ≡ true → (x : Scalar) × (table_event events.now index ≡ ScalarEvent x)
         × PutsBytes W.contents sink.old (scalar_form x) (Ok tt) sink.new }
@@ -85,6 +130,31 @@ fn try_put_object<W: Write>(sink: &mut Sink<'_, W>, events: &EventTable<'_>, ind
     match events.scalar_at(index) {
         Some(scalar) => push_scalar(sink.buffer, scalar),
         None => false,
+    }
+}
+
+// Puts the object of the tree that begins at an index, if it surely fits into the buffer and isn't a
+// string with characters outside ASCII, and returns whether it was put. At an end, nothing is put.
+#[inline(always)]
+fn try_put_object<W: Write>(sink: &mut Sink<'_, W>, plan: &FilePlan<'_, '_>, index: usize) -> bool
+    requires plan { IsFilePlan plan.now }
+    requires index { index < length (events_in plan.now.given) }
+    ensures put { result ≡ true → (tree : Tree) → OccursAt (events_in plan.now.given) tree index
+        → PutsBytes W.contents sink.old (form plan.now.width
+        (object_of (number_in plan.now) tree index)) (Ok tt) sink.new }
+    ensures unchanged { result ≡ false → PutsNothing sink.old sink.new }
+{
+    match plan.given.events.kind_at(index) {
+        EventShape::StartArray => try_put_collection(sink, plan, index, CountedKind::Array),
+        EventShape::StartDictionary => try_put_collection(
+            sink,
+            plan,
+            index,
+            CountedKind::Dictionary,
+        ),
+        EventShape::Scalar | EventShape::EndCollection => {
+            try_put_scalar(sink, plan.given.events, index)
+        }
     }
 }
 
@@ -111,8 +181,8 @@ fn put_object<W: Write>(
 }
 
 // Puts the object of the event at an index and stores its offset, unless it was put before, and
-// returns `true`. If the object isn't that of a scalar, or may not fit into the buffer, or is a string
-// with characters outside ASCII, nothing is put, and the result is `false`.
+// returns `true`. If the object may not fit into the buffer, or is a string with characters outside
+// ASCII, nothing is put, and the result is `false`.
 #[inline(always)]
 fn try_put_first<W: Write>(
     sink: &mut Sink<'_, W>,
@@ -134,7 +204,7 @@ fn try_put_first<W: Write>(
     }
     // No offset is 2^64 or more.
     let place = sink.position().unwrap_or(u64::MAX);
-    if !try_put_object(sink, plan.given.events, index) {
+    if !try_put_object(sink, plan, index) {
         return false;
     }
     places[number] = place;
@@ -163,7 +233,7 @@ fn put_first<W: Write>(
 }
 
 // Does for the event at an index what `try_put_first` does. An end has no object. The result is `false`
-// for a collection.
+// for a dictionary, which has keys.
 #[inline(always)]
 fn try_put_here<W: Write>(
     sink: &mut Sink<'_, W>,
@@ -181,8 +251,8 @@ fn try_put_here<W: Write>(
 {
     match plan.given.events.kind_at(index) {
         EventShape::EndCollection => true,
-        EventShape::Scalar => try_put_first(sink, plan, places, index),
-        EventShape::StartArray | EventShape::StartDictionary => false,
+        EventShape::Scalar | EventShape::StartArray => try_put_first(sink, plan, places, index),
+        EventShape::StartDictionary => false,
     }
 }
 
@@ -204,7 +274,9 @@ fn put_here<W: Write>(
         EventShape::EndCollection => Ok(()),
         EventShape::Scalar | EventShape::StartArray => put_first(sink, plan, places, index),
         EventShape::StartDictionary => {
-            put_first(sink, plan, places, index)?;
+            if !try_put_first(sink, plan, places, index) {
+                put_first(sink, plan, places, index)?;
+            }
             for key in Children::new(plan.given.events, index, Half::Keys) {
                 if !try_put_first(sink, plan, places, key) {
                     put_first(sink, plan, places, key)?;

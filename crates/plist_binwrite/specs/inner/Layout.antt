@@ -1,8 +1,9 @@
 -- A planned file, the order of its objects, and their offsets.
-use Rattle.std.specs.Prelude.{◌≡◌, ◌≢◌, ℕ, ◌+◌, ◌^◌, ◌<◌, ◌≤◌, true, false, eqb, List, length, slice_index, map, Option, Ok, OnOk}
+use Rattle.std.specs.Prelude.{◌≡◌, ◌≢◌, ℕ, ◌+◌, ◌*◌, ◌^◌, ◌<◌, ◌≤◌, true, false, eqb, List, ◌++◌, length, slice_index, map, Option, Ok, OnOk}
 use Rattle.std.specs.List.{list_any, IsDistinct}
 use Rattle.plist_base.specs.Bracketing.{lengthless}
-use Rattle.plist_base.specs.Sinks.{HasPut, PutsBytes}
+use Rattle.plist_base.specs.Sinks.{HasPut, PutsBytes, buffered, room}
+use Rattle.plist_base.specs.declared.fixed_buffer.FixedBuffer.{FixedBuffer}
 use Rattle.plist_base.specs.Trees.{Tree}
 use Rattle.plist_base.specs.Writing.{Answer}
 use Rattle.plist_base.specs.declared.sink.Sink.{Sink}
@@ -10,9 +11,12 @@ use Rattle.plist_format.specs.Object.{Object}
 use Rattle.plist_buffer.specs.Children.{half_of}
 use Rattle.plist_buffer.specs.EventTable.{HasItem}
 use Rattle.plist_buffer.specs.declared.children.Half.{Half}
+use Rattle.plist_buffer.specs.declared.children.Half.TheVariants.{Keys, Values}
+use Rattle.plist_format.specs.Marker.{high_half}
+use Rattle.plist_format.specs.declared.marker.CountedKind.{CountedKind}
 use Rattle.plist_binwrite.specs.Classes.{size_by}
 use Rattle.plist_binwrite.specs.EventClasses.{events_in, class_in}
-use Rattle.plist_binwrite.specs.Forms.{IsWritable, form, reference_width, table_form}
+use Rattle.plist_binwrite.specs.Forms.{IsWritable, form, length_form, reference_width, table_form}
 use Rattle.plist_binwrite.specs.Numberings.{Describes}
 use Rattle.plist_binwrite.specs.Written.{Laid, file_with, laid_out}
 use Rattle.plist_binwrite.specs.declared.plan.FilePlan.{FilePlan}
@@ -53,6 +57,20 @@ module _ (plan : FilePlan) where
   abbrev pub references_of : Half → (index : ℕ) → List ℕ
   references_of half index =
       table_form plan.width (map number_in (half_of (events_in plan.given) half index))
+
+  -- the bytes of a collection: its length, and the references to its keys and to its items or values
+  abbrev pub collection_form : CountedKind → (index : ℕ) → List ℕ
+  collection_form kind index =
+      length_form (high_half kind) (length (half_of (events_in plan.given) Values index))
+      ++ (references_of Keys index ++ references_of Values index)
+
+  -- references are pushed to some of the events at these indices, in order; `old` and `new` are the
+  -- buffer and the indices that are left
+  pub record PushesReferences (old new : FixedBuffer × List ℕ) : Type 0 where
+    pub front : List ℕ
+    pub left : old.1 ≡ front ++ new.1
+    pub pushed : buffered new.0 ≡ buffered old.0 ++ table_form plan.width (map number_in front)
+    pub fewer : room new.0 + plan.width * length front ≡ room old.0
 
   -- the object of the event at this index has an offset
   abbrev pub HasPlace : (places : List ℕ) → (index : ℕ) → Type 0

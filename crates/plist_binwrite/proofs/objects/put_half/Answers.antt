@@ -1,73 +1,46 @@
-use Rattle.std.proofs.Common.{◌≡◌, ◌∷◌, ℕ, List, map, sym, ap, subst}
+use Rattle.std.proofs.Common.{List, ℕ, map, ap, refl, subst, sym}
 use Rattle.std.specs.List.{AllByRecursion}
-use Rattle.plist_base.proofs.SinkSteps.{puts_after, puts_as, puts_none, puts_then, puts_refused}
-use Rattle.plist_buffer.specs.Children.{half_of, indices_left}
-use Rattle.plist_buffer.specs.EventTable.{HasItem}
-use Rattle.plist_binwrite.specs.Forms.{table_form}
-use Rattle.plist_binwrite.specs.inner.Numbering.{object_number}
-use Rattle.plist_binwrite.specs.EventClasses.{events_in}
+use Rattle.plist_base.proofs.SinkSteps.{puts_as, puts_pending, puts_refused, puts_then}
 use Rattle.plist_buffer.proofs.ChildIndices.{are_items}
+use Rattle.plist_binwrite.specs.Forms.{table_form}
+use Rattle.plist_binwrite.specs.declared.plan.FilePlan.{FilePlan}
+use Rattle.plist_binwrite.specs.inner.Layout.{number_in}
+use Rattle.plist_binwrite.proofs.NumberLists.{all_behind, references_split, whole_front}
 use Rattle.plist_binwrite.proofs.objects.put_half.Goals as goal
-use Rattle.plist_binwrite.proofs.objects.put_half.Goals.{After-into_iter-child-iterator as Begun, In-Some as Next}
 
-begun : (g : _) (c : Begun g) → indices_left c.into_iter-child-iterator.result
-    ≡ half_of (events_in c.args.plan.now.given) c.args.half c.args.index
-begun g c = cc (c.into_iter-child-iterator.ensures.into_iter_gives, c.new-child-items.ensures)
+-- the references to the events at these indices
+abbrev table : FilePlan → List ℕ → List ℕ
+table plan indices = table_form plan.width (map (number_in plan) indices)
 
-items : (g : _) (c : Next g) → AllByRecursion (HasItem (events_in c.args.plan.now.given))
-    (c.in-Some.child ∷ indices_left c.next.new.self)
-items g c = subst (AllByRecursion (HasItem _)) c.in-Some.ensures.steps c.loop-child.invariant.items
-
-pub loop-child-init : goal.loop-child-init
-loop-child-init g c = record {
-  put = λ answer d p. p;
-  items = subst (AllByRecursion (HasItem _))
-      (sym (begun g (goal.at.loop-child-init g c).After-into_iter-child-iterator))
+pub loop-sink-init : goal.loop-sink-init
+loop-sink-init g c = record {
+  put = λ answer d p. puts_as (ap (table c.args.plan.now) c.new-children.ensures) p;
+  items = subst (AllByRecursion _) (sym c.new-children.ensures)
       (are_items _ c.args.half c.args.index);
 }
 
--- the remaining references, with the next one
-abbrev rest : (g : _) (c : Next g) → List ℕ → List ℕ
-rest g c l = table_form c.args.plan.now.width
-    (map (object_number c.args.plan.now.given c.args.plan.now.numbering) l)
+pub returns-in_err-make_room : goal.returns-in_err-make_room
+returns-in_err-make_room g c =
+    c.loop-sink.invariant.put _ _ (puts_refused _ _ _ c.from_residual.ensures.1
+    c.in_err-make_room.ensures.put)
 
-pub loop-child-preserved : goal.loop-child-preserved
-loop-child-preserved g c =
-    let n = (goal.at.loop-child-preserved g c).In-Some in
+pub returns-then-push_references : goal.returns-then-push_references
+returns-then-push_references g c =
+    let pushed = c.push_references.ensures.pushed in
+    let none = (c.push_references.ensures.all c.if-push_references.true).0 in
+    c.loop-sink.invariant.put _ _
+    (puts_as (ap (table c.args.plan.now) (whole_front pushed none))
+    (puts_then c.in_ok-make_room.ensures.put
+    (puts_pending (record { writer = refl; buffer = refl }) refl pushed.pushed refl)))
+
+pub loop-sink-preserved : goal.loop-sink-preserved
+loop-sink-preserved g c =
+    let pushed = c.push_references.ensures.pushed in
     record {
-      put = λ answer d p. c.loop-child.invariant.put _ d
-          (puts_as (ap (rest g n) (sym c.in-Some.ensures.steps))
-          (puts_then (rw c.number-number.ensures
-          at (c.try_put_number.ensures.put c.if-not-try_put_number.false)) p));
-      items = (items g n).1;
+      put = λ answer d p. c.loop-sink.invariant.put _ d
+          (puts_as (references_split pushed)
+          (puts_then (puts_then c.in_ok-make_room.ensures.put
+          (puts_pending (record { writer = refl; buffer = refl }) refl pushed.pushed refl)) p));
+      items = all_behind _ pushed.front _
+          (subst (AllByRecursion _) pushed.left c.loop-sink.invariant.items);
     }
-
-pub loop-child-preserved-in-Continue-1 : goal.loop-child-preserved-in-Continue-1
-loop-child-preserved-in-Continue-1 g c =
-    let n = (goal.at.loop-child-preserved-in-Continue-1 g c).In-Some in
-    record {
-      put = λ answer d p. c.loop-child.invariant.put _ d
-          (puts_as (ap (rest g n) (sym c.in-Some.ensures.steps))
-          (puts_then (rw c.number-number.ensures
-          at (puts_after (c.try_put_number.ensures.unchanged c.if-not-try_put_number.true)
-          c.in_ok-put_number.ensures)) p));
-      items = (items g n).1;
-    }
-
-pub returns-in_err-put_number : goal.returns-in_err-put_number
-returns-in_err-put_number g c =
-    let a = goal.at.returns-in_err-put_number g c in
-    puts_as (ap (rest g a.In-Some) (begun g a.After-into_iter-child-iterator))
-    (c.loop-child.invariant.put _ _
-    (puts_as (ap (rest g a.In-Some) (sym c.in-Some.ensures.steps))
-    (puts_refused _ _ _ c.from_residual.ensures.1
-    (rw c.number-number.ensures
-    at (puts_after (c.try_put_number.ensures.unchanged c.if-not-try_put_number.true)
-    c.in_err-put_number.ensures)))))
-
-pub returns : goal.returns
-returns g c =
-    let all : List ℕ → List ℕ = λ l. table_form c.args.plan.now.width
-    (map (object_number c.args.plan.now.given c.args.plan.now.numbering) l) in
-    puts_as (ap all (begun g (goal.at.returns g c).After-into_iter-child-iterator))
-    (c.loop-child.invariant.put _ _ (puts_as (ap all (sym c.in-None.ensures.steps.0)) puts_none))

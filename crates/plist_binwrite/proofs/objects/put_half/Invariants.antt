@@ -1,18 +1,18 @@
-use Rattle.std.proofs.Common.{map}
+use Rattle.std.proofs.Common.{length}
 use Rattle.std.specs.List.{AllByRecursion}
-use Rattle.plist_buffer.specs.Children.{indices_left}
-use Rattle.plist_buffer.specs.EventTable.{HasItem}
-use Rattle.plist_binwrite.specs.Forms.{table_form}
-use Rattle.plist_binwrite.specs.inner.Numbering.{object_number}
 use Rattle.plist_binwrite.specs.EventClasses.{events_in}
+use Rattle.plist_buffer.specs.EventTable.{HasItem}
+use Rattle.plist_buffer.specs.Children.{indices_left}
+use Rattle.plist_binwrite.specs.inner.Layout.{number_in, references_of}
 use Rattle.plist_binwrite.proofs.NumberLists.{PutsRest}
 use Rattle.plist_binwrite.proofs.objects.put_half.Given as goal
 
-abbrev pub invariant-loop-child : goal.invariant-loop-child
-invariant-loop-child g l = record {
-  put : PutsRest g.W.Write.contents (object_number l.plan.given l.plan.numbering) l.plan.width l.initial.sink
-      (table_form l.plan.width
-      (map (object_number l.plan.given l.plan.numbering) (indices_left l.initial.child-iterator)))
-      l.sink (indices_left l.child-iterator);
-  items : AllByRecursion (HasItem (events_in l.plan.given)) (indices_left l.child-iterator);
+abbrev pub invariant-loop-sink : goal.invariant-loop-sink
+invariant-loop-sink g l = record {
+  put : PutsRest g.W.Write.contents (number_in l.plan) l.plan.width l.fn.sink
+      (references_of l.plan l.fn.half l.fn.index) l.sink (indices_left l.children);
+  items : AllByRecursion (HasItem (events_in l.plan.given)) (indices_left l.children);
 }
+
+abbrev pub decreases-loop-sink : goal.decreases-loop-sink
+decreases-loop-sink g l = length (indices_left l.children)

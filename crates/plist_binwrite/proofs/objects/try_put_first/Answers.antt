@@ -1,9 +1,7 @@
 use Rattle.std.proofs.Common.{◌≡◌, ◌<◌, ◌^◌, ℕ, Ok, ap, arith, get_or, sym, ◌∙◌}
-use Rattle.plist_base.proofs.SinkSteps.{puts_as}
 use Rattle.plist_base.specs.Sinks.{HasPut}
 use Rattle.plist_binwrite.specs.inner.Layout.{number_in}
 use Rattle.plist_binwrite.proofs.ObjectOffsets.{number_told, puts_first}
-use Rattle.plist_binwrite.proofs.TreeObjects.{scalar_there}
 use Rattle.plist_binwrite.proofs.objects.try_put_first.Goals as goal
 use Rattle.plist_binwrite.proofs.objects.try_put_first.Goals.{After-try_put_object as Tried}
 
@@ -19,8 +17,6 @@ place g c n put = number_told c.position.result _ _ c.unwrap_or-place.ensures n 
 pub returns-clause-put : goal.returns-clause-put
 returns-clause-put g c = λ done.
     let a = (goal.at.returns-clause-put g c).After-try_put_object in
-    let put = c.try_put_object.ensures.put c.if-not-try_put_object.false in
     rw c.number-number.ensures
     (puts_first c.requires.plan c.args.index c.requires.item (free g a) _ (place g a) (Ok tt)
-    (λ t s. puts_as (scalar_there (number_in c.args.plan.now) c.args.plan.now.width put.0 put.1 t s)
-    put.2))
+    (c.try_put_object.ensures.put c.if-not-try_put_object.false))
