@@ -41,9 +41,11 @@ fn push_references(
         → length (indices_left children.new) < length (indices_left children.old) }
     ensures fits { 8 + 8 * length (indices_left children.old) ≤ room buffer.old → result ≡ true }
 {
+    // Copies in local variables stay in registers.
+    let (given, width) = (plan.given, plan.width);
     while let Some(child) = children.next() {
-        let number = plan.numbering.number(&plan.given, child);
-        push_number(buffer, plan.width, number as u64);
+        let number = plan.numbering.number(&given, child);
+        push_number(buffer, width, number as u64);
         if buffer.room() < 8 {
             return false;
         }
