@@ -90,9 +90,8 @@ fn push_byte(line: &mut FixedBuffer, byte: u8)
     line.push(&[b'\\', b'x', digit_of(byte / 16), digit_of(byte % 16)]);
 }
 
-// Pushes a string byte by byte. It isn't inlined, so that the variables of the loop stay in
-// registers.
-#[inline(never)]
+// Pushes a string byte by byte.
+#[inline(always)]
 fn push_escaped(line: &mut FixedBuffer, text: &[u8])
     requires { 4 * length text.now ≤ room line.old }
     ensures pushed { buffered line.new ≡ buffered line.old ++ escaped_text text.now }
@@ -116,7 +115,8 @@ pub fn push_text(line: &mut FixedBuffer, text: &[u8])
     }
 }
 
-// Pushes the line of a string byte by byte.
+// Pushes the line of a string byte by byte. It isn't inlined, so that the variables of the loop stay
+// in registers.
 #[inline(never)]
 fn push_escaped_line(line: &mut FixedBuffer, text: &[u8])
     requires { 4 * length text.now + 64 ≤ room line.old }
