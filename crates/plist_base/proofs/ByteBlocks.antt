@@ -1,11 +1,11 @@
 -- Bytes that are tested in blocks.
-use Rattle.std.proofs.Common.{◌≡◌, ℕ, ◌+◌, ◌-◌, ◌%◌, ◌^◌, ◌<◌, ◌≤◌, inl, inr, zero, suc, Bool, true, false, cond, eqb, List, [], ◌∷◌, map, length, get_or, take, drop, replicate, refl, sym, ap, subst, ◌∙◌, arith, eqb-true, w8}
+use Rattle.std.proofs.Common.{◌≡◌, ℕ, ◌+◌, ◌-◌, ◌%◌, ◌^◌, ◌<◌, ◌≤◌, inl, inr, zero, suc, Bool, true, false, cond, eqb, List, [], ◌∷◌, ◌++◌, map, length, get_or, take, drop, replicate, refl, sym, ap, subst, ◌∙◌, arith, eqb-true, take-add, w8}
 use Rattle.std.specs.Str.{IsAscii}
 use Rattle.std.proofs.lemmas.Bool.{cases_lt}
-use Rattle.std.proofs.lemmas.List.{get_or-take, get_or-drop, get_or_past, length-take, length-take-le, length-drop}
-use Rattle.std.proofs.lemmas.Simd.{bitmask_splat}
-use lib.Lanes.{zip2, mask_l, top}
-use Rattle.plist_base.specs.ByteTests.{EachByte}
+use Rattle.std.proofs.lemmas.List.{get_or-take, get_or-drop, get_or_past, length-take, length-take-le, length-drop, take-take}
+use Rattle.std.proofs.lemmas.Simd.{bitmask_splat, length-chunk, take_more_put_chunk}
+use lib.Lanes.{chunk, mask_l, put_chunk, top, zip2}
+use Rattle.plist_base.specs.ByteTests.{CopiesPassing, EachByte}
 
 none_marked : (p : ℕ → Bool) (bytes : List ℕ) → mask_l (map p bytes) ≡ 0
     → (i : ℕ) → i < length bytes → p (get_or bytes i 0) ≡ false
@@ -89,6 +89,32 @@ each_more P bytes at size le before next i within =
           ∙ sym (get_or-take (at + size) bytes i 0 (omega arith)))
           (next (i - at) (omega (arith, length-take-le size (drop at bytes) (omega (arith, length-drop at bytes)))))
     ]
+
+-- if the bytes before a block were copied, and the block that has the property is copied, so are all
+-- bytes up to its end
+pub copies_more : (P : ℕ → Type 0) (bytes target : List ℕ) (at size : ℕ) → at + size ≤ length bytes
+    → length target ≡ length bytes → CopiesPassing P at bytes target
+    → EachByte P (chunk at size bytes)
+    → CopiesPassing P (at + size) bytes (put_chunk at target (chunk at size bytes))
+copies_more P bytes target at size le same before next =
+    let block = chunk at size bytes in
+    let long : length block ≡ size = length-chunk at size bytes le in
+    record {
+      copied = take_more_put_chunk at target block (at + size) (omega (arith, long)) (omega (arith, same, le))
+          ∙ ap (λ front. front ++ block) before.copied ∙ sym (take-add at size bytes);
+      passed = each_more P bytes at size le before.passed next;
+    }
+
+-- if some bytes were copied, so were fewer
+pub copies_fewer : (P : ℕ → Type 0) (bytes target : List ℕ) (m n : ℕ) → m ≤ n
+    → CopiesPassing P n bytes target → CopiesPassing P m bytes target
+copies_fewer P bytes target m n le all = record {
+  copied = sym (take-take m n target le) ∙ ap (take m) all.copied ∙ take-take m n bytes le;
+  passed = λ i within.
+      let below : i < m = omega (arith, length-take m bytes) in
+      subst P (get_or-take n bytes i 0 (omega (arith, below, le)) ∙ sym (get_or-take m bytes i 0 below))
+      (all.passed i (omega (arith, length-take m bytes, length-take n bytes, le)));
+}
 
 -- bytes that are each ASCII are ASCII together
 pub ascii_from_each : (bytes : List ℕ) → EachByte (λ byte. byte < 128) bytes → IsAscii bytes

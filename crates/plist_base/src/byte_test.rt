@@ -1,7 +1,7 @@
 //! Tests that can be made for many bytes together.
 
-ghost use Rattle.std.specs.Prelude.{◌≡◌, ◌≤◌, length, true};
-ghost use Rattle.plist_base.specs.ByteTests.{EachByte};
+ghost use Rattle.std.specs.Prelude.{◌≡◌, ◌+◌, ◌≤◌, length, true};
+ghost use Rattle.plist_base.specs.ByteTests.{CopiesPassing, EachByte};
 
 use std::simd::prelude::*;
 
@@ -80,4 +80,109 @@ pub fn all_pass<T: ByteTest>(bytes: &[u8]) -> bool
         return some_pass::<T>(bytes);
     }
     few_pass::<T>(bytes)
+}
+
+// Copies the sixteen bytes at an index, before which all bytes were copied, if they pass a test.
+// Returns whether they do.
+#[inline(always)]
+fn copy_sixteen<T: ByteTest>(bytes: &[u8], target: &mut [u8], at: usize) -> bool
+    requires within { at + 16 ≤ length bytes.now }
+    requires same { length target.old ≡ length bytes.now }
+    requires before { CopiesPassing T.passes at bytes.now target.old }
+    ensures copied { result ≡ true → CopiesPassing T.passes (at + 16) bytes.now target.new }
+    ensures size { length target.new ≡ length target.old }
+{
+    let block = u8x16::from_slice(&bytes[at..]);
+    if !T::sixteen(block) {
+        return false;
+    }
+    block.copy_to_slice(&mut target[at..]);
+    true
+}
+
+// Copies the eight bytes at an index, before which all bytes were copied, if they pass a test.
+// Returns whether they do.
+#[inline(always)]
+fn copy_eight<T: ByteTest>(bytes: &[u8], target: &mut [u8], at: usize) -> bool
+    requires within { at + 8 ≤ length bytes.now }
+    requires same { length target.old ≡ length bytes.now }
+    requires before { CopiesPassing T.passes at bytes.now target.old }
+    ensures copied { result ≡ true → CopiesPassing T.passes (at + 8) bytes.now target.new }
+    ensures size { length target.new ≡ length target.old }
+{
+    let block = u8x8::from_slice(&bytes[at..]);
+    if !T::eight(block) {
+        return false;
+    }
+    block.copy_to_slice(&mut target[at..]);
+    true
+}
+
+// Copies at least sixteen bytes if they pass a test, and returns whether they do. The last sixteen
+// are copied together, even if some of them were copied before.
+#[inline(always)]
+fn copy_many<T: ByteTest>(bytes: &[u8], target: &mut [u8]) -> bool
+    requires many { 16 ≤ length bytes.now }
+    requires same { length target.old ≡ length bytes.now }
+    ensures copied { result ≡ true → CopiesPassing T.passes (length bytes.now) bytes.now target.new }
+    ensures size { length target.new ≡ length target.old }
+{
+    let last = bytes.len() - 16;
+    let mut at = 0;
+    while at < last {
+        if !copy_sixteen::<T>(bytes, target, at) {
+            return false;
+        }
+        at += 16;
+    }
+    copy_sixteen::<T>(bytes, target, last)
+}
+
+// Copies eight to sixteen bytes if they pass a test, and returns whether they do: the first eight
+// together, and then the last eight together.
+#[inline(always)]
+fn copy_some<T: ByteTest>(bytes: &[u8], target: &mut [u8]) -> bool
+    requires some { (8 ≤ length bytes.now) × (length bytes.now ≤ 16) }
+    requires same { length target.old ≡ length bytes.now }
+    ensures copied { result ≡ true → CopiesPassing T.passes (length bytes.now) bytes.now target.new }
+    ensures size { length target.new ≡ length target.old }
+{
+    if !copy_eight::<T>(bytes, target, 0) {
+        return false;
+    }
+    copy_eight::<T>(bytes, target, bytes.len() - 8)
+}
+
+// Copies bytes one by one if they pass a test, and returns whether they do.
+#[inline(always)]
+fn copy_few<T: ByteTest>(bytes: &[u8], target: &mut [u8]) -> bool
+    requires { length target.old ≡ length bytes.now }
+    ensures copied { result ≡ true → CopiesPassing T.passes (length bytes.now) bytes.now target.new }
+    ensures size { length target.new ≡ length target.old }
+{
+    for index in 0..bytes.len() {
+        if !T::one(bytes[index]) {
+            return false;
+        }
+        target[index] = bytes[index];
+    }
+    true
+}
+
+/// Copies bytes if all of them pass a test, and returns whether they do. Otherwise the target is
+/// unspecified. Testing and copying together loads each byte only once.
+#[inline(always)]
+pub(crate) fn copy_passing<T: ByteTest>(bytes: &[u8], target: &mut [u8]) -> bool
+    requires { length target.old ≡ length bytes.now }
+    ensures copied { result ≡ true → target.new ≡ bytes.now }
+    ensures passed { result ≡ true → EachByte T.passes bytes.now }
+    ensures size { length target.new ≡ length target.old }
+{
+    if bytes.len() > 16 {
+        return copy_many::<T>(bytes, target);
+    }
+    if bytes.len() >= 8 {
+        return copy_some::<T>(bytes, target);
+    }
+    copy_few::<T>(bytes, target)
 }

@@ -1,9 +1,11 @@
 //! A buffer of fixed size.
 
-ghost use Rattle.std.specs.Prelude.{◌≡◌, ◌≤◌, ◌^◌, length, IfOk};
+ghost use Rattle.std.specs.Prelude.{◌≡◌, ◌+◌, ◌++◌, ◌≤◌, ◌^◌, length, true, IfOk};
+ghost use Rattle.plist_base.specs.ByteTests.{EachByte};
 ghost use Rattle.std.specs.Fmt.{decimal};
 
 use crate::Error;
+use crate::byte_test::{ByteTest, copy_passing};
 use itoa::write_digits;
 use std::alloc::Global;
 
@@ -66,8 +68,29 @@ fn digits_of(number: u64) -> usize
     digits_of_large(number)
 }
 
+// Copies `before`, `bytes` and `after` if all of `bytes` pass a test, and returns whether they do.
+#[inline(always)]
+fn copy_enclosed<T: ByteTest, const BEFORE: usize, const AFTER: usize>(
+    target: &mut [u8],
+    before: [u8; BEFORE],
+    bytes: &[u8],
+    after: [u8; AFTER],
+) -> bool
+    requires { length target.old ≡ BEFORE + length bytes.now + AFTER }
+    ensures copied { result ≡ true → target.new ≡ before.entry ++ bytes.now ++ after.entry }
+    ensures passed { result ≡ true → EachByte T.passes bytes.now }
+    ensures size { length target.new ≡ length target.old }
+{
+    let (first, rest) = target.split_at_mut(BEFORE);
+    let (middle, last) = rest.split_at_mut(bytes.len());
+    first.copy_from_slice(&before);
+    last.copy_from_slice(&after);
+    copy_passing::<T>(bytes, middle)
+}
+
 impl FixedBuffer {
-    ghost use Rattle.std.specs.Prelude.{◌≡◌, ◌≤◌, ◌+◌, ◌++◌, [], ◌^◌, length, take, IfOk};
+    ghost use Rattle.std.specs.Prelude.{◌≡◌, ◌≤◌, ◌+◌, ◌++◌, [], ◌^◌, length, take, true, false, IfOk};
+    ghost use Rattle.plist_base.specs.ByteTests.{EachByte};
     ghost use Rattle.plist_base.specs.Outcomes.{OnlyMemory};
     ghost use Rattle.plist_base.specs.Sinks.{buffered, room};
 
@@ -117,6 +140,34 @@ impl FixedBuffer {
         let end = self.used + bytes.len();
         self.bytes[self.used..end].copy_from_slice(bytes);
         self.used = end;
+    }
+
+    /// Appends `before`, `bytes` and `after` if all of `bytes` pass a test, and returns whether they
+    /// do. All three must fit into the room.
+    #[inline(always)]
+    pub fn push_passing<T: ByteTest, const BEFORE: usize, const AFTER: usize>(
+        &mut self,
+        before: [u8; BEFORE],
+        bytes: &[u8],
+        after: [u8; AFTER],
+    ) -> bool
+        requires room { BEFORE + length bytes.now + AFTER ≤ room self.old }
+        ensures pushed { result ≡ true
+            → buffered self.new
+            ≡ buffered self.old ++ (before.entry ++ bytes.now ++ after.entry) }
+        ensures passed { result ≡ true → EachByte T.passes bytes.now }
+        ensures room { result ≡ true
+            → room self.new + (BEFORE + length bytes.now + AFTER) ≡ room self.old }
+        ensures unchanged { result ≡ false → buffered self.new ≡ buffered self.old }
+        ensures same { result ≡ false → room self.new ≡ room self.old }
+    {
+        let end = self.used + BEFORE + bytes.len() + AFTER;
+        let target = &mut self.bytes[self.used..end];
+        if !copy_enclosed::<T, BEFORE, AFTER>(target, before, bytes, after) {
+            return false;
+        }
+        self.used = end;
+        true
     }
 
     /// Appends the first `count` of eight bytes. There must be room for all eight: copying a fixed

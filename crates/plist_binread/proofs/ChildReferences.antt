@@ -1,11 +1,11 @@
 -- Copies of bytes, and the references to children that lie in them.
-use Rattle.std.proofs.Common.{◌≡◌, ℕ, ◌+◌, ◌-◌, ◌*◌, ◌^◌, ◌<◌, ◌≤◌, List, length, take, drop, get_or, Option, Result, Ok, Err, IfOk, IfErr, IfSome, ap, sym, ◌∙◌, arith}
+use Rattle.std.proofs.Common.{◌≡◌, ℕ, ◌+◌, ◌-◌, ◌*◌, ◌^◌, ◌<◌, ◌≤◌, List, length, take, drop, get_or, Option, Some, Result, Ok, Err, IfOk, IfErr, IfSome, ap, sym, ◌∙◌, arith}
 use Rattle.std.proofs.lemmas.List.{length-take-le, length-drop, drop-drop, take-take, drop-take}
 use Rattle.plist_base.specs.declared.error.Error.{Error}
 use Rattle.plist_base.specs.Faults.{IsIo, kind_of, error_kind_of}
 use Rattle.plist_format.specs.Container.{number_of, number_at}
 use Rattle.plist_decode.specs.Reading.{object_at}
-use Rattle.plist_binread.specs.References.{AreReferencesOf, ReadsChildAt, reference_place}
+use Rattle.plist_binread.specs.References.{AreReferencesOf, IsNumberAt, ReadsChildAt, reference_place}
 use Rattle.plist_decode.specs.Decoding.{children_in, reference_index}
 use Rattle.plist_binread.specs.declared.references.References.{References}
 use Rattle.plist_decode.specs.declared.head.Bounds.{Bounds}
@@ -42,6 +42,30 @@ known_suffix known p k n place found above is within short lies = IfSome_then kn
     rw (rest, at) (cut ∙ ap (drop k) there
     ∙ ap (λ m. drop k (take m (drop p bytes))) whole ∙ drop-take k (n - k) (drop p bytes)
     ∙ ap (take (n - k)) (drop-drop k p bytes)))
+
+-- the number in bytes of a run is that of the source
+pub number_in_run : (known : Option (List ℕ)) (p k n width place number : ℕ) (found : List ℕ)
+    → place ≡ p + k → k + width ≤ n → n ≤ length found
+    → number ≡ number_of (take (k + width - k) (drop k found))
+    → IfSome known (λ bytes. LiesAt bytes p (take n found))
+    → IsNumberAt (Some number) known place width
+number_in_run known p k n width place number found there within short value lies =
+    let rest = known_suffix known p k n place found (omega (arith, there)) (omega (arith, there))
+    (omega (arith, within)) short lies in
+    IfSome_then known
+    (known_prefix known place width (take (n - k) (drop k found)) (omega (
+      arith,
+      within,
+      short,
+      length-take-le (n - k) (drop k found) (omega (arith, within, short, length-drop k found)),
+    )) rest)
+    (λ bytes lies.
+    let front = take-take width (n - k) (drop k found) (omega (arith, within)) in
+    let long : length (take width (drop k found)) ≡ width = length-take-le width (drop k found)
+    (omega (arith, within, short, length-drop k found)) in
+    value ∙ ap (λ m. number_of (take m (drop k found))) (omega arith)
+    ∙ ap number_of (sym front ∙ lies ∙ ap (λ xs. take (length xs) (drop place bytes)) front
+    ∙ ap (λ m. take m (drop place bytes)) long))
 
 -- ---- the reference to a child
 

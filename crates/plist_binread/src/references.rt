@@ -33,8 +33,7 @@ pub struct Run {
 }
 
 impl Run {
-    ghost use Rattle.std.specs.Prelude.{◌≡◌, ◌≤◌, ℕ, List, Option, IfSome};
-    ghost use Rattle.plist_base.specs.Sources.{LiesAt};
+    ghost use Rattle.std.specs.Prelude.{◌≡◌, ◌≤◌, ℕ, List, Option};
     ghost use Rattle.plist_binread.specs.References.{IsNumberAt, IsRunOf};
 
     /// Creates an empty run.
@@ -69,17 +68,23 @@ impl Run {
         }
     }
 
-    /// Returns the bytes of the run from an offset on, or an empty slice if the offset lies outside
-    /// the run.
+    // Returns the number in the `width` bytes at an offset, or `None` if the run doesn't contain
+    // them.
     #[inline(always)]
-    pub fn bytes_from(&self, place: u64) -> &[u8]
+    fn find(&self, place: u64, width: usize) -> Option<u64>
+        requires { width ≤ 8 }
         ensures { (known : Option (List ℕ)) → IsRunOf known self.now
-            → IfSome known (λ bytes. LiesAt bytes place result.now) }
+            → IsNumberAt result known place width }
     {
-        match place.checked_sub(self.at) {
-            Some(skipped) if skipped <= self.len as u64 => &self.bytes[skipped as usize..self.len],
-            _ => &[],
+        if place < self.at || place - self.at > (RUN - width) as u64 {
+            return None;
         }
+        let first = (place - self.at) as usize;
+        let end = first + width;
+        if end > self.len {
+            return None;
+        }
+        Some(number_from(&self.bytes[first..end]))
     }
 
     /// Returns the number in the `width` bytes at an offset, or `None` if the run doesn't contain
@@ -90,11 +95,12 @@ impl Run {
         ensures { (known : Option (List ℕ)) → IsRunOf known self.now
             → IsNumberAt result known place width }
     {
-        let found = self.bytes_from(place);
-        if found.len() < width {
-            return None;
+        // Files with many objects mostly have references of this width. A call with a known width
+        // makes fewer tests.
+        if width == 4 {
+            return self.find(place, 4);
         }
-        Some(number_from(&found[..width]))
+        self.find(place, width)
     }
 
     /// Returns the number in the `width` bytes at an offset, or `None` if they aren't buffered.

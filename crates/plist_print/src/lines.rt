@@ -8,7 +8,7 @@ ghost use Rattle.plist_base.specs.Trees.{Boolean, Data, String};
 ghost use Rattle.plist_print.specs.EscapedLines.{event_of_short, in_notation, line_of, text_of_date, text_of_real, text_of_start};
 
 use crate::hexadecimal::push_hexadecimal;
-use crate::plain_bytes::push_text;
+use crate::plain_bytes::{push_text, push_text_line};
 use plist_base::{Date, FixedBuffer, Integer, RealBits, Uid};
 
 /// How the bytes of a string or data are printed.
@@ -207,9 +207,7 @@ pub fn push_string(line: &mut FixedBuffer, text: &str)
     requires { 4 * length text.now + 64 ≤ room line.old }
     ensures { buffered line.new ≡ buffered line.old ++ line_of (ScalarEvent (String text.now)) }
 {
-    line.push(b"String \"");
-    push_text(line, text.as_bytes());
-    line.push(b"\"\n");
+    push_text_line(line, text.as_bytes());
 }
 
 /// Pushes the line of data.

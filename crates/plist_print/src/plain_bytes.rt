@@ -2,11 +2,13 @@
 //! and any other byte as it is.
 
 ghost use Rattle.std.specs.Prelude.{◌≡◌, ◌++◌, ◌+◌, ◌*◌, ◌≤◌, length, true};
+ghost use Rattle.plist_base.specs.Events.{ScalarEvent};
 ghost use Rattle.plist_base.specs.Sinks.{buffered, room};
-ghost use Rattle.plist_print.specs.EscapedLines.{escaped_byte, escaped_text, stands_for_itself};
+ghost use Rattle.plist_base.specs.Trees.{String};
+ghost use Rattle.plist_print.specs.EscapedLines.{escaped_byte, escaped_text, line_of, stands_for_itself};
 
 use crate::hexadecimal::digit_of;
-use plist_base::{ByteTest, FixedBuffer, all_pass};
+use plist_base::{ByteTest, FixedBuffer};
 use std::simd::prelude::*;
 
 // `PLAIN[byte]` says whether this byte of a string is printed as it is.
@@ -88,9 +90,8 @@ fn push_byte(line: &mut FixedBuffer, byte: u8)
     line.push(&[b'\\', b'x', digit_of(byte / 16), digit_of(byte % 16)]);
 }
 
-// Pushes a string byte by byte. It isn't inlined, so that the variables of the loop stay in
-// registers.
-#[inline(never)]
+// Pushes a string byte by byte.
+#[inline(always)]
 fn push_escaped(line: &mut FixedBuffer, text: &[u8])
     requires { 4 * length text.now ≤ room line.old }
     ensures pushed { buffered line.new ≡ buffered line.old ++ escaped_text text.now }
@@ -102,16 +103,37 @@ fn push_escaped(line: &mut FixedBuffer, text: &[u8])
 }
 
 /// Pushes the printed form of a string, which has at most four bytes for each byte of the string. A
-/// string that needs no escape is copied as a whole.
+/// string that needs no escape is tested and copied in one pass.
 #[inline(always)]
 pub fn push_text(line: &mut FixedBuffer, text: &[u8])
     requires { 4 * length text.now ≤ room line.old }
     ensures pushed { buffered line.new ≡ buffered line.old ++ escaped_text text.now }
     ensures room { room line.old ≤ room line.new + 4 * length text.now }
 {
-    if all_pass::<Plain>(text) {
-        line.push(text);
-        return;
+    if !line.push_passing::<Plain, 0, 0>([], text, []) {
+        push_escaped(line, text);
     }
+}
+
+// Pushes the line of a string byte by byte. It isn't inlined, so that the variables of the loop stay
+// in registers.
+#[inline(never)]
+fn push_escaped_line(line: &mut FixedBuffer, text: &[u8])
+    requires { 4 * length text.now + 64 ≤ room line.old }
+    ensures { buffered line.new ≡ buffered line.old ++ line_of (ScalarEvent (String text.now)) }
+{
+    line.push(b"String \"");
     push_escaped(line, text);
+    line.push(b"\"\n");
+}
+
+/// Pushes the line of a string. A string that needs no escape is tested and copied in one pass.
+#[inline(always)]
+pub fn push_text_line(line: &mut FixedBuffer, text: &[u8])
+    requires { 4 * length text.now + 64 ≤ room line.old }
+    ensures { buffered line.new ≡ buffered line.old ++ line_of (ScalarEvent (String text.now)) }
+{
+    if !line.push_passing::<Plain, 8, 2>(*b"String \"", text, *b"\"\n") {
+        push_escaped_line(line, text);
+    }
 }

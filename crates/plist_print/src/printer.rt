@@ -159,18 +159,28 @@ impl<'p, W: Write> Printer<'p, W> {
         }
     }
 
+    // Prints a long string in parts. This is a separate function because the memory of `Parts` is
+    // zeroed on every call.
+    #[cold]
+    #[inline(never)]
+    fn print_long_text(&mut self, text: &str) -> ControlFlow<()>
+        ensures { PrintsLine W.contents self.old (ScalarEvent (String text.now)) result self.new }
+    {
+        self.print_parts(&Parts {
+            word: b"String \"",
+            bytes: text.as_bytes(),
+            notation: Notation::Text,
+            end: b"\"\n",
+        })
+    }
+
     // Prints a string.
     #[inline(always)]
     fn print_text(&mut self, text: &str) -> ControlFlow<()>
         ensures { PrintsLine W.contents self.old (ScalarEvent (String text.now)) result self.new }
     {
         if text.len() > MOST_AT_ONCE {
-            return self.print_parts(&Parts {
-                word: b"String \"",
-                bytes: text.as_bytes(),
-                notation: Notation::Text,
-                end: b"\"\n",
-            });
+            return self.print_long_text(text);
         }
         match self.make_room(4 * text.len() + MAX_FIXED_LINE) {
             ControlFlow::Continue(()) => {
