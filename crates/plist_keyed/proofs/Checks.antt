@@ -7,7 +7,7 @@ use Rattle.std.specs.Map.{keys_of, lookup}
 use Rattle.indexmap.specs.IndexMap.{IndexMap, get, insert_entry}
 use Rattle.indexmap.specs.IndexSet.{insert_key}
 use Rattle.indexmap.proofs.CallerLemmas.{insert_entry-new}
-use Rattle.std.proofs.lemmas.Bool.{eq-eqb, false_from_ne_true}
+use Rattle.std.proofs.lemmas.Bool.{false_from_ne_true}
 use Rattle.std.proofs.lemmas.Bool.Decides.{eqb_tells}
 use Rattle.std.proofs.lemmas.List.{reverse-append, map-append}
 use Rattle.std.proofs.lemmas.List.Folds.{list_any-append}
@@ -23,11 +23,11 @@ use Rattle.plist.specs.Events.{remaining_events}
 use Rattle.plist.specs.ValueTrees.{tree_of}
 use Rattle.plist_keyed.specs.declared.error.WalkError.{WalkError}
 use Rattle.plist_keyed.specs.declared.error.WalkError.TheVariants as walk_error
-use Rattle.plist_keyed.specs.declared.state.Walk.{Walk}
-use Rattle.plist_keyed.specs.Archives.{ArchiveFault, IsFaultOf, UidOutOfRange, RecursiveUid, error_of_walk, object_found, resolved_tree}
-use Rattle.plist_keyed.specs.inner.Walks.{AreSettled, Follows, IsIn, NameOnly, end_in, events_at, objects_in, settled_in, uid_of_event, uid_of_tree}
+use Rattle.plist_keyed.specs.declared.state.ArchiveWalk.{ArchiveWalk}
+use Rattle.plist_keyed.specs.Archives.{ArchiveFault, IsFaultOf, UidOutOfRange, RecursiveUid, error_of_walk, resolved_tree}
+use Rattle.plist_keyed.specs.inner.Walks.{AreSettled, FollowsUid, IsIn, NameOnly, end_in, events_at, objects_in, settled_in, uid_of_event, uid_of_tree}
 use Rattle.plist_keyed.proofs.Replaced.{Outcome, collected, events_in, join, join-assoc, join-nil, join-none, outcome}
-use Rattle.plist_keyed.proofs.Settled.{AreApart, first-in, found_in, found-parts, from-top, later-in, named-append, named-collects, named-more, named-outcome, opened_in, refused_in, resolved_in, settled-same, uid-events}
+use Rattle.plist_keyed.proofs.Settled.{AreApart, first-in, found_in, found-parts, from-top, later-in, named-append, named-more, named-outcome, opened_in, refused_in, resolved_in, settled-same, uid-events}
 
 module _ (objects : List Tree) where
   -- ---- what remains
@@ -105,9 +105,9 @@ module _ (objects : List Tree) where
   settled-path : (end : ℕ → ℕ) (uids : List ℕ) → AreSettled objects end uids
       → IsPath (length objects) uids
   settled-path end [] s = path_none _
-  settled-path end (uid ∷ uids) ((object, at, named, ends), new, s) =
-      path_push uid (settled-path end uids s) (slice_get_within objects uid object at)
-      (false_from_ne_true _ new)
+  settled-path end (uid ∷ uids) (r, s) =
+      path_push uid (settled-path end uids s) (slice_get_within objects uid r.object r.found)
+      (false_from_ne_true _ r.is_new)
 
   -- no more Uids are settled or open than there are objects
   read-count : (uids : List ℕ) (levels : List (List PlainEvent)) (path : List ℕ)
@@ -207,16 +207,17 @@ module _ (objects : List Tree) where
       → ((u : ℕ) → IsIn u uids → other u ≡ end u) → AreSettled objects end uids
       → AreSettled objects other uids
   settled-kept end other [] kept s = tt
-  settled-kept end other (uid ∷ uids) kept ((object, at, named, ends), new, s) =
+  settled-kept end other (uid ∷ uids) kept (r, s) =
       let below : (u : ℕ) → IsIn u uids → other u ≡ end u =
       (λ u p. kept u (later-in u uid uids p)) in (
-        (
-          object,
-          at,
-          named,
-          kept uid (first-in uid uids) ∙ ends ∙ end-kept end other object uids uid named below,
-        ),
-        new,
+        record {
+          object = r.object;
+          found = r.found;
+          is_new = r.is_new;
+          leads = r.leads;
+          same_end = kept uid (first-in uid uids) ∙ r.same_end
+              ∙ end-kept end other r.object uids uid r.leads below;
+        },
         settled-kept end other uids below s,
       )
 
@@ -311,7 +312,16 @@ module _ (objects : List Tree) where
         ends ∙ ap (λ f. option_map_or end (option_and_then uid_of_tree f) uid) at
         ∙ end-kept end other object uids uid whole_named kept in
         record {
-          settled = ((object, at, whole_named, own), new, settled-kept end other uids kept o.settled);
+          settled = (
+            record {
+              object = object;
+              found = at;
+              is_new = new;
+              leads = whole_named;
+              same_end = own;
+            },
+            settled-kept end other uids kept o.settled,
+          );
           read = r;
           reached = elim o.reached [
             | inl p ↦ inl (later-in start uid uids p)
@@ -466,32 +476,33 @@ pub levels-snoc : (below : List Events) (level : Events)
 levels-snoc below level = ap (map remaining_events) (reverse-snoc below level)
 
 -- the state is consistent, and the walk began with this Uid
-abbrev pub Checks : (start : ℕ) → Walk → (levels : List (List PlainEvent)) → (path : List ℕ)
+abbrev pub Checks : (start : ℕ) → ArchiveWalk → (levels : List (List PlainEvent)) → (path : List ℕ)
     → Type 0
 Checks start walk levels path =
     IsCheck (objects_in walk) start (end_in walk.ends) (settled_in walk.ends) levels path
 
-abbrev pub distance_in : Walk → (levels : List (List PlainEvent)) → (path : List ℕ) → ℕ
+abbrev pub distance_in : ArchiveWalk → (levels : List (List PlainEvent)) → (path : List ℕ) → ℕ
 distance_in walk levels path = distance (objects_in walk) (settled_in walk.ends) levels path
 
 -- the first Uid is followed
-pub begins : (before after : Walk) (path longer : List ℕ) (start : ℕ) → path ≡ []
+pub begins : (before after : ArchiveWalk) (path longer : List ℕ) (start : ℕ) → path ≡ []
     → before.levels.items ≡ [] → before.ends.entries ≡ [] → after.objects ≡ before.objects
-    → after.ends ≡ before.ends → Follows before path start after longer
+    → after.ends ≡ before.ends → FollowsUid before path start after longer
     → Checks start after (levels_of after.levels.items) (reverse longer)
 begins before after path longer start none levels ends objects same (inl (has, kept, is)) =
     absurd (not-in before.ends start ends has)
 begins before after path longer start none levels ends objects same
-    (inr (object, level, new, found, all, items, longer_is)) =
+    (inr r) =
     let trees = objects_in before in
-    rw (objects, same, ends, longer_is, none, items, levels, all)
-    (opens trees start (λ u. u) [] (ScalarEvent (Uid start)) [] [] [] start object tt tt
+    rw (objects, same, ends, r.is_last, none, r.levels, levels, r.events)
+    (opens trees start (λ u. u) [] (ScalarEvent (Uid start)) [] [] [] start r.object tt tt
     (λ p. absurd (cc))
     (sym (join-nil _ ∙ join-none _ ∙ ap (events_in bracketing) (from-top trees start))) refl
-    (rw none at found) (inr (first-in start [])))
+    (rw none at r.found) (inr (first-in start [])))
 
 -- an event that isn't a Uid is taken
-pub skips : (walk : Walk) (path : List ℕ) (start : ℕ) (e : PlainEvent) (below items : List Events)
+pub skips : (walk : ArchiveWalk) (path : List ℕ) (start : ℕ) (e : PlainEvent)
+    (below items : List Events)
     (rest : Events) → items ≡ below ++ rest ∷ []
     → Checks start walk ((e ∷ remaining_events rest) ∷ levels_of below) path
     → uid_of_event e ≡ None → Checks start walk (levels_of items) path
@@ -501,11 +512,11 @@ skips walk path start e below items rest is o plain =
     ((λ u p. absurd (none-some u (sym plain ∙ p))), tt) o)
 
 -- an event that is a Uid is followed
-pub follows : (walk after : Walk) (path longer : List ℕ) (start : ℕ) (e : PlainEvent)
+pub follows : (walk after : ArchiveWalk) (path longer : List ℕ) (start : ℕ) (e : PlainEvent)
     (below : List Events) (rest : Events) (n : ℕ) → walk.levels.items ≡ below ++ rest ∷ []
     → Checks start walk ((e ∷ remaining_events rest) ∷ levels_of below) (reverse path)
     → after.objects ≡ walk.objects → after.ends ≡ walk.ends → uid_of_event e ≡ Some n
-    → Follows walk path n after longer
+    → FollowsUid walk path n after longer
     → Checks start after (levels_of after.levels.items) (reverse longer)
     × (distance_in after (levels_of after.levels.items) (reverse longer)
     < distance_in walk ((e ∷ remaining_events rest) ∷ levels_of below) (reverse path))
@@ -520,19 +531,19 @@ follows walk after path longer start e below rest n items o objects ends is
       passes-nearer trees start end uids e (remaining_events rest) (levels_of below) (reverse path),
     )
 follows walk after path longer start e below rest n items o objects ends is
-    (inr (object, level, new, found, all, pushed, longer_is)) =
+    (inr r) =
     let trees = objects_in walk in
     let end = end_in walk.ends in
     let uids = settled_in walk.ends in
     let others = remaining_events rest ∷ levels_of below in
-    let found_too : found_in trees (reverse path) n ≡ Ok object =
-    rw (any_reversed (nat_eq n) path) found in
-    let parts = found-parts (slice_get trees n) _ n object found_too in
+    let found_too : found_in trees (reverse path) n ≡ Ok r.object =
+    rw (any_reversed (nat_eq n) path) r.found in
+    let parts = found-parts (slice_get trees n) _ n r.object found_too in
     let off : IsIn n (reverse path) → ⊥ = (λ p. true≢false (sym p ∙ parts.1)) in
-    let check : IsCheck trees start end uids (bracketing object ∷ others) (n ∷ reverse path) =
-    opens trees start end uids e others (reverse path) o.done n object o.settled
+    let check : IsCheck trees start end uids (bracketing r.object ∷ others) (n ∷ reverse path) =
+    opens trees start end uids e others (reverse path) o.done n r.object o.settled
     (read-passed trees uids e n (remaining_events rest) (levels_of below) (reverse path) is off
-    o.read) new (o.given ∙ ap (join (Ok o.done)) (takes trees start end uids e
+    o.read) r.is_new (o.given ∙ ap (join (Ok o.done)) (takes trees start end uids e
     (remaining_events rest) (levels_of below) (reverse path))) is found_too (elim o.reached [
       | inl p ↦ inl p
       | inr p ↦ inr (later-in start n (reverse path) p)
@@ -540,21 +551,21 @@ follows walk after path longer start e below rest n items o objects ends is
     rw (
       objects,
       ends,
-      pushed,
-      levels-snoc walk.levels.items level,
-      all,
+      r.levels,
+      levels-snoc walk.levels.items r.level,
+      r.events,
       items,
       levels-snoc below rest,
-      longer_is,
+      r.is_last,
       reverse-snoc path n,
     ) (
       check,
       opens-nearer trees start end uids e (remaining_events rest) (levels_of below) (reverse path) n
-          object check parts.0,
+          r.object check parts.0,
     )
 
 -- a Uid is refused
-refused-by : (walk : Walk) (path : List ℕ) (start : ℕ) (e : PlainEvent)
+refused-by : (walk : ArchiveWalk) (path : List ℕ) (start : ℕ) (e : PlainEvent)
     (levels : List (List PlainEvent)) (done : List PlainEvent) (n : ℕ) (error : WalkError)
     → events_in bracketing (resolved_tree (objects_in walk) start)
     ≡ join (Ok done) (join (outcome (resolved_in (objects_in walk) (reverse path)) e)
@@ -571,7 +582,7 @@ refused-by walk path start e levels done n (walk_error.OpenObject uid) given is 
 refused-by walk path start e levels done n walk_error.OutOfMemory given is h = tt
 
 -- the innermost Uid, whose object has no events left, is settled
-pub settles : (walk after : Walk) (path shorter : List ℕ) (start uid : ℕ) (left : Events)
+pub settles : (walk after : ArchiveWalk) (path shorter : List ℕ) (start uid : ℕ) (left : Events)
     (below : List Events) → path ≡ shorter ++ uid ∷ [] → remaining_events left ≡ []
     → Checks start walk (remaining_events left ∷ levels_of below) (reverse path)
     → after.objects ≡ walk.objects
@@ -590,13 +601,13 @@ settles walk after path shorter start uid left below is none o objects settled o
 -- ---- the loop
 
 -- the innermost level is removed
-pub popped : (start : ℕ) (walk : Walk) (path : List ℕ) (below : List Events) (left : Events)
+pub popped : (start : ℕ) (walk : ArchiveWalk) (path : List ℕ) (below : List Events) (left : Events)
     → walk.levels.items ≡ below ++ left ∷ [] → Checks start walk (levels_of walk.levels.items) path
     → Checks start walk (remaining_events left ∷ levels_of below) path
 popped start walk path below left is o =
     subst (λ levels. Checks start walk levels path) (ap levels_of is ∙ levels-snoc below left) o
 
-pub popped-distance : (walk : Walk) (path : List ℕ) (below : List Events) (left : Events)
+pub popped-distance : (walk : ArchiveWalk) (path : List ℕ) (below : List Events) (left : Events)
     → walk.levels.items ≡ below ++ left ∷ []
     → distance_in walk (levels_of walk.levels.items) path
     ≡ distance_in walk (remaining_events left ∷ levels_of below) path
@@ -604,7 +615,7 @@ popped-distance walk path below left is =
     ap (λ levels. distance_in walk levels path) (ap levels_of is ∙ levels-snoc below left)
 
 -- the first Uid is refused
-pub first-refused : (walk : Walk) (path : List ℕ) (start : ℕ) (error : WalkError) → path ≡ []
+pub first-refused : (walk : ArchiveWalk) (path : List ℕ) (start : ℕ) (error : WalkError) → path ≡ []
     → IsFaultOf (found_in (objects_in walk) path start) (error_of_walk error)
     → IsFaultOf (resolved_tree (objects_in walk) start) (error_of_walk error)
 first-refused walk path start error none h =
@@ -613,7 +624,7 @@ first-refused walk path start error none h =
     refl h
 
 -- a later Uid is refused
-pub later-refused : (walk : Walk) (path : List ℕ) (start : ℕ) (e : PlainEvent)
+pub later-refused : (walk : ArchiveWalk) (path : List ℕ) (start : ℕ) (e : PlainEvent)
     (below : List Events) (rest : Events) (n : ℕ) (error : WalkError)
     → Checks start walk ((e ∷ remaining_events rest) ∷ levels_of below) (reverse path)
     → uid_of_event e ≡ Some n

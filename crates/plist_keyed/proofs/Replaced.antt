@@ -1,6 +1,6 @@
 -- The events of a tree in which each Uid is replaced are those of the tree, with the events of each
 -- Uid's own tree in its place; or there is a fault, which is the first one among the events.
-use Rattle.std.proofs.Common.{◌≡◌, ℕ, ◌+◌, List, [], ◌∷◌, ◌++◌, Option, Some, None, Result, Ok, Err, IfOk, refl, sym, ap, ◌∙◌, append_assoc, append-nil}
+use Rattle.std.proofs.Common.{◌≡◌, ℕ, ◌+◌, List, [], ◌∷◌, ◌++◌, Some, Result, Ok, Err, IfOk, refl, sym, ap, ◌∙◌, append_assoc, append-nil}
 use Rattle.std.specs.Option.{option_map_or}
 use Rattle.plist_base.specs.Events.{PlainEvent, StartArray, StartDictionary, EndCollection, ScalarEvent}
 use Rattle.plist_base.specs.Trees as trees
@@ -71,7 +71,8 @@ module _ (follow : ℕ → Result Tree ArchiveFault) where
   as-many-items : (ts : Trees)
       → IfOk (replaced_items follow ts) (λ us. number_of_trees us ≡ number_of_trees ts)
   as-many-items NoTrees = refl
-  as-many-items (TreeAnd t ts) = one-more (replaced follow t) (replaced_items follow ts) _ (as-many-items ts)
+  as-many-items (TreeAnd t ts) =
+      one-more (replaced follow t) (replaced_items follow ts) _ (as-many-items ts)
 
   one-more-pair : (key : List ℕ) (first : Result Tree ArchiveFault)
       (others : Result Members ArchiveFault) (n : ℕ)

@@ -1,7 +1,7 @@
 -- The trees of settled Uids, which don't depend on the open objects.
 use Rattle.std.proofs.Common.{◌≡◌, ℕ, zero, suc, ◌-◌, Bool, true, false, nat_eq, inl, inr, List, [], ◌∷◌, ◌++◌, length, Option, Some, None, Result, Ok, Err, refl, ap, sym, ◌∙◌, append-nil, arith, subst}
 use Rattle.std.specs.Prelude.{slice_get}
-use Rattle.std.specs.List.{flat_map, list_any}
+use Rattle.std.specs.List.{list_any}
 use Rattle.std.specs.Option.{option_map_or}
 use Rattle.std.specs.Result.{result_ok}
 use Rattle.std.proofs.lemmas.Bool.{eq-eqb, false_from_ne_true, or_left, or_right}
@@ -9,12 +9,12 @@ use Rattle.std.proofs.lemmas.Bool.Decides.{eqb_tells}
 use Rattle.std.proofs.lemmas.Option.{slice_get_within}
 use Rattle.plist_base.specs.Bracketing.{bracketing}
 use Rattle.plist_base.specs.Events.{PlainEvent, ScalarEvent}
-use Rattle.plist_base.specs.Trees.{Tree, Leaf, Array, Dictionary, Uid}
+use Rattle.plist_base.specs.Trees.{Tree, Leaf, Uid}
 use Rattle.plist_base.specs.inner.Paths.{IsPath}
 use Rattle.plist_base.proofs.Paths.{path_none, path_push, path_rises}
 use Rattle.plist_keyed.specs.Archives.{ArchiveFault, and_then, object_found, replaced, resolved, resolved_tree}
 use Rattle.plist_keyed.specs.inner.Walks.{AreSettled, IsIn, NameOnly, events_at, replaced_events, uid_of_event, uid_of_tree}
-use Rattle.plist_keyed.proofs.Replaced.{Outcome, collected, events_in, join, outcome, tree-collects}
+use Rattle.plist_keyed.proofs.Replaced.{collected, events_in, outcome, tree-collects}
 
 -- ---- Uids and events
 
@@ -104,7 +104,8 @@ module _ (objects : List Tree) where
       let fuel = length objects - suc (length path) in
       let fits = path_rises uid o (slice_get_within objects uid object at) new in
       let e : length objects - length path ≡ suc fuel = omega (arith, fits) in
-      rw (e, opened_at fuel path uid object h) (sym (tree-collects (resolved_in (uid ∷ path)) object))
+      rw (e, opened_at fuel path uid object h)
+      (sym (tree-collects (resolved_in (uid ∷ path)) object))
 
   -- ---- events that name settled Uids only
 
@@ -168,15 +169,16 @@ module _ (objects : List Tree) where
         → (path : List ℕ) → IsPath (length objects) path → AreApart path uids
         → events_in bracketing (resolved_in path uid) ≡ Ok (events_at objects uid)
     settled-same [] s uid member path o apart = absurd (cc)
-    settled-same (first ∷ uids) ((object, at, named, ends), new, s) uid member path o apart =
+    settled-same (first ∷ uids) (r, s) uid member path o apart =
         let same = settled-same uids s in
         let below : AreApart path uids = (λ u p q. apart u p (later-in u first uids q)) in
         elim (eqb_tells uid first) [
           | inl e ↦
               let off : IsIn first path → ⊥ = (λ p. apart first p (first-in first uids)) in
-              let top = opens first uids [] object at named new same (path_none _) (λ p. absurd (cc))
+              let top = opens first uids [] r.object r.found r.leads r.is_new same (path_none _)
+              (λ p. absurd (cc))
               (λ u p q. absurd (cc)) in
-              rw e.1 (opens first uids path object at named new same o off below
+              rw e.1 (opens first uids path r.object r.found r.leads r.is_new same o off below
               ∙ ap Ok (at-top first _ top))
           | inr e ↦ same uid (rw e.0 at member) path o below
         ]
@@ -214,31 +216,33 @@ module _ (objects : List Tree) where
     pub settled-end : (uids : List ℕ) → AreSettled objects end uids → (uid : ℕ) → IsIn uid uids
         → IsEndOf uids uid
     settled-end [] s uid member = absurd (cc)
-    settled-end (first ∷ uids) ((object, at, named, ends), new, s) uid member =
+    settled-end (first ∷ uids) (r, s) uid member =
         elim (eqb_tells uid first) [
           | inl e ↦
-              let top = opens first uids [] object at named new (settled-same uids s) (path_none _)
+              let top = opens first uids [] r.object r.found r.leads r.is_new
+              (settled-same uids s) (path_none _)
               (λ p. absurd (cc)) (λ u p q. absurd (cc)) in
               subst (IsEndOf (first ∷ uids)) (sym e.1)
-              (by (settled-end uids s) (uid_of_tree object) refl (sym (at-top first _ top)))
+              (by (settled-end uids s) (uid_of_tree r.object) refl (sym (at-top first _ top)))
           | inr e ↦ more-ends uids uid first (settled-end uids s uid (rw e.0 at member))
         ]
       where
         by : ((n : ℕ) → IsIn n uids → IsEndOf uids n) → (found : Option ℕ)
-            → uid_of_tree object ≡ found → events_at objects first ≡ replaced_events objects (bracketing object)
+            → uid_of_tree r.object ≡ found
+            → events_at objects first ≡ replaced_events objects (bracketing r.object)
             → IsEndOf (first ∷ uids) first
         by below None is events =
             let own : end first ≡ first =
-            ends ∙ ap (λ f. option_map_or end f first) is in (
-              object,
-              ap (slice_get objects) own ∙ at,
-              named-more (bracketing object) uids (first ∷ uids) (λ u p. later-in u first uids p)
-                  named,
+            r.same_end ∙ ap (λ f. option_map_or end f first) is in (
+              r.object,
+              ap (slice_get objects) own ∙ r.found,
+              named-more (bracketing r.object) uids (first ∷ uids) (λ u p. later-in u first uids p)
+                  r.leads,
               is,
               events,
             )
         by below (Some next) is events =
             let next_in : IsIn next uids =
-            (subst (λ es. NameOnly es uids) (uid-events object next is) named).0 next refl in
-            more-ends uids first first (next-end uids first next object is
-            (ends ∙ ap (λ f. option_map_or end f first) is) events (below next next_in))
+            (subst (λ es. NameOnly es uids) (uid-events r.object next is) r.leads).0 next refl in
+            more-ends uids first first (next-end uids first next r.object is
+            (r.same_end ∙ ap (λ f. option_map_or end f first) is) events (below next next_in))

@@ -1,5 +1,5 @@
 -- The events that remain of the walk that yields them, after each kind of step.
-use Rattle.std.proofs.Common.{◌≡◌, ℕ, suc, ◌+◌, ◌<◌, List, [], ◌∷◌, ◌++◌, length, map, reverse, Option, Some, None, Result, Ok, Err, OnErr, true, true≢false, refl, ap, sym, ◌∙◌, append-nil, arith, subst}
+use Rattle.std.proofs.Common.{◌≡◌, ℕ, ◌<◌, List, [], ◌∷◌, ◌++◌, length, map, reverse, Some, None, Result, Ok, Err, OnErr, true, true≢false, refl, ap, sym, ◌∙◌, append-nil, arith, subst}
 use Rattle.std.specs.Prelude.{slice_get}
 use Rattle.std.specs.List.{flat_map}
 use Rattle.std.specs.Result.{is_err}
@@ -14,8 +14,8 @@ use Rattle.plist.specs.declared.stream.events.Events.{Events}
 use Rattle.plist.specs.declared.value.Value.{Value}
 use Rattle.plist.specs.Events.{BeginsWithStart, remaining_events}
 use Rattle.plist.specs.ValueTrees.{tree_of}
-use Rattle.plist_keyed.specs.declared.state.Walk.{Walk}
-use Rattle.plist_keyed.specs.inner.Walks.{AreAllSettled, AreSettled, IsIn, IsWalk, NameOnly, end_in, events_at, events_left, events_within, objects_in, replaced_events, settled_in, uid_of_event, uid_of_tree}
+use Rattle.plist_keyed.specs.declared.state.ArchiveWalk.{ArchiveWalk}
+use Rattle.plist_keyed.specs.inner.Walks.{AreAllSettled, AreSettled, IsIn, IsWalk, NameOnly, end_in, events_at, events_left, events_in_levels, objects_in, replaced_events, settled_in, uid_of_event, uid_of_tree}
 use Rattle.plist_base.proofs.Paths.{path_none}
 use Rattle.plist_keyed.specs.Archives.{resolved_tree}
 use Rattle.plist_keyed.proofs.Replaced.{events_in}
@@ -77,7 +77,8 @@ steps_to_enter [] = 0
 steps_to_enter (e ∷ es) = option_map_or (λ uid. 2) (uid_of_event e) 0
 
 -- the object at the end of a settled Uid's chain is entered
-module _ (walk : Walk) (uid : ℕ) (o : IsWalk walk) (has : IsIn uid (settled_in walk.ends)) where
+module _ (walk : ArchiveWalk) (uid : ℕ) (o : IsWalk walk)
+    (has : IsIn uid (settled_in walk.ends)) where
   pub end-of : IsEndOf (objects_in walk) (end_in walk.ends) (settled_in walk.ends) uid
   end-of = settled-end (objects_in walk) (end_in walk.ends) (settled_in walk.ends) o.0 uid has
 
@@ -86,21 +87,23 @@ module _ (walk : Walk) (uid : ℕ) (o : IsWalk walk) (has : IsIn uid (settled_in
       → items ≡ walk.levels.items ++ level ∷ [] → remaining_events level ≡ bracketing object
       → (replaced_events (objects_in walk) (flat_map remaining_events (reverse items))
       ≡ events_at (objects_in walk) uid ++ events_left walk)
-      × (flat_map remaining_events (reverse items) ≡ bracketing object ++ events_within walk)
+      × (flat_map remaining_events (reverse items) ≡ bracketing object ++ events_in_levels walk)
       × NameOnly (flat_map remaining_events (reverse items)) (settled_in walk.ends)
       × (uid_of_tree object ≡ None)
   enters items level object at is all =
       let (other, found, named, plain, same) = end-of in
       let e : other ≡ object = same_Some other object (sym found ∙ at) in
-      let within : flat_map remaining_events (reverse items) ≡ bracketing other ++ events_within walk =
+      let within : flat_map remaining_events (reverse items)
+      ≡ bracketing other ++ events_in_levels walk =
       ap (λ l. flat_map remaining_events (reverse l)) is ∙ within-snoc walk.levels.items level
-      ∙ ap (λ l. l ++ events_within walk) (all ∙ ap bracketing (sym e)) in (
+      ∙ ap (λ l. l ++ events_in_levels walk) (all ∙ ap bracketing (sym e)) in (
         ap (replaced_events (objects_in walk)) within
-            ∙ flat_map-append _ (bracketing other) (events_within walk)
+            ∙ flat_map-append _ (bracketing other) (events_in_levels walk)
             ∙ ap (λ l. l ++ events_left walk) (sym same),
-        within ∙ ap (λ t. bracketing t ++ events_within walk) e,
+        within ∙ ap (λ t. bracketing t ++ events_in_levels walk) e,
         subst (λ l. NameOnly l (settled_in walk.ends)) (sym within)
-            (named-append (bracketing other) (events_within walk) (settled_in walk.ends) named o.1),
+            (named-append (bracketing other) (events_in_levels walk) (settled_in walk.ends) named
+            o.1),
         ap uid_of_tree (sym e) ∙ plain,
       )
 
@@ -115,10 +118,10 @@ settled-top objects end uids uid s has =
     ∙ settled-same objects end uids s uid has [] (path_none _) (λ u p q. absurd (cc))
 
 -- before the walk enters an object, nothing remains
-pub first-walk : (walk : Walk) → AreAllSettled walk → walk.levels.items ≡ [] → IsWalk walk
+pub first-walk : (walk : ArchiveWalk) → AreAllSettled walk → walk.levels.items ≡ [] → IsWalk walk
 first-walk walk s none = (s, rw none tt)
 
-pub left-at-first : (walk : Walk) (uid : ℕ) → walk.levels.items ≡ []
+pub left-at-first : (walk : ArchiveWalk) (uid : ℕ) → walk.levels.items ≡ []
     → events_at (objects_in walk) uid ++ events_left walk ≡ events_at (objects_in walk) uid
 left-at-first walk uid none =
     ap (λ l. events_at (objects_in walk) uid
@@ -133,41 +136,44 @@ named-rest [] after uids h = h
 named-rest (e ∷ before) after uids h = named-rest before after uids h.1
 
 -- the innermost object has no events left
-pub emptied : (walk : Walk) (below : List Events) (left rest : Events) (items : List Events)
+pub emptied : (walk : ArchiveWalk) (below : List Events) (left rest : Events) (items : List Events)
     → walk.levels.items ≡ below ++ left ∷ [] → items ≡ below ++ rest ∷ []
-    → remaining_events rest ≡ [] → NameOnly (events_within walk) (settled_in walk.ends)
+    → remaining_events rest ≡ [] → NameOnly (events_in_levels walk) (settled_in walk.ends)
     → NameOnly (flat_map remaining_events (reverse items)) (settled_in walk.ends)
 emptied walk below left rest items had has none named =
-    let within : events_within walk ≡ remaining_events left ++ flat_map remaining_events (reverse below) =
+    let others = flat_map remaining_events (reverse below) in
+    let within : events_in_levels walk ≡ remaining_events left ++ others =
     ap (λ l. flat_map remaining_events (reverse l)) had ∙ within-snoc below left in
-    let after : flat_map remaining_events (reverse items) ≡ flat_map remaining_events (reverse below) =
+    let after : flat_map remaining_events (reverse items) ≡ others =
     ap (λ l. flat_map remaining_events (reverse l)) has ∙ within-snoc below rest
-    ∙ ap (λ l. l ++ flat_map remaining_events (reverse below)) none in
+    ∙ ap (λ l. l ++ others) none in
     subst (λ l. NameOnly l (settled_in walk.ends)) (sym after)
-    (named-rest (remaining_events left) (flat_map remaining_events (reverse below))
-    (settled_in walk.ends) (subst (λ l. NameOnly l (settled_in walk.ends)) within named))
+    (named-rest (remaining_events left) others (settled_in walk.ends)
+    (subst (λ l. NameOnly l (settled_in walk.ends)) within named))
 
 -- the events of a Uid precede the others
-pub shorter : (walk : Walk) (below : List Events) (left rest : Events) (items : List Events)
+pub shorter : (walk : ArchiveWalk) (below : List Events) (left rest : Events) (items : List Events)
     (e : PlainEvent) (uid : ℕ) → walk.levels.items ≡ below ++ left ∷ []
     → items ≡ below ++ rest ∷ [] → remaining_events left ≡ e ∷ remaining_events rest
     → uid_of_event e ≡ Some uid → IsWalk walk
     → length (replaced_events (objects_in walk) (flat_map remaining_events (reverse items)))
     < length (events_left walk)
 shorter walk below left rest items e uid had has taken is o =
+    let trees = objects_in walk in
+    let others = flat_map remaining_events (reverse below) in
     let more = flat_map remaining_events (reverse items) in
-    let after : more ≡ remaining_events rest ++ flat_map remaining_events (reverse below) =
+    let after : more ≡ remaining_events rest ++ others =
     ap (λ l. flat_map remaining_events (reverse l)) has ∙ within-snoc below rest in
-    let within : events_within walk ≡ e ∷ more =
+    let within : events_in_levels walk ≡ e ∷ more =
     ap (λ l. flat_map remaining_events (reverse l)) had ∙ within-snoc below left
-    ∙ ap (λ l. l ++ flat_map remaining_events (reverse below)) taken ∙ ap (λ l. e ∷ l) (sym after) in
+    ∙ ap (λ l. l ++ others) taken ∙ ap (λ l. e ∷ l) (sym after) in
     let named : NameOnly (e ∷ more) (settled_in walk.ends) =
     subst (λ l. NameOnly l (settled_in walk.ends)) within o.1 in
-    let some = end-some (objects_in walk) (end_in walk.ends) (settled_in walk.ends) uid
+    let some = end-some trees (end_in walk.ends) (settled_in walk.ends) uid
     (end-of walk uid o (named.0 uid is)) in
-    let all : events_left walk ≡ events_at (objects_in walk) uid ++ replaced_events (objects_in walk) more =
-    ap (replaced_events (objects_in walk)) within ∙ uid-first (objects_in walk) e uid more is in
-    rw (all, length-append (events_at (objects_in walk) uid) (replaced_events (objects_in walk) more))
+    let all : events_left walk ≡ events_at trees uid ++ replaced_events trees more =
+    ap (replaced_events trees) within ∙ uid-first trees e uid more is in
+    rw (all, length-append (events_at trees uid) (replaced_events trees more))
     (omega (arith, some))
 
 pub on-err : {X E : Type 0} {P : Type 0} → (r : Result X E) → is_err r ≡ true → OnErr r P → P

@@ -50,6 +50,7 @@ pub tree-read : (objects : List Value) (uid : ℕ) (tree : Tree)
     → IsValueOf (map Ok (events_at (map tree_of objects) uid)) (Ok tree)
     → resolved_tree (map tree_of objects) uid ≡ Ok tree
 tree-read objects uid tree itself all read =
-    tree-answered (resolved_tree (map tree_of objects) uid) (events_at (map tree_of objects) uid) tree
-    all read (resolved-once (map tree_of objects) (λ u t p. of_value (slice_get objects u) t itself
-    (sym (slice_get-map tree_of objects u) ∙ p)) (length (map tree_of objects)) [] uid)
+    let trees = map tree_of objects in
+    tree-answered (resolved_tree trees uid) (events_at trees uid) tree all read
+    (resolved-once trees (λ u t p. of_value (slice_get objects u) t itself
+    (sym (slice_get-map tree_of objects u) ∙ p)) (length trees) [] uid)

@@ -12,7 +12,7 @@ ghost use Rattle.plist_keyed.specs.Archives.{IsFaultOf, error_of_walk, object_fo
 ghost use Rattle.plist_keyed.specs.inner.Walks.{IsIn, end_in, settled_in, uid_of_event, uid_of_tree};
 
 use crate::error::WalkError;
-use crate::state::{Walk, uid_of};
+use crate::state::{ArchiveWalk, uid_of};
 use indexmap::IndexSet;
 use plist::stream::Event;
 
@@ -23,14 +23,15 @@ fn take_uid(event: Event<'_>) -> Option<u64>
     uid_of(&event)
 }
 
-impl<'a> Walk<'a> {
-    ghost use Rattle.plist_keyed.specs.inner.Walks.{AreAllSettled, Follows, objects_in};
+impl<'a> ArchiveWalk<'a> {
+    ghost use Rattle.plist_keyed.specs.inner.Walks.{AreAllSettled, FollowsUid, objects_in};
 
     // Opens the object of a Uid, unless the Uid is settled. The open Uids are those of the path,
     // outermost first.
     fn follow(&mut self, path: &mut IndexSet<u64>, uid: u64) -> Result<(), WalkError>
         // Result.
-        ensures followed { OnOk result (Follows self.old path.old.keys uid self.new path.new.keys) }
+        ensures followed { OnOk result (FollowsUid self.old path.old.keys uid self.new
+            path.new.keys) }
         // Errors.
         ensures refused { IfErr result (λ error. IsFaultOf
             (object_found (slice_get (objects_in self.old) uid)
@@ -116,6 +117,8 @@ impl<'a> Walk<'a> {
             };
             self.follow(&mut path, found)?;
         }
+        // The tree may be less deep than what was walked.
+        self.levels = Vec::new(self.alloc);
         Ok(())
     }
 }

@@ -1,6 +1,6 @@
 //! The state of the two walks over the objects of an archive.
 
-ghost use Rattle.std.specs.Prelude.{◌≡◌, ◌<◌, [], length, slice_get, Some, nat_eq};
+ghost use Rattle.std.specs.Prelude.{◌≡◌, ◌<◌, [], length, slice_get, Some};
 ghost use Rattle.std.specs.Option.{option_and_then, option_copied};
 ghost use Rattle.plist_base.specs.Events.{event_of};
 ghost use Rattle.plist.specs.ValueTrees.{tree_of};
@@ -34,7 +34,7 @@ fn uid_in(object: &Value) -> Option<u64>
 // A walk over the objects of an archive. It first settles each Uid that it can reach, and then
 // yields the events of a tree.
 #[derive(Drop)]
-pub(crate) struct Walk<'a> {
+pub(crate) struct ArchiveWalk<'a> {
     pub(crate) alloc: Global,
     pub(crate) objects: &'a [Value],
     // The remaining items of the open objects, outermost first.
@@ -45,15 +45,15 @@ pub(crate) struct Walk<'a> {
     pub(crate) ends: IndexMap<u64, u64>,
 }
 
-impl<'a> Walk<'a> {
+impl<'a> ArchiveWalk<'a> {
     ghost use Rattle.plist_keyed.specs.inner.Walks.{objects_in};
 
-    pub(crate) fn new(alloc: Global, objects: &'a [Value]) -> Walk<'a>
+    pub(crate) fn new(alloc: Global, objects: &'a [Value]) -> ArchiveWalk<'a>
         ensures objects { result.objects ≡ objects.entry }
         ensures levels { result.levels.items ≡ [] }
         ensures ends { result.ends.entries ≡ [] }
     {
-        Walk {
+        ArchiveWalk {
             alloc,
             objects,
             levels: Vec::new(alloc),
@@ -91,9 +91,6 @@ impl<'a> Walk<'a> {
     pub(crate) fn next_of(&self, uid: u64) -> Option<u64>
         ensures { result ≡ option_and_then uid_of_tree (slice_get (objects_in self.now) uid) }
     {
-        match self.look_up(uid) {
-            None => None,
-            Some(object) => uid_in(object),
-        }
+        uid_in(self.look_up(uid)?)
     }
 }

@@ -9,13 +9,13 @@ ghost use Rattle.plist_keyed.specs.inner.Walks.{IsIn, events_at, settled_in, uid
 ghost use Rattle.plist.specs.ValueTrees.{tree_of};
 
 use crate::error::WalkError;
-use crate::state::{Walk, uid_of};
+use crate::state::{ArchiveWalk, uid_of};
 use plist::stream::Event;
 use plist::{Error, ErrorKind, Value};
 use std::alloc::Global;
 
-impl<'a> Walk<'a> {
-    ghost use Rattle.plist_keyed.specs.inner.Walks.{GivesItemOfUid, IsWalk, events_left, events_within, objects_in};
+impl<'a> ArchiveWalk<'a> {
+    ghost use Rattle.plist_keyed.specs.inner.Walks.{GivesItemOfUid, IsWalk, events_left, events_in_levels, objects_in};
 
     // Enters the object at the end of a settled Uid's chain.
     fn enter(&mut self, uid: u64) -> Result<(), WalkError>
@@ -24,7 +24,7 @@ impl<'a> Walk<'a> {
         ensures entered { OnOk result (events_left self.new
             ≡ events_at (objects_in self.old) uid ++ events_left self.old) }
         ensures first { OnOk result ((object : Tree) × (uid_of_tree object ≡ None)
-            × (events_within self.new ≡ bracketing object ++ events_within self.old)) }
+            × (events_in_levels self.new ≡ bracketing object ++ events_in_levels self.old)) }
         ensures levels { OnOk result (length self.new.levels.items
             ≡ 1 + length self.old.levels.items) }
         ensures walk { IsWalk self.new }
@@ -65,7 +65,7 @@ impl<'a> Walk<'a> {
     }
 }
 
-impl<'a> Iterator for Walk<'a> {
+impl<'a> Iterator for ArchiveWalk<'a> {
     type Item = Result<Event<'a>, Error>;
 
     ghost use Rattle.std.specs.Iterator.{at_most};
@@ -95,7 +95,7 @@ pub(crate) fn value_at(alloc: Global, objects: &[Value], uid: u64) -> Result<Val
     ensures refused { IfErr result (λ error. IsFaultOf (resolved_tree (map tree_of objects.now) uid)
         (error_of_walk error)) }
 {
-    let mut walk = Walk::new(alloc, objects);
+    let mut walk = ArchiveWalk::new(alloc, objects);
     walk.check(uid)?;
     walk.enter(uid)?;
     match Value::from_events(alloc, walk) {

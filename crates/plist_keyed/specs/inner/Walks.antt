@@ -15,7 +15,7 @@ use Rattle.plist_base.specs.Trees.{Tree, Leaf}
 use Rattle.plist.specs.declared.stream.events.Events.{Events}
 use Rattle.plist.specs.Events.{remaining_events}
 use Rattle.plist.specs.ValueTrees.{tree_of}
-use Rattle.plist_keyed.specs.declared.state.Walk.{Walk}
+use Rattle.plist_keyed.specs.declared.state.ArchiveWalk.{ArchiveWalk}
 use Rattle.plist_keyed.specs.Archives.{number_of_uid, object_found, resolved_tree}
 
 -- the number of the Uid that an event is, if it is one
@@ -37,14 +37,21 @@ abbrev pub NameOnly : List PlainEvent → (uids : List ℕ) → Type 0
 NameOnly events uids =
     AllByRecursion (λ event. (uid : ℕ) → uid_of_event event ≡ Some uid → IsIn uid uids) events
 
--- each Uid leads only to those that were settled before it, and none is settled twice; if its object
--- is a Uid, both have the same end, and otherwise it is its own end
+-- the Uid isn't one of these, and leads only to these; if its object is a Uid, both have the same
+-- end, and otherwise it is its own end
+pub record IsSettledAfter (objects : List Tree) (end : ℕ → ℕ) (uids : List ℕ) (uid : ℕ) : Type 0
+  where
+    pub object : Tree
+    pub found : slice_get objects uid ≡ Some object
+    pub is_new : IsIn uid uids → ⊥
+    pub leads : NameOnly (bracketing object) uids
+    pub same_end : end uid ≡ option_map_or end (uid_of_tree object) uid
+
+-- each Uid is settled after those that follow it in the list
 abbrev pub AreSettled : (objects : List Tree) → (end : ℕ → ℕ) → (uids : List ℕ) → Type 0
 AreSettled objects end [] = ⊤
 AreSettled objects end (uid ∷ uids) =
-    ((object : Tree) × (slice_get objects uid ≡ Some object) × NameOnly (bracketing object) uids
-    × (end uid ≡ option_map_or end (uid_of_tree object) uid))
-    × (IsIn uid uids → ⊥) × AreSettled objects end uids
+    IsSettledAfter objects end uids uid × AreSettled objects end uids
 
 -- the events of a Uid's tree, or none if it has no tree
 abbrev pub events_at : (objects : List Tree) → (uid : ℕ) → List PlainEvent
@@ -58,7 +65,7 @@ replaced_events objects events =
 -- ---- the state
 
 -- the trees of the objects
-abbrev pub objects_in : Walk → List Tree
+abbrev pub objects_in : ArchiveWalk → List Tree
 objects_in walk = map tree_of walk.objects.now
 
 -- the settled Uids, which are the keys of a map of ends
@@ -70,33 +77,41 @@ abbrev pub end_in : {S : Type 0} → IndexMap ℕ ℕ S → (uid : ℕ) → ℕ
 end_in ends uid = unwrap_or (get nat_eq ends uid) uid
 
 -- the Uids with an end are settled
-abbrev pub AreAllSettled : Walk → Type 0
+abbrev pub AreAllSettled : ArchiveWalk → Type 0
 AreAllSettled walk = AreSettled (objects_in walk) (end_in walk.ends) (settled_in walk.ends)
 
--- the Uid is settled, and nothing is opened; or its object, which isn't open, is opened as the
--- innermost one
-abbrev pub Follows : (before : Walk) → (path : List ℕ) → (uid : ℕ) → (after : Walk)
-    → (longer : List ℕ) → Type 0
-Follows before path uid after longer =
+-- a Uid that isn't settled has an object that isn't open, which is opened as the innermost one
+pub record IsOpened (before : ArchiveWalk) (path : List ℕ) (uid : ℕ) (after : ArchiveWalk)
+    (longer : List ℕ) : Type 0 where
+  pub object : Tree
+  pub level : Events
+  pub is_new : IsIn uid (settled_in before.ends) → ⊥
+  pub found : object_found (slice_get (objects_in before) uid) (list_any (nat_eq uid) path) uid
+      ≡ Ok object
+  pub events : remaining_events level ≡ bracketing object
+  pub levels : after.levels.items ≡ before.levels.items ++ level ∷ []
+  pub is_last : longer ≡ path ++ uid ∷ []
+
+-- the Uid is settled, and nothing changes; or its object is opened
+abbrev pub FollowsUid : (before : ArchiveWalk) → (path : List ℕ) → (uid : ℕ)
+    → (after : ArchiveWalk) → (longer : List ℕ) → Type 0
+FollowsUid before path uid after longer =
     (IsIn uid (settled_in before.ends) × (after.levels ≡ before.levels) × (longer ≡ path))
-    ⊎ ((object : Tree) × (level : Events) × (IsIn uid (settled_in before.ends) → ⊥)
-    × (object_found (slice_get (objects_in before) uid) (list_any (nat_eq uid) path) uid ≡ Ok object)
-    × (remaining_events level ≡ bracketing object)
-    × (after.levels.items ≡ before.levels.items ++ level ∷ []) × (longer ≡ path ++ uid ∷ []))
+    ⊎ IsOpened before path uid after longer
 
 -- the remaining events of the open objects
-abbrev pub events_within : Walk → List PlainEvent
-events_within walk = flat_map remaining_events (reverse walk.levels.items)
+abbrev pub events_in_levels : ArchiveWalk → List PlainEvent
+events_in_levels walk = flat_map remaining_events (reverse walk.levels.items)
 
--- all Uids that remain are settled
-abbrev pub IsWalk : Walk → Type 0
-IsWalk walk = AreAllSettled walk × NameOnly (events_within walk) (settled_in walk.ends)
+-- the Uids with an end are settled, and the remaining events name only these
+abbrev pub IsWalk : ArchiveWalk → Type 0
+IsWalk walk = AreAllSettled walk × NameOnly (events_in_levels walk) (settled_in walk.ends)
 
 -- the events that remain to be yielded
-abbrev pub events_left : Walk → List PlainEvent
-events_left walk = replaced_events (objects_in walk) (events_within walk)
+abbrev pub events_left : ArchiveWalk → List PlainEvent
+events_left walk = replaced_events (objects_in walk) (events_in_levels walk)
 
 -- the remaining events begin with this one
-abbrev pub GivesItemOfUid : Walk → Option (Result Event Error) → Walk → Type 0
+abbrev pub GivesItemOfUid : ArchiveWalk → Option (Result Event Error) → ArchiveWalk → Type 0
 GivesItemOfUid old item new =
     GivesFirst event_of (map Ok (events_left old)) item (map Ok (events_left new))

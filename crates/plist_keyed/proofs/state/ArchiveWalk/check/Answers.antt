@@ -1,13 +1,13 @@
-use Rattle.std.proofs.Common.{◌≡◌, ◌∙◌, ◌∷◌, ◌<◌, ap, map, refl, reverse, subst, sym, Some}
+use Rattle.std.proofs.Common.{◌∙◌, ◌∷◌, ◌<◌, ap, map, refl, reverse, subst, sym, Some}
 use Rattle.std.specs.Borrow.{Bor}
 use Rattle.std.proofs.lemmas.Result.{err_from_is_err_and}
 use Rattle.plist_base.specs.Events.{event_of}
-use Rattle.plist.specs.Events.{GivesEvent, remaining_events}
+use Rattle.plist.specs.Events.{GivesEvent}
 use Rattle.plist.specs.ValueTrees.{tree_of}
-use Rattle.plist_keyed.specs.declared.state.Walk.{Walk}
+use Rattle.plist_keyed.specs.declared.state.ArchiveWalk.{ArchiveWalk}
 use Rattle.plist_keyed.specs.Archives.{IsFaultOf, error_of_walk, resolved_tree}
 use Rattle.plist_keyed.proofs.Checks.{Checks, begins, distance_in, first-refused, follows, later-refused, levels_of, popped, popped-distance, settles, skips}
-use Rattle.plist_keyed.proofs.state.Walk.check.Goals as goal
+use Rattle.plist_keyed.proofs.state.ArchiveWalk.check.Goals as goal
 
 pub returns-in_err-follow-clause-refused : goal.returns-in_err-follow-clause-refused
 returns-in_err-follow-clause-refused c =
@@ -66,7 +66,7 @@ followed c =
     let walk = c.loop-left.self in
     let below = c.pop.new.self.items in
     let path = reverse c.loop-left.path.keys in
-    let now : Walk = record {
+    let now : ArchiveWalk = record {
       alloc = walk.alloc;
       objects = walk.objects;
       levels = c.push_reserved.new.self;

@@ -1,13 +1,13 @@
-use Rattle.std.proofs.Common.{◌≡◌, ◌++◌, List, refl, reverse, subst, sym, None, Some}
+use Rattle.std.proofs.Common.{◌≡◌, ◌++◌, refl, reverse, subst, None, Some}
 use Rattle.std.specs.List.{flat_map}
 use Rattle.std.specs.Prelude.{slice_get}
 use Rattle.plist_base.specs.Bracketing.{bracketing}
 use Rattle.plist.specs.Events.{remaining_events}
 use Rattle.plist.specs.ValueTrees.{tree_of}
-use Rattle.plist_keyed.specs.inner.Walks.{NameOnly, events_at, events_left, events_within, objects_in, replaced_events, settled_in, uid_of_tree}
+use Rattle.plist_keyed.specs.inner.Walks.{NameOnly, events_at, events_left, events_in_levels, objects_in, replaced_events, settled_in, uid_of_tree}
 use Rattle.plist_keyed.proofs.Checks.{seen_at}
 use Rattle.plist_keyed.proofs.WalkSteps.{end-of, enters, seen-within}
-use Rattle.plist_keyed.proofs.state.Walk.enter.Goals as goal
+use Rattle.plist_keyed.proofs.state.ArchiveWalk.enter.Goals as goal
 
 pub object_at-object-requires : goal.object_at-object-requires
 object_at-object-requires c =
@@ -20,7 +20,7 @@ entered : (c : goal.In_ok-push)
     (flat_map remaining_events (reverse c.push.new.self.items))
     ≡ events_at (objects_in c.args.self.now) c.args.uid ++ events_left c.args.self.now)
     × (flat_map remaining_events (reverse c.push.new.self.items)
-    ≡ bracketing (tree_of c.object_at-object.result.now) ++ events_within c.args.self.now)
+    ≡ bracketing (tree_of c.object_at-object.result.now) ++ events_in_levels c.args.self.now)
     × NameOnly (flat_map remaining_events (reverse c.push.new.self.items))
     (settled_in c.args.self.now.ends)
     × (uid_of_tree (tree_of c.object_at-object.result.now) ≡ None)

@@ -1,5 +1,5 @@
 use Rattle.plist_keyed.proofs.Checks.{inserts}
-use Rattle.plist_keyed.proofs.state.Walk.settle.Goals as goal
+use Rattle.plist_keyed.proofs.state.ArchiveWalk.settle.Goals as goal
 
 pub returns-clause-settled : goal.returns-clause-settled
 returns-clause-settled c =

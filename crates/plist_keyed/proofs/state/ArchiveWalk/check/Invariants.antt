@@ -1,6 +1,6 @@
 use Rattle.std.proofs.Common.{◌≡◌, reverse}
 use Rattle.plist_keyed.proofs.Checks.{Checks, distance_in, levels_of}
-use Rattle.plist_keyed.proofs.state.Walk.check.Given as goal
+use Rattle.plist_keyed.proofs.state.ArchiveWalk.check.Given as goal
 
 abbrev pub invariant-loop-left : goal.invariant-loop-left
 invariant-loop-left l = record {

@@ -1,10 +1,8 @@
-use Rattle.std.proofs.Common.{◌≡◌, ◌∙◌, ◌<◌, length, subst, sym, Some, Result, OnErr}
-use Rattle.std.specs.Result.{is_err}
+use Rattle.std.proofs.Common.{◌∙◌, subst, sym, Some}
 use Rattle.plist_base.specs.Events.{event_of}
 use Rattle.plist.specs.Events.{GivesEvent}
-use Rattle.plist_keyed.specs.inner.Walks.{events_left}
 use Rattle.plist_keyed.proofs.WalkSteps.{emptied, on-err, shorter}
-use Rattle.plist_keyed.proofs.state.Walk.advance.Goals as goal
+use Rattle.plist_keyed.proofs.state.ArchiveWalk.advance.Goals as goal
 
 pub returns-in-Err-clause-walk : goal.returns-in-Err-clause-walk
 returns-in-Err-clause-walk c =

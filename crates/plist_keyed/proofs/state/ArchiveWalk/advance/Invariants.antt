@@ -1,7 +1,7 @@
 use Rattle.std.proofs.Common.{◌≡◌, ◌+◌, length}
-use Rattle.plist_keyed.specs.inner.Walks.{IsWalk, events_left, events_within}
+use Rattle.plist_keyed.specs.inner.Walks.{IsWalk, events_left, events_in_levels}
 use Rattle.plist_keyed.proofs.WalkSteps.{steps_to_enter}
-use Rattle.plist_keyed.proofs.state.Walk.advance.Given as goal
+use Rattle.plist_keyed.proofs.state.ArchiveWalk.advance.Given as goal
 
 abbrev pub invariant-loop-left : goal.invariant-loop-left
 invariant-loop-left l = record {
@@ -10,4 +10,4 @@ invariant-loop-left l = record {
 }
 
 abbrev pub decreases-loop-left : goal.decreases-loop-left
-decreases-loop-left l = length l.self.levels.items + steps_to_enter (events_within l.self)
+decreases-loop-left l = length l.self.levels.items + steps_to_enter (events_in_levels l.self)
