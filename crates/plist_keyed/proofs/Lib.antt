@@ -1,8 +1,8 @@
 pub mod NotArchives
-pub mod TreeItems
-pub mod SettledUids
-pub mod CheckSteps
-pub mod CheckStates
-pub mod WalkValues
+pub mod Replaced
+pub mod KeysKept
+pub mod Settled
+pub mod Checks
 pub mod WalkSteps
+pub mod WalkValues
 mod TreesOfArchives

@@ -1,11 +1,13 @@
 -- Which property lists aren't archives.
 use Rattle.std.proofs.Common.{◌≡◌, sym, ap, ◌∙◌, subst, codes}
+use Rattle.std.specs.declared.alloc.Global.{Global}
+use Rattle.std.specs.declared.vec.Vec.{Vec}
 use Rattle.plist.specs.declared.dictionary.Dictionary.{Dictionary}
 use Rattle.plist.specs.declared.value.Value.{Value, Value-F, out-Value, out-roll-Value}
 use Rattle.plist.specs.declared.value.Value.TheVariants as value
 use Rattle.plist.specs.declared.value.Value.TheVariants.{rolls-Dictionary}
 use Rattle.plist.specs.Dictionaries.{pairs_of}
-use Rattle.plist_keyed.specs.Archives.{HasNoneAt, IsArchive, IsValueAt}
+use Rattle.plist_keyed.specs.Archives.{IsArchive, IsValueAt}
 
 out_of : (d : Dictionary) → out-Value (value.Dictionary d) ≡ Value-F.Dictionary d
 out_of d = ap out-Value (sym (rolls-Dictionary d)) ∙ out-roll-Value (Value-F.Dictionary d)
@@ -21,7 +23,8 @@ same_pairs left right p = same_layer left right (sym (out_of left) ∙ ap out-Va
 
 -- a dictionary without an array of objects isn't an archive
 pub no_objects : (root : Value) (d : Dictionary) → root ≡ value.Dictionary d
-    → HasNoneAt value.Array (codes "$objects") (pairs_of d)
+    → ((array : Vec Value Global)
+    → ¬ (IsValueAt (codes "$objects") (pairs_of d) (value.Array array)))
     → ¬ (IsArchive root)
 no_objects root d is none (objects, names, (other, array, top, same, found, items, named, pairs)) =
     none array (subst (λ o. IsValueAt (codes "$objects") (pairs_of o) (value.Array array))
@@ -29,7 +32,7 @@ no_objects root d is none (objects, names, (other, array, top, same, found, item
 
 -- a dictionary without a dictionary of names isn't an archive
 pub no_names : (root : Value) (d : Dictionary) → root ≡ value.Dictionary d
-    → HasNoneAt value.Dictionary (codes "$top") (pairs_of d)
+    → ((top : Dictionary) → ¬ (IsValueAt (codes "$top") (pairs_of d) (value.Dictionary top)))
     → ¬ (IsArchive root)
 no_names root d is none (objects, names, (other, array, top, same, found, items, named, pairs)) =
     none top (subst (λ o. IsValueAt (codes "$top") (pairs_of o) (value.Dictionary top))

@@ -1,97 +1,181 @@
--- The remaining steps of the walk over settled Uids, after each kind of step.
-use Rattle.std.proofs.Common.{◌≡◌, ℕ, ◌<◌, List, [], ◌∷◌, ◌++◌, length, map, Option, Some, None, Ok, Err, ap, sym, ◌∙◌, append-nil, arith, subst}
+-- The events that remain of the walk that yields them, after each kind of step.
+use Rattle.std.proofs.Common.{◌≡◌, ℕ, ◌<◌, List, [], ◌∷◌, ◌++◌, length, map, reverse, Some, None, Result, Ok, Err, OnErr, true, true≢false, refl, ap, sym, ◌∙◌, append-nil, arith, subst}
 use Rattle.std.specs.Prelude.{slice_get}
-use Rattle.std.specs.List.{filter_map}
-use Rattle.std.specs.Option.{unwrap_or}
-use Rattle.std.specs.Result.{result_ok}
+use Rattle.std.specs.List.{flat_map}
+use Rattle.std.specs.Result.{is_err}
+use Rattle.std.specs.Option.{option_map_or}
 use Rattle.std.proofs.lemmas.List.{length-append, length-map}
-use Rattle.std.proofs.lemmas.Option.{slice_get_within}
-use Rattle.plist_base.specs.Events.{PlainEvent, Item}
-use Rattle.plist_base.specs.Faults.{Fault, OutOfMemory, fault_without_offset}
-use Rattle.plist.specs.ValueOfItems.{IsValueOf}
+use Rattle.std.proofs.lemmas.List.Concat.{flat_map-append}
+use Rattle.std.proofs.lemmas.Option.{same_Some, slice_get_within}
+use Rattle.plist_base.specs.Bracketing.{bracketing}
+use Rattle.plist_base.specs.Events.{PlainEvent, StartArray, StartDictionary, EndCollection, ScalarEvent}
+use Rattle.plist_base.specs.Trees.{Tree, Leaf, Array, Dictionary}
 use Rattle.plist.specs.declared.stream.events.Events.{Events}
 use Rattle.plist.specs.declared.value.Value.{Value}
-use Rattle.plist.specs.Events.{remaining_events}
+use Rattle.plist.specs.Events.{BeginsWithStart, remaining_events}
 use Rattle.plist.specs.ValueTrees.{tree_of}
-use Rattle.plist_base.specs.Bracketing.{bracketing}
-use Rattle.plist_keyed.specs.declared.walk.Walk.{Walk}
-use Rattle.plist_keyed.specs.inner.States.{objects_seen, IsWalk, remaining_steps, steps_in_levels, items_of_steps}
-use Rattle.plist_keyed.specs.inner.Walks.{AreEnds, AreSettled, IsEndOf, IsIn, IsSettledIn, NameOnly, Step, StepsGive, given_by, steps_from, steps_of_event, steps_of_events, uid_of_event}
-use Rattle.plist_keyed.proofs.TreeItems.{given_by-append}
-use Rattle.plist_keyed.proofs.CheckSteps.{uid_steps}
-use Rattle.plist_keyed.proofs.SettledUids.{settled-unfolds, some_step}
+use Rattle.plist_keyed.specs.declared.state.ArchiveWalk.{ArchiveWalk}
+use Rattle.plist_keyed.specs.inner.Walks.{AreAllSettled, AreSettled, IsIn, IsWalk, NameOnly, end_in, events_at, events_left, events_in_levels, objects_in, replaced_events, settled_in, uid_of_event, uid_of_tree}
+use Rattle.plist_base.proofs.Paths.{path_none}
+use Rattle.plist_keyed.specs.Archives.{resolved_tree}
+use Rattle.plist_keyed.proofs.Replaced.{events_in}
+use Rattle.plist_keyed.proofs.Settled.{IsEndOf, from-top, named-append, settled-end, settled-same}
+use Rattle.plist_keyed.proofs.Checks.{reverse-snoc}
 
--- the list of the objects' events is as long as that of the objects
-pub seen-length : (objects : List Value) (n : ℕ) → n < length (objects_seen objects)
-    → n < length objects
-seen-length objects n h =
-    omega (arith, h, length-map (map tree_of objects) bracketing, length-map objects tree_of)
+module _ (objects : List Tree) where
+  pub plain-first : (e : PlainEvent) (es : List PlainEvent) → uid_of_event e ≡ None
+      → replaced_events objects (e ∷ es) ≡ e ∷ replaced_events objects es
+  plain-first e es is =
+      ap (λ f. option_map_or (events_at objects) f (e ∷ []) ++ replaced_events objects es) is
 
-module _ (objects : List (List PlainEvent)) where
-  abbrev from : ℕ → List Step
-  from = steps_from objects
+  pub uid-first : (e : PlainEvent) (uid : ℕ) (es : List PlainEvent) → uid_of_event e ≡ Some uid
+      → replaced_events objects (e ∷ es) ≡ events_at objects uid ++ replaced_events objects es
+  uid-first e uid es is =
+      ap (λ f. option_map_or (events_at objects) f (e ∷ []) ++ replaced_events objects es) is
 
-  -- the end of a settled Uid's chain is found
-  pub end-found : (uids : List ℕ) (find : ℕ → Option ℕ) → AreEnds objects uids find → (uid : ℕ)
-      → IsIn uid uids → IsEndOf objects uids uid (unwrap_or (find uid) uid)
-  end-found uids find ends uid member = let (end, is, of) = ends uid member in rw is of
+  -- the first event of a tree that isn't a Uid
+  pub tree-first : (t : Tree) → uid_of_tree t ≡ None
+      → (e : PlainEvent) × (es : List PlainEvent) × (bracketing t ≡ e ∷ es)
+      × (uid_of_event e ≡ None)
+  tree-first (Leaf x) plain = (ScalarEvent x, [], refl, plain)
+  tree-first (Array ts) plain = (_, _, refl, refl)
+  tree-first (Dictionary ms) plain = (_, _, refl, refl)
 
-  -- the end of a settled Uid's chain has an object
-  pub end-within : (uids : List ℕ) → AreSettled objects uids → (uid end : ℕ)
-      → IsEndOf objects uids uid end → end < length objects
-  end-within uids s uid end (member, plain, same, fewer) =
-      let (es, at, names, is) = settled-unfolds objects uids s end member in
-      slice_get_within objects end es at
+  pub start-some : (es : List PlainEvent) → BeginsWithStart es
+      → 0 < length (replaced_events objects es)
+  start-some (StartArray n ∷ es) h = omega arith
+  start-some (StartDictionary n ∷ es) h = omega arith
+  start-some [] h = absurd h
+  start-some (EndCollection ∷ es) h = absurd h
+  start-some (ScalarEvent x ∷ es) h = absurd h
 
-  -- the object at the end of a settled Uid's chain is entered
-  pub skips-entered : (uids : List ℕ) (s : AreSettled objects uids) (uid end : ℕ)
-      → IsEndOf objects uids uid end → (levels : List Events) (level : Events)
-      → slice_get objects end ≡ Some (remaining_events level)
-      → StepsGive [] (from uid ++ steps_in_levels objects levels [])
-      (steps_in_levels objects (level ∷ levels) [])
-      × NameOnly (remaining_events level) uids
-  skips-entered uids s uid end (member, plain, same, fewer) levels level at =
-      let (es, found, names, is) = settled-unfolds objects uids s end member in
-      let e : es ≡ remaining_events level = cc in
-      let rest = steps_in_levels objects levels [] in
-      let inside = steps_of_events from (remaining_events level) in
-      let into : from end ≡ None ∷ (inside ++ None ∷ []) = rw e at is in
-      let give : given_by (from uid) ≡ given_by inside =
-      same ∙ ap given_by into ∙ given_by-append inside (None ∷ []) ∙ append-nil (given_by inside) in (
-        (
-          rw (length-append inside (None ∷ rest), length-append (from uid) rest)
-              (omega (arith, (rw (into, length-append inside (None ∷ [])) at fewer))),
-          given_by-append (from uid) rest ∙ ap (λ l. l ++ given_by rest) give
-              ∙ sym (given_by-append inside (None ∷ rest)),
-        ),
-        subst (λ l. NameOnly l uids) e names,
+  -- a settled Uid has events
+  pub end-some : (end : ℕ → ℕ) (uids : List ℕ) (uid : ℕ) → IsEndOf objects end uids uid
+      → 0 < length (events_at objects uid)
+  end-some end uids uid (object, at, named, plain, is) =
+      let (e, es, first, other) = tree-first object plain in
+      let all : events_at objects uid ≡ e ∷ replaced_events objects es =
+      is ∙ ap (replaced_events objects) first ∙ plain-first e es other in
+      rw all (omega arith)
+
+-- an index that has a tree has an object
+pub seen-within : (objects : List Value) (n : ℕ) (t : Tree)
+    → slice_get (map tree_of objects) n ≡ Some t → n < length objects
+seen-within objects n t at =
+    let k = slice_get_within (map tree_of objects) n t at in
+    omega (arith, k, length-map objects tree_of)
+
+-- the innermost object's events remain before the others
+pub within-snoc : (below : List Events) (level : Events)
+    → flat_map remaining_events (reverse (below ++ level ∷ []))
+    ≡ remaining_events level ++ flat_map remaining_events (reverse below)
+within-snoc below level = ap (flat_map remaining_events) (reverse-snoc below level)
+
+-- 2 if the next event is a Uid, whose object is entered, and otherwise 0
+abbrev pub steps_to_enter : List PlainEvent → ℕ
+steps_to_enter [] = 0
+steps_to_enter (e ∷ es) = option_map_or (λ uid. 2) (uid_of_event e) 0
+
+-- the object at the end of a settled Uid's chain is entered
+module _ (walk : ArchiveWalk) (uid : ℕ) (o : IsWalk walk)
+    (has : IsIn uid (settled_in walk.ends)) where
+  pub end-of : IsEndOf (objects_in walk) (end_in walk.ends) (settled_in walk.ends) uid
+  end-of = settled-end (objects_in walk) (end_in walk.ends) (settled_in walk.ends) o.0 uid has
+
+  pub enters : (items : List Events) (level : Events) (object : Tree)
+      → slice_get (objects_in walk) (end_in walk.ends uid) ≡ Some object
+      → items ≡ walk.levels.items ++ level ∷ [] → remaining_events level ≡ bracketing object
+      → (replaced_events (objects_in walk) (flat_map remaining_events (reverse items))
+      ≡ events_at (objects_in walk) uid ++ events_left walk)
+      × (flat_map remaining_events (reverse items) ≡ bracketing object ++ events_in_levels walk)
+      × NameOnly (flat_map remaining_events (reverse items)) (settled_in walk.ends)
+      × (uid_of_tree object ≡ None)
+  enters items level object at is all =
+      let (other, found, named, plain, same) = end-of in
+      let e : other ≡ object = same_Some other object (sym found ∙ at) in
+      let within : flat_map remaining_events (reverse items)
+      ≡ bracketing other ++ events_in_levels walk =
+      ap (λ l. flat_map remaining_events (reverse l)) is ∙ within-snoc walk.levels.items level
+      ∙ ap (λ l. l ++ events_in_levels walk) (all ∙ ap bracketing (sym e)) in (
+        ap (replaced_events (objects_in walk)) within
+            ∙ flat_map-append _ (bracketing other) (events_in_levels walk)
+            ∙ ap (λ l. l ++ events_left walk) (sym same),
+        within ∙ ap (λ t. bracketing t ++ events_in_levels walk) e,
+        subst (λ l. NameOnly l (settled_in walk.ends)) (sym within)
+            (named-append (bracketing other) (events_in_levels walk) (settled_in walk.ends) named
+            o.1),
+        ap uid_of_tree (sym e) ∙ plain,
       )
 
-  -- following a Uid takes at least one step
-  pub shorter : (e : PlainEvent) (uid : ℕ) (rest left : List Step) → uid_of_event e ≡ Some uid
-      → left ≡ rest → length left < length (steps_of_event from e ++ rest)
-  shorter e uid rest left is same =
-      let some : 0 < length (from uid) = some_step objects _ [] uid in
-      rw (same, uid_steps from e uid is, length-append (from uid) rest) (omega (arith, some))
+-- ---- the walk of one Uid
 
--- the items that remain of a walk that began with a Uid are those of the Uid
-pub begun : (start walk : Walk) (objects : List Value) (uid : ℕ) → start.objects.now ≡ objects
-    → start.levels.items ≡ [] → StepsGive [] (steps_from (objects_seen start.objects.now) uid ++ remaining_steps start)
-    (remaining_steps walk)
-    → items_of_steps (remaining_steps walk) ≡ items_of_steps (steps_from (objects_seen objects) uid)
-begun start walk objects uid seen none (fewer, given) =
-    let from_start : given_by (steps_from (objects_seen start.objects.now) uid ++ remaining_steps start)
-    ≡ given_by (steps_from (objects_seen objects) uid) =
-    rw (seen, none) (ap given_by (append-nil (steps_from (objects_seen objects) uid))) in
-    ap (λ g. map Ok (filter_map result_ok g)) (sym given ∙ from_start)
+-- a settled Uid has a tree
+pub settled-top : (objects : List Tree) (end : ℕ → ℕ) (uids : List ℕ) (uid : ℕ)
+    → AreSettled objects end uids → IsIn uid uids
+    → events_in bracketing (resolved_tree objects uid) ≡ Ok (events_at objects uid)
+settled-top objects end uids uid s has =
+    ap (events_in bracketing) (sym (from-top objects uid))
+    ∙ settled-same objects end uids s uid has [] (path_none _) (λ u p q. absurd (cc))
 
--- a walk whose Uids are settled is consistent before its first step
-pub first-walk : (start : Walk) (objects : List Value) (ends : _) → start.objects.now ≡ objects
-    → start.ends ≡ ends → start.levels.items ≡ [] → IsSettledIn (objects_seen objects) ends
-    → IsWalk start
-first-walk start objects ends seen same none h = rw (seen, same, none) (h, tt)
+-- before the walk enters an object, nothing remains
+pub first-walk : (walk : ArchiveWalk) → AreAllSettled walk → walk.levels.items ≡ [] → IsWalk walk
+first-walk walk s none = (s, rw none tt)
 
--- `OutOfMemory` is possible for any items
-pub only-memory : (items : List Item) (fault : Fault) → fault ≡ fault_without_offset OutOfMemory
-    → IsValueOf items (Err fault)
-only-memory items fault is = rw is tt
+pub left-at-first : (walk : ArchiveWalk) (uid : ℕ) → walk.levels.items ≡ []
+    → events_at (objects_in walk) uid ++ events_left walk ≡ events_at (objects_in walk) uid
+left-at-first walk uid none =
+    ap (λ l. events_at (objects_in walk) uid
+    ++ replaced_events (objects_in walk) (flat_map remaining_events (reverse l))) none
+    ∙ append-nil (events_at (objects_in walk) uid)
+
+-- ---- one step
+
+named-rest : (before after : List PlainEvent) (uids : List ℕ) → NameOnly (before ++ after) uids
+    → NameOnly after uids
+named-rest [] after uids h = h
+named-rest (e ∷ before) after uids h = named-rest before after uids h.1
+
+-- the innermost object has no events left
+pub emptied : (walk : ArchiveWalk) (below : List Events) (left rest : Events) (items : List Events)
+    → walk.levels.items ≡ below ++ left ∷ [] → items ≡ below ++ rest ∷ []
+    → remaining_events rest ≡ [] → NameOnly (events_in_levels walk) (settled_in walk.ends)
+    → NameOnly (flat_map remaining_events (reverse items)) (settled_in walk.ends)
+emptied walk below left rest items had has none named =
+    let others = flat_map remaining_events (reverse below) in
+    let within : events_in_levels walk ≡ remaining_events left ++ others =
+    ap (λ l. flat_map remaining_events (reverse l)) had ∙ within-snoc below left in
+    let after : flat_map remaining_events (reverse items) ≡ others =
+    ap (λ l. flat_map remaining_events (reverse l)) has ∙ within-snoc below rest
+    ∙ ap (λ l. l ++ others) none in
+    subst (λ l. NameOnly l (settled_in walk.ends)) (sym after)
+    (named-rest (remaining_events left) others (settled_in walk.ends)
+    (subst (λ l. NameOnly l (settled_in walk.ends)) within named))
+
+-- the events of a Uid precede the others
+pub shorter : (walk : ArchiveWalk) (below : List Events) (left rest : Events) (items : List Events)
+    (e : PlainEvent) (uid : ℕ) → walk.levels.items ≡ below ++ left ∷ []
+    → items ≡ below ++ rest ∷ [] → remaining_events left ≡ e ∷ remaining_events rest
+    → uid_of_event e ≡ Some uid → IsWalk walk
+    → length (replaced_events (objects_in walk) (flat_map remaining_events (reverse items)))
+    < length (events_left walk)
+shorter walk below left rest items e uid had has taken is o =
+    let trees = objects_in walk in
+    let others = flat_map remaining_events (reverse below) in
+    let more = flat_map remaining_events (reverse items) in
+    let after : more ≡ remaining_events rest ++ others =
+    ap (λ l. flat_map remaining_events (reverse l)) has ∙ within-snoc below rest in
+    let within : events_in_levels walk ≡ e ∷ more =
+    ap (λ l. flat_map remaining_events (reverse l)) had ∙ within-snoc below left
+    ∙ ap (λ l. l ++ others) taken ∙ ap (λ l. e ∷ l) (sym after) in
+    let named : NameOnly (e ∷ more) (settled_in walk.ends) =
+    subst (λ l. NameOnly l (settled_in walk.ends)) within o.1 in
+    let some = end-some trees (end_in walk.ends) (settled_in walk.ends) uid
+    (end-of walk uid o (named.0 uid is)) in
+    let all : events_left walk ≡ events_at trees uid ++ replaced_events trees more =
+    ap (replaced_events trees) within ∙ uid-first trees e uid more is in
+    rw (all, length-append (events_at trees uid) (replaced_events trees more))
+    (omega (arith, some))
+
+pub on-err : {X E : Type 0} {P : Type 0} → (r : Result X E) → is_err r ≡ true → OnErr r P → P
+on-err (Ok x) e h = absurd (true≢false (sym e))
+on-err (Err x) e h = h

@@ -35,11 +35,6 @@ names_of archive = pairs_of archive.names.now
 abbrev pub IsValueAt : (key : List ℕ) → (pairs : List (List ℕ × Value)) → Value → Type 0
 IsValueAt key pairs v = lookup (bytes_eq key) pairs ≡ Some v
 
--- the key's value isn't of this kind, or the key is missing
-abbrev pub HasNoneAt : {X : Type 0} → (kind : X → Value) → (key : List ℕ)
-    → (pairs : List (List ℕ × Value)) → Type 0
-HasNoneAt {X} kind key pairs = (x : X) → ¬ (IsValueAt key pairs (kind x))
-
 -- the key's value is this Uid
 abbrev pub IsUidAt : (key : List ℕ) → (pairs : List (List ℕ × Value)) → (uid : ℕ) → Type 0
 IsUidAt key pairs uid = IsValueAt key pairs (value.Uid uid)
@@ -105,21 +100,21 @@ module _ (follow : ℕ → Result Tree ArchiveFault) where
         and_then (replaced tree)
         (λ first. and_then (replaced_pairs pairs) (λ done. Ok (MemberAnd key first done)))
 
--- the tree of the object that a Uid names, unless that object is open already
-abbrev pub tree_found : (found : Option Tree) (is_open : Bool) (uid : ℕ)
-    → (Tree → Result Tree ArchiveFault) → Result Tree ArchiveFault
-tree_found None is_open uid tree = Err (UidOutOfRange uid)
-tree_found (Some object) true uid tree = Err (RecursiveUid uid)
-tree_found (Some object) false uid tree = tree object
+-- the object that was found for a Uid, unless it is open already
+abbrev pub object_found : (found : Option Tree) (is_open : Bool) (uid : ℕ)
+    → Result Tree ArchiveFault
+object_found None is_open uid = Err (UidOutOfRange uid)
+object_found (Some object) true uid = Err (RecursiveUid uid)
+object_found (Some object) false uid = Ok object
 
 module _ (objects : List Tree) where
   -- The tree of a Uid while the objects on the path are open. `fuel` is the number of objects that
   -- aren't on the path: if it is 0, each object is open.
   unfoldable pub resolved : (fuel : ℕ) (path : List ℕ) (uid : ℕ) → Result Tree ArchiveFault
-  resolved zero path uid = tree_found (slice_get objects uid) true uid (λ object. Ok object)
+  resolved zero path uid = object_found (slice_get objects uid) true uid
   resolved (suc fuel) path uid =
-      tree_found (slice_get objects uid) (list_any (nat_eq uid) path) uid
-      (λ object. replaced (resolved fuel (uid ∷ path)) object)
+      and_then (object_found (slice_get objects uid) (list_any (nat_eq uid) path) uid)
+      (replaced (resolved fuel (uid ∷ path)))
 
   -- the tree of a Uid
   abbrev pub resolved_tree : (uid : ℕ) → Result Tree ArchiveFault

@@ -4,7 +4,7 @@ ghost use Rattle.std.specs.Prelude.{◌≡◌, ℕ, Ok, IfErr, IfOk, IfSome, IsN
 ghost use Rattle.std.specs.declared.alloc.Global.{Global};
 ghost use Rattle.std.specs.declared.vec.Vec.{Vec};
 ghost use Rattle.std.specs.Option.{option_copied};
-ghost use Rattle.plist_keyed.specs.Archives.{HasNoneAt, IsUidAt, IsValueAt, names_of, objects_of, trees_in, IsArchiveOf, IsNoArchive, resolved_tree, IsFaultOf};
+ghost use Rattle.plist_keyed.specs.Archives.{IsUidAt, IsValueAt, names_of, objects_of, trees_in, IsArchiveOf, IsNoArchive, resolved_tree, IsFaultOf};
 ghost use Rattle.plist.specs.Dictionaries.{pairs_of};
 ghost use Rattle.plist.specs.ValueTrees.{tree_of};
 
@@ -27,7 +27,8 @@ pub struct Archive<'a> {
 fn array_at<'a>(pairs: &'a Dictionary, key: &str) -> Option<&'a Vec<Value>>
     ensures found { IfSome result (λ array. IsValueAt key.now (pairs_of pairs.now)
         (Value.Array array.now)) }
-    ensures missing { IsNone result → HasNoneAt Value.Array key.now (pairs_of pairs.now) }
+    ensures missing { IsNone result → (array : Vec Value Global) → ¬ (IsValueAt key.now
+        (pairs_of pairs.now) (Value.Array array)) }
 {
     let Some(Value::Array(array)) = pairs.get(key) else {
         return None;
@@ -39,7 +40,8 @@ fn array_at<'a>(pairs: &'a Dictionary, key: &str) -> Option<&'a Vec<Value>>
 fn dictionary_at<'a>(pairs: &'a Dictionary, key: &str) -> Option<&'a Dictionary>
     ensures found { IfSome result (λ others. IsValueAt key.now (pairs_of pairs.now)
         (Value.Dictionary others.now)) }
-    ensures missing { IsNone result → HasNoneAt Value.Dictionary key.now (pairs_of pairs.now) }
+    ensures missing { IsNone result → (others : Dictionary) → ¬ (IsValueAt key.now
+        (pairs_of pairs.now) (Value.Dictionary others)) }
 {
     let Some(Value::Dictionary(others)) = pairs.get(key) else {
         return None;
@@ -118,7 +120,7 @@ impl<'a> Archive<'a> {
         ensures value { IfOk result (λ v. resolved_tree (trees_in self.now) uid ≡ Ok (tree_of v)) }
         ensures fault { IfErr result (IsFaultOf (resolved_tree (trees_in self.now) uid)) }
     {
-        match value_at(alloc, self.objects.as_slice(), uid) {
+        match value_at(alloc, self.objects.as_slice(), uid.get()) {
             Ok(value) => Ok(value),
             Err(error) => Err(KeyedError::of_walk(error)),
         }

@@ -3,122 +3,42 @@
 //! It follows each Uid once. A Uid that it reaches again is either open, which is a fault, or
 //! settled, and then there is no fault below it.
 
-ghost use Rattle.std.specs.Prelude.{◌≡◌, [], ◌∷◌, ◌++◌, false, IfErr, IfOk, IfSome, IsNone, None, OnOk, Some, nat_eq, slice_get, ℕ};
-ghost use Rattle.std.specs.Option.{option_copied};
-ghost use Rattle.indexmap.specs.IndexMap.{get};
-ghost use Rattle.indexmap.specs.IndexSet.{contains};
-ghost use Rattle.plist_base.specs.Bracketing.{bracketing};
-ghost use Rattle.plist_base.specs.Events.{ScalarEvent, event_of};
-ghost use Rattle.plist_base.specs.Trees.{Uid as PlainUid};
-ghost use Rattle.plist.specs.declared.stream.events.Events.{Events as PlainEvents};
-ghost use Rattle.plist.specs.Events.{remaining_events};
-ghost use Rattle.plist.specs.ValueTrees.{tree_of};
+ghost use Rattle.std.specs.Prelude.{◌≡◌, [], ◌∷◌, IfErr, OnOk, ℕ, nat_eq, slice_get};
+ghost use Rattle.std.specs.List.{list_any};
+ghost use Rattle.std.specs.Option.{option_and_then, option_map_or};
+ghost use Rattle.plist_base.specs.Events.{event_of};
 ghost use Rattle.plist_keyed.specs.declared.error.WalkError.TheVariants.{OutOfMemory as NoMemory};
-ghost use Rattle.plist_keyed.specs.inner.States.{objects_seen};
-ghost use Rattle.plist_keyed.specs.inner.Walks.{IsSettledBelow, LeadsOnlyTo, settled_in, IsFirstFaultOf, steps_from, uid_of_event};
+ghost use Rattle.plist_keyed.specs.Archives.{IsFaultOf, error_of_walk, object_found, resolved_tree};
+ghost use Rattle.plist_keyed.specs.inner.Walks.{IsIn, end_in, settled_in, uid_of_event, uid_of_tree};
 
 use crate::error::WalkError;
-use indexmap::{IndexMap, IndexSet};
-use plist::Value;
-use plist::stream::{Event, Events};
-use std::alloc::Global;
+use crate::state::{ArchiveWalk, uid_of};
+use indexmap::IndexSet;
+use plist::stream::Event;
 
 // Returns the number of the Uid that an event is, or `None` for any other event.
-pub(crate) fn uid_of(event: &Event<'_>) -> Option<u64>
-    ensures { result ≡ uid_of_event (event_of event.now) }
+fn take_uid(event: Event<'_>) -> Option<u64>
+    ensures { result ≡ uid_of_event (event_of event.entry) }
 {
-    let Event::Uid(uid) = event else {
-        return None;
-    };
-    Some(uid.get())
+    uid_of(&event)
 }
 
-// Returns the number of the Uid that an object is, or `None` for any other object.
-fn uid_in(object: &Value) -> Option<u64>
-    ensures found { IfSome result (λ uid. bracketing (tree_of object.now)
-        ≡ ScalarEvent (PlainUid uid) ∷ []) }
-    ensures missing { IsNone result → (uid : ℕ) → ¬ (bracketing (tree_of object.now)
-        ≡ ScalarEvent (PlainUid uid) ∷ []) }
-{
-    let Value::Uid(uid) = object else {
-        return None;
-    };
-    Some(uid.get())
-}
+impl<'a> ArchiveWalk<'a> {
+    ghost use Rattle.plist_keyed.specs.inner.Walks.{AreAllSettled, FollowsUid, objects_in};
 
-// The state of the walk.
-#[derive(Drop)]
-struct Check<'a> {
-    alloc: Global,
-    objects: &'a [Value],
-    // The Uids that are open, outermost first.
-    path: IndexSet<u64>,
-    // The remaining items of the objects that the open Uids name.
-    levels: Vec<Events<'a>>,
-    // The settled Uids, whose objects were walked completely, in the order in which they were
-    // settled. Each is stored with the end of its chain. In a chain, the object of each Uid is the
-    // next Uid.
-    ends: IndexMap<u64, u64>,
-}
-
-impl<'a> Check<'a> {
-    ghost use Rattle.plist_keyed.specs.inner.States.{HasEnd, IsCheck, IsReached, IsCheckWith, Leaves, unchecked_steps, unchecked_after, unchecked_with};
-    ghost use Rattle.plist_keyed.specs.inner.Walks.{PassesEvents};
-
-    fn new(alloc: Global, objects: &'a [Value]) -> Check<'a>
-        ensures objects { result.objects ≡ objects.entry }
-        ensures path { result.path.keys ≡ [] }
-        ensures levels { result.levels.items ≡ [] }
-        ensures ends { result.ends.entries ≡ [] }
-    {
-        Check {
-            alloc,
-            objects,
-            path: IndexSet::new(alloc),
-            levels: Vec::new(alloc),
-            ends: IndexMap::new(alloc),
-        }
-    }
-
-    // Returns the object of a Uid, if the archive has one.
-    fn look_up(&self, uid: u64) -> Option<&'a Value>
-        ensures { option_copied result ≡ slice_get self.now.objects.now uid }
-    {
-        self.objects.get(uid as usize)
-    }
-
-    // Opens the object of a Uid that isn't open.
-    fn open(&mut self, uid: u64, object: &'a Value) -> Result<(), WalkError>
-        requires { contains nat_eq self.old.path uid ≡ false }
+    // Opens the object of a Uid, unless the Uid is settled. The open Uids are those of the path,
+    // outermost first.
+    fn follow(&mut self, path: &mut IndexSet<u64>, uid: u64) -> Result<(), WalkError>
+        // Result.
+        ensures followed { OnOk result (FollowsUid self.old path.old.keys uid self.new
+            path.new.keys) }
         // Errors.
-        ensures memory { IfErr result (λ e. e ≡ NoMemory) }
+        ensures refused { IfErr result (λ error. IsFaultOf
+            (object_found (slice_get (objects_in self.old) uid)
+            (list_any (nat_eq uid) path.old.keys) uid) (error_of_walk error)) }
         // State afterwards.
-        ensures path { OnOk result (self.new.path.keys ≡ self.old.path.keys ++ uid ∷ []) }
-        ensures levels { OnOk result ((level : PlainEvents)
-            × (self.new.levels.items ≡ self.old.levels.items ++ level ∷ [])
-            × (remaining_events level ≡ bracketing (tree_of object.now))) }
         ensures objects { OnOk result (self.new.objects ≡ self.old.objects) }
         ensures ends { OnOk result (self.new.ends ≡ self.old.ends) }
-    {
-        self.path.insert(uid)?;
-        self.levels.push(object.events(self.alloc))?;
-        Ok(())
-    }
-
-    // Enters the object of a Uid, unless it is settled.
-    fn follow(&mut self, uid: u64) -> Result<(), WalkError>
-        requires { IsCheckWith self.old [] (ScalarEvent (PlainUid uid) ∷ []) }
-        // Result.
-        ensures passed { OnOk result (PassesEvents
-            (unchecked_after self.old (ScalarEvent (PlainUid uid))) (unchecked_steps self.new)) }
-        ensures reached { OnOk result (IsReached self.new uid) }
-        // Errors.
-        ensures refused { IfErr result
-            (IsFirstFaultOf (unchecked_after self.old (ScalarEvent (PlainUid uid)))) }
-        // State afterwards.
-        ensures check { OnOk result (IsCheck self.new) }
-        ensures objects { OnOk result (self.new.objects ≡ self.old.objects) }
-        ensures kept { OnOk result ((u : ℕ) → IsReached self.old u → IsReached self.new u) }
     {
         if self.ends.contains_key(&uid) {
             return Ok(());
@@ -126,123 +46,79 @@ impl<'a> Check<'a> {
         let Some(object) = self.look_up(uid) else {
             return Err(WalkError::MissingObject(uid));
         };
-        if self.path.contains(&uid) {
+        if path.contains(&uid) {
             return Err(WalkError::OpenObject(uid));
         }
-        self.open(uid, object)
+        path.insert(uid)?;
+        self.levels.push(object.events(self.alloc))?;
+        Ok(())
     }
 
-    // Takes an event of the innermost object, and follows it if it is a Uid.
-    fn pass(&mut self, event: &Event<'a>) -> Result<(), WalkError>
-        requires { IsCheckWith self.old [] (event_of event.now ∷ []) }
-        ensures passed { OnOk result (PassesEvents (unchecked_after self.old (event_of event.now))
-            (unchecked_steps self.new)) }
-        ensures refused { IfErr result
-            (IsFirstFaultOf (unchecked_after self.old (event_of event.now))) }
-        ensures check { OnOk result (IsCheck self.new) }
-        ensures objects { OnOk result (self.new.objects ≡ self.old.objects) }
-        ensures kept { OnOk result ((u : ℕ) → IsReached self.old u → IsReached self.new u) }
-    {
-        match uid_of(event) {
-            None => Ok(()),
-            Some(uid) => self.follow(uid),
-        }
-    }
-
-    // Returns the end of the chain that begins with this Uid. All other Uids of the chain are
-    // settled.
-    fn end_of(&self, uid: u64) -> u64
-        requires { LeadsOnlyTo (objects_seen self.now.objects.now) uid (settled_in self.now.ends) }
-        ensures { HasEnd self.now uid result }
-    {
-        let Some(object) = self.look_up(uid) else {
-            return uid;
-        };
-        let Some(next) = uid_in(object) else {
-            return uid;
-        };
-        match self.ends.get(&next) {
-            Some(end) => *end,
-            // This never happens, since the next Uid is settled, and each settled Uid has an end.
-            None => uid,
-        }
-    }
-
-    // Settles the innermost Uid, whose object has no items left.
-    fn leave(&mut self) -> Result<(), WalkError>
-        requires { (left : PlainEvents) × (remaining_events left ≡ [])
-            × IsCheckWith self.old (left ∷ []) [] }
-        ensures left { OnOk result (Leaves self.old self.new) }
+    // Settles a Uid, to whose object no items are left. If the object is a Uid, both have the same
+    // end.
+    fn settle(&mut self, uid: u64) -> Result<(), WalkError>
+        requires { IsIn uid (settled_in self.old.ends) → ⊥ }
+        // Errors.
         ensures memory { IfErr result (λ e. e ≡ NoMemory) }
-        ensures check { OnOk result (IsCheck self.new) }
+        // State afterwards.
+        ensures settled { OnOk result (settled_in self.new.ends ≡ uid ∷ settled_in self.old.ends) }
+        ensures end { OnOk result (end_in self.new.ends uid ≡ option_map_or (end_in self.old.ends)
+            (option_and_then uid_of_tree (slice_get (objects_in self.old) uid)) uid) }
+        ensures kept { OnOk result ((other : ℕ) → IsIn other (settled_in self.old.ends)
+            → end_in self.new.ends other ≡ end_in self.old.ends other) }
         ensures objects { OnOk result (self.new.objects ≡ self.old.objects) }
+        ensures levels { OnOk result (self.new.levels ≡ self.old.levels) }
     {
-        let Some(uid) = self.path.pop() else {
-            return Ok(());
+        let end = match self.next_of(uid) {
+            Some(next) => self.end_of(next),
+            None => uid,
         };
-        let end = self.end_of(uid);
         self.ends.insert(uid, end)?;
         Ok(())
     }
 
-    // Takes the next of these remaining items of the innermost object, or leaves the object if it
-    // has none.
-    fn step(&mut self, left: Events<'a>) -> Result<(), WalkError>
-        requires { IsCheckWith self.old (left ∷ []) [] }
-        ensures passed { OnOk result (PassesEvents (unchecked_with self.old (left.entry ∷ []))
-            (unchecked_steps self.new)) }
-        ensures refused { IfErr result
-            (IsFirstFaultOf (unchecked_with self.old (left.entry ∷ []))) }
-        ensures check { OnOk result (IsCheck self.new) }
-        ensures objects { OnOk result (self.new.objects ≡ self.old.objects) }
-        ensures kept { OnOk result ((u : ℕ) → IsReached self.old u → IsReached self.new u) }
-    {
-        let mut rest = left;
-        match rest.next() {
-            None => self.leave(),
-            Some(Ok(event)) => {
-                self.levels.push(rest)?;
-                self.pass(&event)
-            }
-            Some(Err(_)) => Err(WalkError::OutOfMemory),
-        }
-    }
-
-    // Walks over everything below a Uid.
-    fn run(&mut self, uid: u64) -> Result<(), WalkError>
-        requires path { self.old.path.keys ≡ [] }
+    /// Walks over everything below a Uid, and settles each Uid that it reaches.
+    ///
+    /// # Errors
+    ///
+    /// The first fault in depth-first order: `MissingObject` for a Uid that has no object, or
+    /// `OpenObject` for a Uid that is reached while its own object is open. `OutOfMemory` if an
+    /// allocation fails.
+    pub(crate) fn check(&mut self, uid: u64) -> Result<(), WalkError>
         requires levels { self.old.levels.items ≡ [] }
         requires ends { self.old.ends.entries ≡ [] }
-        ensures settled { OnOk result (IsSettledBelow
-            (objects_seen self.old.objects.now) uid self.new.ends) }
-        ensures refused { IfErr result (IsFirstFaultOf (steps_from
-            (objects_seen self.old.objects.now) uid)) }
+        // Result.
+        ensures settled { OnOk result (AreAllSettled self.new) }
+        ensures reached { OnOk result (IsIn uid (settled_in self.new.ends)) }
+        // Errors.
+        ensures refused { IfErr result (λ error. IsFaultOf
+            (resolved_tree (objects_in self.old) uid) (error_of_walk error)) }
+        // State afterwards.
+        ensures levels { OnOk result (self.new.levels.items ≡ []) }
+        ensures objects { OnOk result (self.new.objects ≡ self.old.objects) }
     {
-        self.follow(uid)?;
-        while let Some(left) = self.levels.pop() {
-            self.step(left)?;
+        let mut path = IndexSet::new(self.alloc);
+        self.follow(&mut path, uid)?;
+        while let Some(mut left) = self.levels.pop() {
+            let Some(item) = left.next() else {
+                // This always finds a Uid, since each open object has one.
+                let Some(walked) = path.pop() else {
+                    continue;
+                };
+                self.settle(walked)?;
+                continue;
+            };
+            self.levels.push_reserved(left);
+            let Ok(event) = item else {
+                return Err(WalkError::OutOfMemory);
+            };
+            let Some(found) = take_uid(event) else {
+                continue;
+            };
+            self.follow(&mut path, found)?;
         }
+        // The tree may be less deep than what was walked.
+        self.levels = Vec::new(self.alloc);
         Ok(())
     }
-}
-
-/// Walks over everything below a Uid, and returns the settled Uids, each with the end of its chain.
-///
-/// # Errors
-///
-/// The first fault in depth-first order: `MissingObject` for a Uid that has no object, or
-/// `OpenObject` for a Uid that is reached while its own object is open. `OutOfMemory` if an
-/// allocation fails.
-pub(crate) fn settled_below(
-    alloc: Global,
-    objects: &[Value],
-    uid: u64,
-) -> Result<IndexMap<u64, u64>, WalkError>
-    ensures settled { IfOk result (IsSettledBelow (objects_seen objects.now) uid) }
-    ensures refused { IfErr result (IsFirstFaultOf (steps_from (objects_seen objects.now) uid)) }
-{
-    let mut check = Check::new(alloc, objects);
-    check.run(uid)?;
-    let Check { ends, .. } = check;
-    Ok(ends)
 }

@@ -9,6 +9,7 @@
 mod archive;
 mod check;
 mod error;
+mod state;
 mod walk;
 
 pub use archive::Archive;

@@ -1,135 +1,117 @@
--- The steps of a walk over an archive: the events of its objects, with each Uid in them replaced by
--- the steps of the object that it names. A Uid is settled if its object, and all objects to which
--- that leads, were walked completely without a fault. In lists of settled Uids the last one is first.
-use Rattle.std.specs.Prelude.{◌≡◌, ℕ, zero, suc, ◌-◌, ◌<◌, ◌≤◌, Bool, true, false, List, [], ◌∷◌, ◌++◌, length, map, reverse, Option, Some, None, Result, Ok, Err, nat_eq, slice_get, ⊤}
-use Rattle.std.specs.List.{AllByRecursion, filter_map, flat_map, list_any}
-use Rattle.std.specs.Option.{option_map_or}
+-- The state of the two walks over an archive. A Uid is settled if its object, and all objects to
+-- which that leads, were walked completely without a fault. In lists of settled Uids and of
+-- remaining events, the last Uid and the innermost object are first.
+use Rattle.std.specs.Prelude.{◌≡◌, ◌⊎◌, ℕ, true, List, [], ◌∷◌, ◌++◌, map, reverse, Option, Some, None, Result, Ok, nat_eq, slice_get, ⊤}
+use Rattle.std.specs.List.{AllByRecursion, flat_map, list_any}
+use Rattle.std.specs.Option.{option_map_or, unwrap_or}
+use Rattle.std.specs.Result.{result_ok}
 use Rattle.indexmap.specs.IndexMap.{IndexMap, get, keys}
-use Rattle.plist_base.specs.Events.{PlainEvent, ScalarEvent}
-use Rattle.plist_base.specs.Trees.{Uid}
-use Rattle.plist_keyed.specs.declared.error.WalkError.{WalkError}
-use Rattle.plist_keyed.specs.Archives.{ArchiveFault, UidOutOfRange, RecursiveUid, MatchError, error_of_walk, number_of_uid}
-
--- an event, or the fault that replaces one
-abbrev pub Given : Type 0
-Given = Result PlainEvent ArchiveFault
-
--- a step yields an event or a fault; or it enters or leaves an object, and yields nothing
-abbrev pub Step : Type 0
-Step = Option Given
-
--- what these steps yield
-abbrev pub given_by : List Step → List Given
-given_by steps = filter_map (λ (step : Step). step) steps
+use Rattle.plist_base.specs.declared.error.Error.{Error}
+use Rattle.plist_base.specs.declared.event.Event.{Event}
+use Rattle.plist_base.specs.Bracketing.{bracketing}
+use Rattle.plist_base.specs.Events.{PlainEvent, ScalarEvent, event_of}
+use Rattle.plist_base.specs.FirstItems.{GivesFirst}
+use Rattle.plist_base.specs.Trees.{Tree, Leaf}
+use Rattle.plist.specs.declared.stream.events.Events.{Events}
+use Rattle.plist.specs.Events.{remaining_events}
+use Rattle.plist.specs.ValueTrees.{tree_of}
+use Rattle.plist_keyed.specs.declared.state.ArchiveWalk.{ArchiveWalk}
+use Rattle.plist_keyed.specs.Archives.{number_of_uid, object_found, resolved_tree}
 
 -- the number of the Uid that an event is, if it is one
 abbrev pub uid_of_event : PlainEvent → Option ℕ
 uid_of_event (ScalarEvent scalar) = number_of_uid scalar
 uid_of_event event = None
 
--- the steps of an event, which are those of the named object if the event is a Uid
-abbrev pub steps_of_event : (follow : ℕ → List Step) → PlainEvent → List Step
-steps_of_event follow event = option_map_or follow (uid_of_event event) (Some (Ok event) ∷ [])
-
--- the steps of these events, in order
-abbrev pub steps_of_events : (follow : ℕ → List Step) → List PlainEvent → List Step
-steps_of_events follow es = flat_map (steps_of_event follow) es
-
--- the steps of the object that a Uid names
-abbrev pub steps_found : (found : Option (List PlainEvent)) (is_open : Bool) (uid : ℕ)
-    → (List PlainEvent → List Step) → List Step
-steps_found None is_open uid steps = Some (Err (UidOutOfRange uid)) ∷ []
-steps_found (Some object) true uid steps = Some (Err (RecursiveUid uid)) ∷ []
-steps_found (Some object) false uid steps = None ∷ (steps object ++ None ∷ [])
-
-module _ (objects : List (List PlainEvent)) where
-  -- the steps of a Uid while the objects on the path are open; `fuel` counts the others
-  unfoldable pub steps_at : (fuel : ℕ) (path : List ℕ) (uid : ℕ) → List Step
-  steps_at zero path uid = steps_found (slice_get objects uid) true uid (λ object. [])
-  steps_at (suc fuel) path uid =
-      steps_found (slice_get objects uid) (list_any (nat_eq uid) path) uid
-      (λ object. steps_of_events (steps_at fuel (uid ∷ path)) object)
-
-  -- the steps of a Uid while the objects on the path are open
-  abbrev pub follow_in : (path : List ℕ) → ℕ → List Step
-  follow_in path uid = steps_at (length objects - length path) path uid
-
-  -- the steps of a Uid while no object is open
-  abbrev pub steps_from : ℕ → List Step
-  steps_from uid = follow_in [] uid
-
--- one or more steps are done, which yield these events and no fault
-abbrev pub StepsGive : (events : List PlainEvent) → (before after : List Step) → Type 0
-StepsGive events before after =
-    (length after < length before) × (given_by before ≡ map Ok events ++ given_by after)
-
--- one or more steps are done, which yield events and no fault
-abbrev pub PassesEvents : (before after : List Step) → Type 0
-PassesEvents before after = (events : List PlainEvent) × StepsGive events before after
-
--- the steps yield no fault
-abbrev pub IsFaultless : List Step → Type 0
-IsFaultless steps = (events : List PlainEvent) × (given_by steps ≡ map Ok events)
-
--- the error is the first fault, or memory ran out
-abbrev pub IsFirstFaultOf : (steps : List Step) → WalkError → Type 0
-IsFirstFaultOf steps error =
-    MatchError (error_of_walk error) ⊥ ⊤ (λ fault. (events : List PlainEvent) × (more : List Given)
-    × (given_by steps ≡ map Ok events ++ Err fault ∷ more))
-
--- ---- settled Uids
+-- the number of the Uid that a tree is, if it is one
+abbrev pub uid_of_tree : Tree → Option ℕ
+uid_of_tree (Leaf scalar) = number_of_uid scalar
+uid_of_tree tree = None
 
 -- the Uid is one of these
 abbrev pub IsIn : (uid : ℕ) → (uids : List ℕ) → Type 0
 IsIn uid uids = list_any (nat_eq uid) uids ≡ true
-
--- no Uid is in both
-abbrev pub AreApart : (left right : List ℕ) → Type 0
-AreApart left right = (uid : ℕ) → IsIn uid left → IsIn uid right → ⊥
 
 -- each Uid among the events is one of these
 abbrev pub NameOnly : List PlainEvent → (uids : List ℕ) → Type 0
 NameOnly events uids =
     AllByRecursion (λ event. (uid : ℕ) → uid_of_event event ≡ Some uid → IsIn uid uids) events
 
-module _ (objects : List (List PlainEvent)) where
-  -- the Uid has an object, and each Uid in it is one of these
-  abbrev pub LeadsOnlyTo : (uid : ℕ) → (uids : List ℕ) → Type 0
-  LeadsOnlyTo uid uids =
-      (events : List PlainEvent) × (slice_get objects uid ≡ Some events) × NameOnly events uids
+-- the Uid isn't one of these, and leads only to these; if its object is a Uid, both have the same
+-- end, and otherwise it is its own end
+pub record IsSettledAfter (objects : List Tree) (end : ℕ → ℕ) (uids : List ℕ) (uid : ℕ) : Type 0
+  where
+    pub object : Tree
+    pub found : slice_get objects uid ≡ Some object
+    pub is_new : IsIn uid uids → ⊥
+    pub leads : NameOnly (bracketing object) uids
+    pub same_end : end uid ≡ option_map_or end (uid_of_tree object) uid
 
-  -- each Uid leads only to those that were settled before it, and none is settled twice
-  abbrev pub AreSettled : (uids : List ℕ) → Type 0
-  AreSettled [] = ⊤
-  AreSettled (uid ∷ uids) = LeadsOnlyTo uid uids × (IsIn uid uids → ⊥) × AreSettled uids
+-- each Uid is settled after those that follow it in the list
+abbrev pub AreSettled : (objects : List Tree) → (end : ℕ → ℕ) → (uids : List ℕ) → Type 0
+AreSettled objects end [] = ⊤
+AreSettled objects end (uid ∷ uids) =
+    IsSettledAfter objects end uids uid × AreSettled objects end uids
 
-  -- the object of the Uid, if it has one, isn't a Uid
-  abbrev pub IsNoUid : (uid : ℕ) → Type 0
-  IsNoUid uid = (next : ℕ) → slice_get objects uid ≡ Some (ScalarEvent (Uid next) ∷ []) → ⊥
+-- the events of a Uid's tree, or none if it has no tree
+abbrev pub events_at : (objects : List Tree) → (uid : ℕ) → List PlainEvent
+events_at objects uid = option_map_or bracketing (result_ok (resolved_tree objects uid)) []
 
-  -- the end's object isn't a Uid, and following the end yields the same items as following the Uid,
-  -- in as many steps or fewer
-  abbrev pub IsEndOf : (uids : List ℕ) → (uid end : ℕ) → Type 0
-  IsEndOf uids uid end =
-      IsIn end uids × IsNoUid end
-      × (given_by (steps_from objects uid) ≡ given_by (steps_from objects end))
-      × (length (steps_from objects end) ≤ length (steps_from objects uid))
+-- the events, in which each Uid is replaced by the events of its tree
+abbrev pub replaced_events : (objects : List Tree) → List PlainEvent → List PlainEvent
+replaced_events objects events =
+    flat_map (λ event. option_map_or (events_at objects) (uid_of_event event) (event ∷ [])) events
 
-  -- each of these Uids is found with its end
-  abbrev pub AreEnds : (uids : List ℕ) → (find : ℕ → Option ℕ) → Type 0
-  AreEnds uids find =
-      (uid : ℕ) → IsIn uid uids → (end : ℕ) × (find uid ≡ Some end) × IsEndOf uids uid end
+-- ---- the state
 
--- the keys of a map of ends are the settled Uids
+-- the trees of the objects
+abbrev pub objects_in : ArchiveWalk → List Tree
+objects_in walk = map tree_of walk.objects.now
+
+-- the settled Uids, which are the keys of a map of ends
 abbrev pub settled_in : {S : Type 0} → IndexMap ℕ ℕ S → List ℕ
 settled_in ends = reverse (keys ends)
 
--- all Uids in a map are settled, and the map has the end of each
-abbrev pub IsSettledIn : {S : Type 0} → (objects : List (List PlainEvent)) → IndexMap ℕ ℕ S → Type 0
-IsSettledIn objects ends =
-    AreSettled objects (settled_in ends) × AreEnds objects (settled_in ends) (get nat_eq ends)
+-- the end that a map has for a Uid, or the Uid itself
+abbrev pub end_in : {S : Type 0} → IndexMap ℕ ℕ S → (uid : ℕ) → ℕ
+end_in ends uid = unwrap_or (get nat_eq ends uid) uid
 
--- all Uids in a map are settled, and this one is among them
-abbrev pub IsSettledBelow : {S : Type 0} → (objects : List (List PlainEvent)) → (uid : ℕ)
-    → IndexMap ℕ ℕ S → Type 0
-IsSettledBelow objects uid ends = IsSettledIn objects ends × IsIn uid (settled_in ends)
+-- the Uids with an end are settled
+abbrev pub AreAllSettled : ArchiveWalk → Type 0
+AreAllSettled walk = AreSettled (objects_in walk) (end_in walk.ends) (settled_in walk.ends)
+
+-- a Uid that isn't settled has an object that isn't open, which is opened as the innermost one
+pub record IsOpened (before : ArchiveWalk) (path : List ℕ) (uid : ℕ) (after : ArchiveWalk)
+    (longer : List ℕ) : Type 0 where
+  pub object : Tree
+  pub level : Events
+  pub is_new : IsIn uid (settled_in before.ends) → ⊥
+  pub found : object_found (slice_get (objects_in before) uid) (list_any (nat_eq uid) path) uid
+      ≡ Ok object
+  pub events : remaining_events level ≡ bracketing object
+  pub levels : after.levels.items ≡ before.levels.items ++ level ∷ []
+  pub is_last : longer ≡ path ++ uid ∷ []
+
+-- the Uid is settled, and nothing changes; or its object is opened
+abbrev pub FollowsUid : (before : ArchiveWalk) → (path : List ℕ) → (uid : ℕ)
+    → (after : ArchiveWalk) → (longer : List ℕ) → Type 0
+FollowsUid before path uid after longer =
+    (IsIn uid (settled_in before.ends) × (after.levels ≡ before.levels) × (longer ≡ path))
+    ⊎ IsOpened before path uid after longer
+
+-- the remaining events of the open objects
+abbrev pub events_in_levels : ArchiveWalk → List PlainEvent
+events_in_levels walk = flat_map remaining_events (reverse walk.levels.items)
+
+-- the Uids with an end are settled, and the remaining events name only these
+abbrev pub IsWalk : ArchiveWalk → Type 0
+IsWalk walk = AreAllSettled walk × NameOnly (events_in_levels walk) (settled_in walk.ends)
+
+-- the events that remain to be yielded
+abbrev pub events_left : ArchiveWalk → List PlainEvent
+events_left walk = replaced_events (objects_in walk) (events_in_levels walk)
+
+-- the remaining events begin with this one
+abbrev pub GivesItemOfUid : ArchiveWalk → Option (Result Event Error) → ArchiveWalk → Type 0
+GivesItemOfUid old item new =
+    GivesFirst event_of (map Ok (events_left old)) item (map Ok (events_left new))
