@@ -1,6 +1,6 @@
 //! Trees of keyed archives.
 
-use crate::support::{must, value_of, words_of_value};
+use crate::support::{must, same, value_of, words_of_value};
 use plist::{Builder, Uid, Value};
 use plist_base::{Event, Writer};
 use plist_keyed::{Archive, KeyedError};
@@ -40,14 +40,19 @@ fn tree_of(rt: &(impl Abort + AllocGlobal), root: &Value, uid: u64) -> Result<Va
 fn looks_up(rt: HostRuntime) {
     let root = archive_of(&rt, "'$null' [ uid:2 end 'x'");
     let archive = must(&rt, Archive::open(&root));
-    assert_eq!(rt; archive.top("root"), Some(Uid::new(1)));
-    assert_eq!(rt; archive.top("none"), None);
-    assert_eq!(rt; archive.top("text"), None);
+    same(&rt, "the root", &archive.top("root"), &Some(Uid::new(1)));
+    same(&rt, "no such name", &archive.top("none"), &None);
+    same(&rt, "a name that isn't a Uid", &archive.top("text"), &None);
     assert!(rt; archive.get(Uid::new(3)).is_none());
     let Some(object) = archive.get(Uid::new(1)) else {
         panic!(rt; "the object is there");
     };
-    assert_eq!(rt; words_of_value(&rt, object).as_str(), "[1 uid:2 end");
+    same(
+        &rt,
+        "the object",
+        &words_of_value(&rt, object).as_str(),
+        &"[1 uid:2 end",
+    );
 }
 
 // Returns an archive of arrays, each of which refers to the next one this often. The last array
@@ -129,21 +134,26 @@ fn count_texts(rt: &(impl Abort + AllocGlobal), value: &Value) -> u64 {
 fn a_tree_larger_than_its_archive(rt: HostRuntime) {
     let root = chain_of(&rt, 12, 2, 12);
     let tree = must(&rt, tree_of(&rt, &root, 0));
-    assert_eq!(rt; count_texts(&rt, &tree), 4096);
+    same(
+        &rt,
+        "the number of strings",
+        &count_texts(&rt, &tree),
+        &4096,
+    );
 }
 
 #[test]
 fn a_deep_chain(rt: HostRuntime) {
     let root = chain_of(&rt, 1_000, 1, 1_000);
     let tree = must(&rt, tree_of(&rt, &root, 0));
-    assert_eq!(rt; count_texts(&rt, &tree), 1);
+    same(&rt, "the number of strings", &count_texts(&rt, &tree), &1);
 }
 
 #[test]
 fn a_cycle_of_many_objects(rt: HostRuntime) {
     let root = chain_of(&rt, 100_000, 1, 0);
     let answer = words_of_answer(&rt, tree_of(&rt, &root, 7));
-    assert_eq!(rt; answer.as_str(), "RecursiveUid(7)");
+    same(&rt, "the error", &answer.as_str(), &"RecursiveUid(7)");
 }
 
 // If each visit took a step for each Uid of the chain, this would take 3.6 billion steps, and the
@@ -152,7 +162,12 @@ fn a_cycle_of_many_objects(rt: HostRuntime) {
 fn a_long_chain_visited_often(rt: HostRuntime) {
     let root = visited_chain(&rt, 60_000, 60_000, 60_002);
     let tree = must(&rt, tree_of(&rt, &root, 0));
-    assert_eq!(rt; count_texts(&rt, &tree), 60_000);
+    same(
+        &rt,
+        "the number of strings",
+        &count_texts(&rt, &tree),
+        &60_000,
+    );
 }
 
 // The last Uid names one in the middle of the chain. The error names the first Uid that is reached
@@ -161,9 +176,19 @@ fn a_long_chain_visited_often(rt: HostRuntime) {
 fn a_long_chain_that_ends_in_a_circle(rt: HostRuntime) {
     let root = visited_chain(&rt, 20_000, 20_000, 10_000);
     let answer = words_of_answer(&rt, tree_of(&rt, &root, 0));
-    assert_eq!(rt; answer.as_str(), "RecursiveUid(10000)");
+    same(
+        &rt,
+        "the error from the array",
+        &answer.as_str(),
+        &"RecursiveUid(10000)",
+    );
     let answer = words_of_answer(&rt, tree_of(&rt, &root, 15_000));
-    assert_eq!(rt; answer.as_str(), "RecursiveUid(15000)");
+    same(
+        &rt,
+        "the error from the chain",
+        &answer.as_str(),
+        &"RecursiveUid(15000)",
+    );
 }
 
 // The array is open while the chain leads back to it.
@@ -171,9 +196,19 @@ fn a_long_chain_that_ends_in_a_circle(rt: HostRuntime) {
 fn a_long_chain_back_to_its_array(rt: HostRuntime) {
     let root = visited_chain(&rt, 2, 20_000, 0);
     let answer = words_of_answer(&rt, tree_of(&rt, &root, 0));
-    assert_eq!(rt; answer.as_str(), "RecursiveUid(0)");
+    same(
+        &rt,
+        "the error from the array",
+        &answer.as_str(),
+        &"RecursiveUid(0)",
+    );
     let answer = words_of_answer(&rt, tree_of(&rt, &root, 9_000));
-    assert_eq!(rt; answer.as_str(), "RecursiveUid(9000)");
+    same(
+        &rt,
+        "the error from the chain",
+        &answer.as_str(),
+        &"RecursiveUid(9000)",
+    );
 }
 
 // The tree before the fault has 2^60 leaves.
@@ -181,5 +216,10 @@ fn a_long_chain_back_to_its_array(rt: HostRuntime) {
 fn a_fault_after_a_large_tree(rt: HostRuntime) {
     let root = chain_of(&rt, 60, 2, 60);
     let answer = words_of_answer(&rt, tree_of(&rt, &root, 61));
-    assert_eq!(rt; answer.as_str(), "UidOutOfRange(1000000)");
+    same(
+        &rt,
+        "the error",
+        &answer.as_str(),
+        &"UidOutOfRange(1000000)",
+    );
 }

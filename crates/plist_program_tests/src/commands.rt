@@ -1,7 +1,9 @@
 //! What each list of arguments does: the status, what is printed, and what is reported on standard
 //! error.
 
-use crate::support::{RECURSIVE, expect_fault, expect_given, expect_run, failing, must, put, run};
+use crate::support::{
+    RECURSIVE, expect_fault, expect_given, expect_run, failing, must, put, run, same,
+};
 use plist_commands::{Failure, Message, Messages};
 use plist_support::{expect_io, front};
 use std::env::Env;
@@ -62,10 +64,10 @@ fn expect_status(
     for kind in [ErrorKind::PermissionDenied, ErrorKind::Interrupted] {
         let mut out = Vec::new(rt.alloc());
         let mut err = failing(rt, 4, kind);
-        assert_eq!(rt; run(rt, line, &mut out, &mut err), status, "at {line}");
-        assert_eq!(rt; err.longest, said.len(), "at {line}");
-        assert_eq!(rt; err.bytes.as_slice(), front(said, 4), "at {line}");
-        assert_eq!(rt; err.calls, 5, "at {line}");
+        same(rt, line, &run(rt, line, &mut out, &mut err), &status);
+        same(rt, line, &err.longest, &said.len());
+        same(rt, line, &err.bytes.as_slice(), &front(said, 4));
+        same(rt, line, &err.calls, &5);
     }
 }
 
@@ -118,7 +120,22 @@ fn a_failing_output(rt: HostRuntime) {
     put(&rt, "failing_output", RECURSIVE);
     let mut out = failing(&rt, 5, ErrorKind::PermissionDenied);
     let mut err = Vec::new(rt.alloc());
-    assert_eq!(rt; run(&rt, "print @failing_output", &mut out, &mut err), 1);
-    assert_eq!(rt; out.bytes.as_slice(), b"Start".as_slice());
-    assert_eq!(rt; err.as_slice(), b"Error: Io\n".as_slice());
+    same(
+        &rt,
+        "the status",
+        &run(&rt, "print @failing_output", &mut out, &mut err),
+        &1,
+    );
+    same(
+        &rt,
+        "what is printed",
+        &out.bytes.as_slice(),
+        &b"Start".as_slice(),
+    );
+    same(
+        &rt,
+        "what is reported",
+        &err.as_slice(),
+        &b"Error: Io\n".as_slice(),
+    );
 }

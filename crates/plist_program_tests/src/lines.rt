@@ -1,6 +1,6 @@
 //! The lines that are printed for the events of values.
 
-use crate::support::{must, sound};
+use crate::support::{must, same, sound};
 use plist::{Date, Integer, RealBits, Uid, Value};
 use plist_commands::print_value;
 use std::process::Abort;
@@ -10,7 +10,7 @@ fn expect_lines(rt: &(impl Abort + AllocGlobal), value: Value, lines: &[u8]) {
     let mut out = must(rt, Vec::from_slice(rt.alloc(), b"before\n"));
     must(rt, print_value(rt.alloc(), &value, &mut out));
     assert!(rt; out.starts_with(b"before\n"));
-    assert_eq!(rt; &out.as_slice()[7..], lines);
+    same(rt, "the lines", &&out.as_slice()[7..], &lines);
 }
 
 #[test]
@@ -119,7 +119,7 @@ fn repeated(rt: &(impl Abort + AllocGlobal), front: &[u8], bytes: &[u8], end: &[
 fn expect_parts(rt: &(impl Abort + AllocGlobal), value: Value, line: &[u8]) {
     let mut out = sound(rt);
     must(rt, print_value(rt.alloc(), &value, &mut out));
-    assert_eq!(rt; out.bytes.as_slice(), line);
+    same(rt, "the line", &out.bytes.as_slice(), &line);
     assert!(rt; out.longest <= 65_536);
 }
 

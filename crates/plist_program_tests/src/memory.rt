@@ -1,6 +1,6 @@
 //! Calls that allocate memory, each while memory is available.
 
-use crate::support::must;
+use crate::support::{must, same};
 use plist::stream::{AsciiReader, BinaryReader, BinaryWriter, Event, OwnedEvent, Reader, Writer};
 use plist::{Builder, Data, Date, Dictionary, Error, ErrorKind, Limits, Uid, Value, write_value};
 use plist_commands::{convert_binary, print_events, print_value, program_arguments};
@@ -28,11 +28,18 @@ fn ran_out<T: Drop>(answer: Result<T, Error>) -> bool {
 }
 
 // Returns whether memory ran out for the first item of a reader.
-fn ran_out_at_first(item: Option<Result<OwnedEvent, Error>>) -> bool {
-    match item {
+fn ran_out_at_first<I: Iterator<Item = Result<OwnedEvent, Error>> + Drop>(mut reader: I) -> bool
+    requires asked { I.can_next reader }
+{
+    match reader.next() {
         Some(answer) => ran_out(answer),
         None => false,
     }
+}
+
+// Returns whether memory ran out for the first event of a writer.
+fn ran_out_writing<W: Writer + Drop>(mut writer: W, event: Event<'_>) -> bool {
+    ran_out(writer.write(event))
 }
 
 // The calls for which memory ran out.
@@ -53,16 +60,16 @@ impl Calls {
 
     fn add_readers(&mut self, rt: &impl Abort) {
         let alloc = self.alloc;
-        let item = BinaryReader::new(alloc, BINARY).next();
-        self.add(rt, "BinaryReader", ran_out_at_first(item));
-        let item = BinaryReader::with_limits(alloc, BINARY, LIMITS).next();
-        self.add(rt, "limited-BinaryReader", ran_out_at_first(item));
-        let item = AsciiReader::new(alloc, ASCII).next();
-        self.add(rt, "AsciiReader", ran_out_at_first(item));
-        let item = Reader::new(alloc, BINARY).next();
-        self.add(rt, "Reader", ran_out_at_first(item));
-        let item = Reader::new(alloc, ASCII).next();
-        self.add(rt, "Reader-of-ASCII", ran_out_at_first(item));
+        let has_run_out = ran_out_at_first(BinaryReader::new(alloc, BINARY));
+        self.add(rt, "BinaryReader", has_run_out);
+        let has_run_out = ran_out_at_first(BinaryReader::with_limits(alloc, BINARY, LIMITS));
+        self.add(rt, "limited-BinaryReader", has_run_out);
+        let has_run_out = ran_out_at_first(AsciiReader::new(alloc, ASCII));
+        self.add(rt, "AsciiReader", has_run_out);
+        let has_run_out = ran_out_at_first(Reader::new(alloc, BINARY));
+        self.add(rt, "Reader", has_run_out);
+        let has_run_out = ran_out_at_first(Reader::new(alloc, ASCII));
+        self.add(rt, "Reader-of-ASCII", has_run_out);
     }
 
     fn add_read_values(&mut self, rt: &impl Abort) {
@@ -95,37 +102,25 @@ impl Calls {
     }
 
     fn add_writers(&mut self, rt: &impl Abort) {
+        let alloc = self.alloc;
+        let has_run_out = ran_out_writing(Builder::new(alloc), Event::StartArray(None));
+        self.add(rt, "Builder", has_run_out);
+        let writer = BinaryWriter::new(alloc, Vec::new(alloc));
+        let has_run_out = ran_out_writing(writer, Event::Boolean(true));
+        self.add(rt, "BinaryWriter", has_run_out);
+        let writer = SharingWriter::new(alloc, Vec::new(alloc));
+        let has_run_out = ran_out_writing(writer, Event::Boolean(true));
+        self.add(rt, "SharingWriter", has_run_out);
+    }
+
+    fn add_written_values(&mut self, rt: &impl Abort) {
         let (alloc, value) = (self.alloc, Value::Array(Vec::new(self.alloc)));
         let mut out = Vec::new(alloc);
-        self.add(
-            rt,
-            "to_writer_binary",
-            ran_out(value.to_writer_binary(alloc, &mut out)),
-        );
+        let has_run_out = ran_out(value.to_writer_binary(alloc, &mut out));
+        self.add(rt, "to_writer_binary", has_run_out);
         let mut builder = Builder::new(alloc);
-        self.add(
-            rt,
-            "Builder",
-            ran_out(builder.write(Event::StartArray(None))),
-        );
-        let mut builder = Builder::new(alloc);
-        self.add(
-            rt,
-            "write_value",
-            ran_out(write_value(alloc, &value, &mut builder)),
-        );
-        let mut writer = BinaryWriter::new(alloc, Vec::new(alloc));
-        self.add(
-            rt,
-            "BinaryWriter",
-            ran_out(writer.write(Event::Boolean(true))),
-        );
-        let mut writer = SharingWriter::new(alloc, Vec::new(alloc));
-        self.add(
-            rt,
-            "SharingWriter",
-            ran_out(writer.write(Event::Boolean(true))),
-        );
+        let has_run_out = ran_out(write_value(alloc, &value, &mut builder));
+        self.add(rt, "write_value", has_run_out);
     }
 
     fn add_dictionaries(&mut self, rt: &impl Abort) {
@@ -207,11 +202,12 @@ fn always_out_of_memory(rt: HostRuntime) {
     calls.add_readers(&rt);
     calls.add_read_values(&rt);
     calls.add_writers(&rt);
+    calls.add_written_values(&rt);
     calls.add_dictionaries(&rt);
     calls.add_texts(&rt);
     calls.add_commands(&rt);
     if calls.names.is_empty() {
         calls.add_archive(&rt);
     }
-    assert_eq!(rt; calls.names.as_str(), "");
+    same(&rt, "the calls", &calls.names.as_str(), &"");
 }

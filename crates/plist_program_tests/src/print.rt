@@ -1,6 +1,6 @@
 //! What `print_events` writes, and what it returns.
 
-use crate::support::{broken_file, expect_taken, failing, must, sound};
+use crate::support::{broken_file, expect_taken, failing, must, same, sound};
 use plist_commands::print_events;
 use plist_support::{Device, DeviceFault, expect_io, front};
 use std::io::ErrorKind;
@@ -68,7 +68,7 @@ fn a_fault_comes_before_a_failed_flush(rt: HostRuntime) {
     let text = b"not a property list at all, but some text".as_slice();
     let answer = print_events(rt.alloc(), text, &mut writer);
     assert!(rt; answer.is_err_and(|error| !error.is_io()));
-    assert_eq!(rt; writer.failures, 1);
+    same(&rt, "failures", &writer.failures, &1);
     expect_taken(&rt, &writer, b"", 1, 0);
 }
 
@@ -92,19 +92,29 @@ fn a_later_read_that_fails(rt: HostRuntime) {
         let device = Device::with_fault(bytes, call, DeviceFault::Fails(ErrorKind::TimedOut));
         let mut out = Vec::new(rt.alloc());
         if print_events(rt.alloc(), device, &mut out).is_ok() {
-            assert_eq!(rt; out.as_slice(), LINES);
+            same(&rt, "all lines", &out.as_slice(), &LINES);
             break;
         }
-        assert_eq!(rt; out.as_slice(), front(LINES, out.len()));
+        same(
+            &rt,
+            "the first lines",
+            &out.as_slice(),
+            &front(LINES, out.len()),
+        );
         sent = out.len();
     }
-    assert_eq!(rt; sent, b"StartArray 2\nString \"a\"\n".len());
+    same(
+        &rt,
+        "the bytes sent",
+        &sent,
+        &b"StartArray 2\nString \"a\"\n".len(),
+    );
 }
 
 fn expect_lines(rt: &(impl Abort + AllocGlobal), file: &[u8], lines: &[u8]) {
     let mut out = Vec::new(rt.alloc());
     must(rt, print_events(rt.alloc(), file, &mut out));
-    assert_eq!(rt; out.as_slice(), lines);
+    same(rt, "the lines", &out.as_slice(), &lines);
 }
 
 // Keys and values alternate; the value of the first key is an array.

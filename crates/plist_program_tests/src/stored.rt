@@ -2,7 +2,7 @@
 //! list is written to it.
 
 use crate::support::{
-    FailingCall, Stage, Watched, expect_holds, expect_missing, must, path_of, put, remove,
+    FailingCall, Stage, Watched, expect_holds, expect_missing, must, path_of, put, remove, same,
 };
 use plist::{LazyFile, Value};
 use plist_base::{Error, Limits};
@@ -70,7 +70,7 @@ fn expect_stored(rt: &(impl Abort + AllocGlobal + Env + Files), from: Origin<'_>
     for (is_regular, failure) in [(true, None), (false, None), (false, failed_sync)] {
         let (answer, stage) = write_to(rt, from, is_regular, failure);
         must(rt, answer);
-        assert_eq!(rt; stage, Stage::Stored);
+        same(rt, "the stage", &stage, &Stage::Stored);
         expect_holds(rt, "stored", wanted);
     }
 }
@@ -96,7 +96,7 @@ fn expect_failures(rt: &(impl Abort + AllocGlobal + Env + Files), from: Origin<'
         });
         let (answer, stage) = write_to(rt, from, true, failure);
         must(rt, expect_io(answer, kind, None));
-        assert_eq!(rt; stage, failing);
+        same(rt, "the stage", &stage, &failing);
     }
 }
 
@@ -165,7 +165,7 @@ impl<'a> Unread<'a> {
             self.expect(rt, error_of(watched.perform(alloc, command, &mut out)));
             assert!(rt; out.is_empty());
         }
-        assert_eq!(rt; watched.opened.get(), 6);
+        same(rt, "the files that were opened", &watched.opened.get(), &6);
     }
 }
 
@@ -211,10 +211,10 @@ fn an_output_makes_its_file_once(rt: HostRuntime) {
     let path = path_of(&rt, "output");
     let mut output = LazyFile::new(&watched, path.as_str());
     must(&rt, output.flush());
-    assert_eq!(rt; opened.get(), 0);
+    same(&rt, "no file is opened", &opened.get(), &0);
     assert!(rt; output.write(b"a").is_err());
     assert!(rt; output.write(b"a").is_err());
-    assert_eq!(rt; opened.get(), 1);
+    same(&rt, "one file is opened", &opened.get(), &1);
 }
 
 // A blank at the end of a name is a part of it.
@@ -238,7 +238,12 @@ fn a_name_may_end_in_a_blank(rt: HostRuntime) {
     expect_holds(&rt, "blank ", TRUTH);
     let mut out = Vec::new(rt.alloc());
     must(&rt, rt.perform(rt.alloc(), Command::Print(path), &mut out));
-    assert_eq!(rt; out.as_slice(), b"Boolean true\n".as_slice());
+    same(
+        &rt,
+        "what is printed",
+        &out.as_slice(),
+        &b"Boolean true\n".as_slice(),
+    );
     let answer = rt.perform(rt.alloc(), Command::Keyed(path, "root"), &mut out);
     assert!(rt; matches!(answer, Err(Failure::Keyed(_))));
     expect_missing(&rt, "blank");

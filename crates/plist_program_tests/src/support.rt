@@ -3,6 +3,7 @@
 mod devices;
 mod files;
 mod runs;
+mod same;
 mod watched;
 
 pub(crate) use devices::{Stuck, broken_file, expect_taken, failing, sound};
@@ -10,6 +11,7 @@ pub(crate) use files::{RECURSIVE, expect_holds, expect_missing, path_of, put, re
 use plist::{Builder, Value};
 use plist_support::{words_of_events, write_all};
 pub(crate) use runs::{expect_done, expect_fault, expect_given, expect_run, run};
+pub(crate) use same::same;
 use std::fmt::Debug;
 use std::process::Abort;
 pub(crate) use watched::{FailingCall, Stage, Watched};

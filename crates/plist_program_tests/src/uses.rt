@@ -1,6 +1,6 @@
 //! The examples to copy, run once each.
 
-use crate::support::{must, value_of, words_of_value};
+use crate::support::{must, same, value_of, words_of_value};
 use plist::Builder;
 use plist_support::bytes_of;
 use plist_uses::archive::root_of;
@@ -21,7 +21,7 @@ fn settings_of(rt: &(impl Abort + AllocGlobal), file: &[u8]) -> Settings {
 fn expect_setting(rt: &(impl Abort + AllocGlobal), file: &[u8], name: &str, wanted: &str) {
     let settings = settings_of(rt, file);
     match settings.get(name) {
-        Some(setting) => assert_eq!(rt; words_of_value(rt, setting).as_str(), wanted),
+        Some(setting) => same(rt, name, &words_of_value(rt, setting).as_str(), &wanted),
         None => panic!(rt; "{name} isn't set"),
     }
 }
@@ -72,13 +72,17 @@ fn converts_a_text(rt: HostRuntime) {
     let text: &[u8] = b"{ name = James, age = 42 }";
     let mut file = Vec::new(rt.alloc());
     let value = must(&rt, convert(rt.alloc(), text, &mut file));
-    assert_eq!(&rt;
-        words_of_value(&rt, &value).as_str(),
-        "{2 'name' 'James' 'age' 42 end"
+    same(
+        &rt,
+        "the value",
+        &words_of_value(&rt, &value).as_str(),
+        &"{2 'name' 'James' 'age' 42 end",
     );
-    assert_eq!(&rt;
-        file.as_slice(),
-        must(&rt, bytes_of(rt.alloc(), JAMES)).as_slice()
+    same(
+        &rt,
+        "the file",
+        &file.as_slice(),
+        &must(&rt, bytes_of(rt.alloc(), JAMES)).as_slice(),
     );
 }
 
@@ -86,10 +90,10 @@ fn converts_a_text(rt: HostRuntime) {
 fn counts_what_a_file_holds(rt: HostRuntime) {
     let text: &[u8] = b"{ a = (1, b, ()); c = 2; }";
     let counts = must(&rt, count(rt.alloc(), text));
-    assert_eq!(&rt; counts.arrays, 2);
-    assert_eq!(&rt; counts.dictionaries, 1);
-    assert_eq!(&rt; counts.texts, 3);
-    assert_eq!(&rt; counts.others, 2);
+    same(&rt, "arrays", &counts.arrays, &2);
+    same(&rt, "dictionaries", &counts.dictionaries, &1);
+    same(&rt, "strings", &counts.texts, &3);
+    same(&rt, "others", &counts.others, &2);
     let unclosed: &[u8] = b"(\"a";
     assert!(&rt; count(rt.alloc(), unclosed).is_err());
 }
@@ -109,9 +113,11 @@ fn readings_are_written_from_events(rt: HostRuntime) {
     let mut builder = Builder::new(rt.alloc());
     must(&rt, write_readings(&readings, &mut builder));
     let value = must(&rt, builder.finish());
-    assert_eq!(&rt;
-        words_of_value(&rt, &value).as_str(),
-        "[2 {2 'second' 0 'level' 5 end {2 'second' 60 'level' 5 end end"
+    same(
+        &rt,
+        "the value",
+        &words_of_value(&rt, &value).as_str(),
+        &"[2 {2 'second' 0 'level' 5 end {2 'second' 60 'level' 5 end end",
     );
 }
 
@@ -136,7 +142,7 @@ fn an_untrusted_file_nests_64_collections(rt: HostRuntime) {
         Ok(_) => panic!(&rt; "one collection too many is open"),
         Err(error) => {
             let text = must(&rt, error.to_string(rt.alloc()));
-            assert_eq!(&rt; text.as_str(), "LimitReached(Depth)");
+            same(&rt, "the error", &text.as_str(), &"LimitReached(Depth)");
         }
     }
 }
@@ -148,7 +154,12 @@ fn the_root_of_an_archive(rt: HostRuntime) {
         "{ '$objects' [ '$null' { 'name' uid:2 end 'x' end '$top' { 'root' uid:1 end end",
     );
     match must(&rt, root_of(rt.alloc(), &archive)) {
-        Some(root) => assert_eq!(&rt; words_of_value(&rt, &root).as_str(), "{1 'name' 'x' end"),
+        Some(root) => same(
+            &rt,
+            "the root",
+            &words_of_value(&rt, &root).as_str(),
+            &"{1 'name' 'x' end",
+        ),
         None => panic!(&rt; "it has a root"),
     }
     let rootless = value_of(&rt, "{ '$objects' [ '$null' end '$top' { end end");

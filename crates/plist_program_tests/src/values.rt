@@ -1,6 +1,6 @@
 //! What `print_value` writes to devices, and what it returns.
 
-use crate::support::{Stuck, expect_taken, failing, must, sound};
+use crate::support::{Stuck, expect_taken, failing, must, same, sound};
 use plist::Value;
 use plist_commands::print_value;
 use plist_support::expect_io;
@@ -28,7 +28,7 @@ fn stops_where_the_writer_fails(rt: HostRuntime) {
     let answer = print_value(rt.alloc(), &Value::Boolean(true), &mut writer);
     must(&rt, expect_io(answer, ErrorKind::PermissionDenied, None));
     expect_taken(&rt, &writer.device, b"Boolean", 8, 0);
-    assert_eq!(rt; writer.flushes, 1);
+    same(&rt, "flushes", &writer.flushes, &1);
 }
 
 #[test]

@@ -1,6 +1,6 @@
 //! Devices that accept one byte per call and can fail, and a file that can't be read.
 
-use crate::support::must;
+use crate::support::{must, same};
 use plist_base::Seeking;
 use plist_support::{Device, DeviceFault, Disk, device_error};
 use std::io;
@@ -26,9 +26,9 @@ pub(crate) fn expect_taken(
     calls: u64,
     flushed: usize,
 ) {
-    assert_eq!(rt; device.bytes.as_slice(), bytes);
-    assert_eq!(rt; device.calls, calls);
-    assert_eq!(rt; device.flushed, flushed);
+    same(rt, "the bytes", &device.bytes.as_slice(), &bytes);
+    same(rt, "the calls", &device.calls, &calls);
+    same(rt, "the bytes before the flush", &device.flushed, &flushed);
 }
 
 // Makes a file of 64 bytes that fails at this call, counted from 0.

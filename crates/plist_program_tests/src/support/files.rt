@@ -1,6 +1,6 @@
 //! Files in the folder for temporary files, whose names there begin with `plist_tool_`.
 
-use crate::support::must;
+use crate::support::{must, same};
 use std::env::Env;
 use std::process::Abort;
 use std::rt::Files;
@@ -35,11 +35,11 @@ pub(crate) fn expect_holds(
     wanted: &[u8],
 ) {
     let bytes = must(rt, fs::read(rt, path_of(rt, name).as_str()));
-    assert_eq!(rt; bytes.as_slice(), wanted, "in {name}");
+    same(rt, name, &bytes.as_slice(), &wanted);
 }
 
 // Checks that the file isn't there.
 pub(crate) fn expect_missing(rt: &(impl Abort + AllocGlobal + Env + Files), name: &str) {
     let is_there = must(rt, fs::exists(rt, path_of(rt, name).as_str()));
-    assert!(rt; !is_there, "{name} is there");
+    same(rt, name, &is_there, &false);
 }

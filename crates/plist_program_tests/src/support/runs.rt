@@ -1,7 +1,7 @@
 //! Runs of commands.
 
 use crate::support::files::path_of;
-use crate::support::must;
+use crate::support::{must, same};
 use plist_commands::{Messages, program_arguments, run_words};
 use std::env::{Env, FillError};
 use std::io::Write;
@@ -71,9 +71,9 @@ pub(crate) fn expect_given(
     let mut out = Vec::new(rt.alloc());
     let mut err = Vec::new(rt.alloc());
     let found = run_words(rt, rt.alloc(), given.as_slice(), &mut out, &mut err);
-    assert_eq!(rt; err.as_slice(), said);
-    assert_eq!(rt; out.len(), 0);
-    assert_eq!(rt; found, status);
+    same(rt, "what is reported", &err.as_slice(), &said);
+    same(rt, "what is printed", &out.len(), &0);
+    same(rt, "the status", &found, &status);
 }
 
 // Checks that a run of these words prints this, reports that on standard error, and ends with this
@@ -88,9 +88,9 @@ pub(crate) fn expect_run(
     let mut out = Vec::new(rt.alloc());
     let mut err = Vec::new(rt.alloc());
     let found = run(rt, line, &mut out, &mut err);
-    assert_eq!(rt; err.as_slice(), said, "at {line}");
-    assert_eq!(rt; out.as_slice(), printed, "at {line}");
-    assert_eq!(rt; found, status, "at {line}");
+    same(rt, line, &err.as_slice(), &said);
+    same(rt, line, &out.as_slice(), &printed);
+    same(rt, line, &found, &status);
 }
 
 // Checks that a run prints this, and succeeds.
