@@ -1,6 +1,6 @@
 //! How `AsciiReader` ends, and how many items are read for a value.
 
-use crate::support::{expect_value, must};
+use crate::support::{expect_value, must, same, some};
 use plist::Value;
 use plist_ascii::AsciiReader;
 use plist_base::{Error, OwnedEvent};
@@ -44,10 +44,7 @@ fn expect_end(rt: &impl Abort, reader: &mut AsciiReader<Device>) {
 
 // Returns the next item, which must be there.
 fn next_of(rt: &impl Abort, reader: &mut AsciiReader<Device>) -> Result<OwnedEvent, Error> {
-    match reader.next() {
-        Some(item) => item,
-        None => panic!(rt; "no item"),
-    }
+    some(rt, "the item", reader.next())
 }
 
 // Checks that a device's error is passed on, and that nothing is read after it, although further
@@ -59,7 +56,7 @@ fn expect_handed_on(rt: &(impl Abort + AllocGlobal), kind: ErrorKind) {
     must(rt, expect_io(next_of(rt, &mut reader), kind, Some(1)));
     expect_end(rt, &mut reader);
     let device = reader.into_inner();
-    assert_eq!(rt; device.calls, 2);
+    same(rt, "device.calls", &device.calls, &2);
 }
 
 #[test]
@@ -78,8 +75,8 @@ fn ends_at_the_end(rt: HostRuntime) {
     must(&rt, next_of(&rt, &mut reader));
     expect_end(&rt, &mut reader);
     let device = reader.into_inner();
-    assert_eq!(rt; device.calls, 3);
-    assert_eq!(rt; device.moved, 2);
+    same(&rt, "device.calls", &device.calls, &3);
+    same(&rt, "device.moved", &device.moved, &2);
 }
 
 // Checks the value of a text's items, and the number of calls of the device.
@@ -87,7 +84,7 @@ fn expect_asked(rt: &(impl Abort + AllocGlobal), text: &str, wanted: &str, calls
     let mut device = device_of(rt, text, u64::MAX, DeviceFault::MovesNothing);
     let reader = AsciiReader::new(rt.alloc(), &mut device);
     expect_value(rt, Value::from_events(rt.alloc(), reader), wanted);
-    assert_eq!(rt; device.calls, calls);
+    same(rt, "device.calls", &device.calls, &calls);
 }
 
 // No item is read after one that is rejected, and the reader is called only once after the last

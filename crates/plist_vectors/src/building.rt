@@ -1,6 +1,6 @@
 //! Values built from events, and the events of values.
 
-use crate::support::{expect_answers, expect_value, must, text_of, words_of_value};
+use crate::support::{expect_answers, expect_value, must, same, text_of, words_of_value};
 use plist::{Builder, Dictionary, Value, write_value};
 use plist_base::{Date, Event, Integer, RealBits, Uid, Writer};
 use std::borrow::{CowSlice, CowStr};
@@ -81,7 +81,7 @@ fn expect_handed(
     answer: &str,
 ) {
     let found = text_of(rt, write_value(rt.alloc(), value, builder));
-    assert_eq!(rt; found.as_str(), answer);
+    same(rt, "what write_value returns", &found.as_str(), &answer);
 }
 
 #[test]
@@ -113,8 +113,13 @@ fn count_borrowed(rt: &(impl Abort + AllocGlobal), value: &Value) -> u64 {
 
 // Checks the value's events, of which this many borrow.
 fn expect_borrowed(rt: &(impl Abort + AllocGlobal), value: &Value, words: &str, borrowed: u64) {
-    assert_eq!(rt; words_of_value(rt, value).as_str(), words);
-    assert_eq!(rt; count_borrowed(rt, value), borrowed);
+    same(rt, "the words", &words_of_value(rt, value).as_str(), &words);
+    same(
+        rt,
+        "the number that borrow",
+        &count_borrowed(rt, value),
+        &borrowed,
+    );
 }
 
 #[test]

@@ -2,7 +2,7 @@
 
 ghost use Rattle.std.specs.Prelude.{◌<◌, ◌≤◌, None, length};
 
-use crate::support::{must, value_of};
+use crate::support::{must, that, value_of};
 use plist::Value;
 use plist_base::Source;
 use plist_binread::BinaryReader;
@@ -80,11 +80,26 @@ fn expect_end(rt: &(impl Abort + AllocGlobal), cut: &Cut, found: &str, items: &s
         format!(in rt.alloc(); "UnexpectedEof (offset {})", cut.place),
     );
     match found.strip_suffix(fault.as_str()) {
-        Some(before) => assert!(rt; items.starts_with(before.trim_end()), "at {}", cut.end),
+        Some(before) => that(
+            rt,
+            "a prefix before the cut at",
+            cut.end as u64,
+            items.starts_with(before.trim_end()),
+        ),
         None => panic!(rt; "cut at {}: {found} instead of {fault}", cut.end),
     }
-    assert!(rt; cut.place >= cut.end as u64, "at {}", cut.end);
-    assert!(rt; cut.place < cut.resumes as u64, "at {}", cut.end);
+    that(
+        rt,
+        "the last read follows the cut at",
+        cut.end as u64,
+        cut.place >= cut.end as u64,
+    );
+    that(
+        rt,
+        "the last read is of a missing byte, cut at",
+        cut.end as u64,
+        cut.place < cut.resumes as u64,
+    );
 }
 
 // Checks the items that the reader of binary files yields for a file that is cut.

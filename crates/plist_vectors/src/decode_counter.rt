@@ -3,7 +3,7 @@
 
 ghost use Rattle.std.specs.Prelude.{◌≡◌, ◌<◌};
 
-use crate::support::must;
+use crate::support::{must, same};
 use plist_binread::{BinaryReader, CountedDecodings};
 use plist_support::file;
 use std::alloc::Global;
@@ -30,8 +30,10 @@ fn all_items_come_while_a_ledger_counts(rt: HostRuntime) {
         file(rt.alloc(), "a30101 02 5161 09 080c0e", [1, 1], [3, 0, 15]),
     );
     let blank = Blank::new(1);
-    assert_eq!(rt;
-        items_counted::<Brand>(rt.alloc(), bytes.as_slice(), blank),
-        5
+    same(
+        &rt,
+        "the number of items",
+        &items_counted::<Brand>(rt.alloc(), bytes.as_slice(), blank),
+        &5,
     );
 }

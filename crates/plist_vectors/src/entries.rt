@@ -1,6 +1,6 @@
 //! Values and dictionaries: their contents, copies, entries, and calls that visit all pairs.
 
-use crate::support::{expect_value, must, value_of};
+use crate::support::{expect_value, must, same, some, value_of};
 use plist::dictionary::Entry;
 use plist::{Dictionary, Value};
 use plist_base::{Date, Integer, RealBits, Uid};
@@ -13,10 +13,7 @@ fn text(rt: &(impl Abort + AllocGlobal), text: &str) -> String {
 
 // Returns the dictionary of these events.
 fn dictionary_of(rt: &(impl Abort + AllocGlobal), words: &str) -> Dictionary {
-    match value_of(rt, words).into_dictionary() {
-        Some(pairs) => pairs,
-        None => panic!(rt; "{words} is no dictionary"),
-    }
+    some(rt, words, value_of(rt, words).into_dictionary())
 }
 
 fn expect_dictionary(rt: &(impl Abort + AllocGlobal), pairs: Dictionary, wanted: &str) {
@@ -27,13 +24,9 @@ fn expect_dictionary(rt: &(impl Abort + AllocGlobal), pairs: Dictionary, wanted:
 fn pairs_of(rt: &(impl Abort + AllocGlobal), words: &str) -> Vec<(String, Value)> {
     let mut pairs = Vec::new(rt.alloc());
     for word in words.split(' ') {
-        match word.split_once('=') {
-            None => panic!(rt; "{word} is no pair"),
-            Some((key, number)) => {
-                let number = must(rt, number.parse::<Integer>());
-                must(rt, pairs.push((text(rt, key), Value::Integer(number))));
-            }
-        }
+        let (key, number) = some(rt, word, word.split_once('='));
+        let number = must(rt, number.parse::<Integer>());
+        must(rt, pairs.push((text(rt, key), Value::Integer(number))));
     }
     pairs
 }
@@ -75,7 +68,7 @@ fn pairs_are_inserted_in_order(rt: HostRuntime) {
 
 // Checks the string of a key, which must be there.
 fn expect_text(rt: &impl Abort, pairs: &Dictionary, key: &str, wanted: &str) {
-    assert_eq!(rt; at(rt, pairs, key).as_string(), Some(wanted));
+    same(rt, key, &at(rt, pairs, key).as_string(), &Some(wanted));
 }
 
 // Makes a key with a string.
@@ -93,7 +86,7 @@ fn from_pairs_gives_each_text(rt: HostRuntime) {
     expect_text(&rt, &dogs, "Doge", "Shiba Inu");
     expect_text(&rt, &dogs, "Cheems", "Shiba Inu");
     expect_text(&rt, &dogs, "Walter", "Bull Terrier");
-    assert_eq!(rt; dogs.len(), 3);
+    same(&rt, "dogs.len()", &dogs.len(), &3);
 }
 
 #[test]
@@ -137,7 +130,7 @@ fn an_entry_is_removed(rt: HostRuntime) {
     match pairs.entry(text(&rt, "a")) {
         Entry::Vacant(_entry) => panic!(rt; "the key is there"),
         Entry::Occupied(entry) => {
-            assert_eq!(rt; entry.key().as_str(), "a");
+            same(&rt, "the key", &entry.key().as_str(), &"a");
             assert!(rt; entry.remove() == number(1));
         }
     }
@@ -165,7 +158,7 @@ fn a_vacant_entry_is_filled(rt: HostRuntime) {
     match pairs.entry(text(&rt, "d")) {
         Entry::Occupied(_entry) => panic!(rt; "the key isn't there"),
         Entry::Vacant(entry) => {
-            assert_eq!(rt; entry.key().as_str(), "d");
+            same(&rt, "the key", &entry.key().as_str(), &"d");
             match entry.insert(number(2)) {
                 Err(_back) => panic!(rt; "there is memory"),
                 Ok(value) => assert!(rt; *value == number(2)),
@@ -177,16 +170,19 @@ fn a_vacant_entry_is_filled(rt: HostRuntime) {
 
 // Checks the value of the key after `or_insert` of 2.
 fn expect_or_insert(rt: &(impl Abort + AllocGlobal), pairs: &mut Dictionary, key: &str, has: u8) {
-    match pairs.entry(text(rt, key)).or_insert(number(2)) {
-        Err(_back) => panic!(rt; "there is memory"),
-        Ok(value) => assert!(rt; *value == number(has)),
-    }
+    let value = must(rt, pairs.entry(text(rt, key)).or_insert(number(2)));
+    assert!(rt; *value == number(has));
 }
 
 #[test]
 fn or_insert_adds(rt: HostRuntime) {
     let mut pairs = dictionary_of(&rt, "{ 'a' 1 end");
-    assert_eq!(rt; pairs.entry(text(&rt, "d")).key().as_str(), "d");
+    same(
+        &rt,
+        "the key",
+        &pairs.entry(text(&rt, "d")).key().as_str(),
+        &"d",
+    );
     expect_or_insert(&rt, &mut pairs, "d", 2);
     expect_or_insert(&rt, &mut pairs, "a", 1);
     expect_dictionary(&rt, pairs, "{2 'a' 1 'd' 2 end");
@@ -199,10 +195,8 @@ fn expect_or_insert_with(
     key: &str,
     has: u8,
 ) {
-    match pairs.entry(text(rt, key)).or_insert_with(|| number(2)) {
-        Err(_back) => panic!(rt; "there is memory"),
-        Ok(value) => assert!(rt; *value == number(has)),
-    }
+    let value = must(rt, pairs.entry(text(rt, key)).or_insert_with(|| number(2)));
+    assert!(rt; *value == number(has));
 }
 
 #[test]
@@ -233,37 +227,70 @@ fn copies_are_the_same(rt: HostRuntime) {
     expect_value(&rt, Value::try_from_str(rt.alloc(), "a"), "'a'");
 }
 
+// Checks the Boolean in a value.
+fn expect_boolean(rt: &impl Abort, value: Value, wanted: bool) {
+    same(rt, "the Boolean", &value.as_boolean(), &Some(wanted));
+}
+
+// Checks the date in a value.
+fn expect_date(rt: &impl Abort, value: Value, wanted: Date) {
+    assert!(rt; value.as_date() == Some(wanted));
+}
+
 #[test]
 fn scalars_in_values(rt: HostRuntime) {
-    assert_eq!(rt; Value::from(true).as_boolean(), Some(true));
-    assert_eq!(rt; Value::from(&false).as_boolean(), Some(false));
+    expect_boolean(&rt, Value::from(true), true);
+    expect_boolean(&rt, Value::from(&false), false);
     let date = must(&rt, Date::from_plist_real([0; 8]));
-    assert!(rt; Value::from(date).as_date() == Some(date));
-    assert!(rt; Value::from(&date).as_date() == Some(date));
+    expect_date(&rt, Value::from(date), date);
+    expect_date(&rt, Value::from(&date), date);
     let bits = RealBits::Four([0x3f, 0xc0, 0, 0]);
     assert!(rt; Value::Real(bits).as_real() == Some(bits));
     assert!(rt; Value::Uid(Uid::new(4)).as_uid().copied() == Some(Uid::new(4)));
     assert!(rt; Value::Uid(Uid::new(4)).into_uid() == Some(Uid::new(4)));
+}
+
+#[test]
+fn contents_of_other_kinds(rt: HostRuntime) {
     assert!(rt; Value::from(true).into_uid().is_none());
-    let data = value_of(&rt, "<00ff>");
-    assert_eq!(rt; data.as_data(), Some([0, 255].as_slice()));
-    match data.into_data() {
-        None => panic!(rt; "data"),
-        Some(bytes) => assert_eq!(rt; bytes.as_slice(), [0, 255].as_slice()),
-    }
     assert!(rt; Value::from(true).into_data().is_none());
-    let value = Value::from(text(&rt, "a"));
-    assert_eq!(rt; value.as_string(), Some("a"));
-    match value.into_string() {
-        None => panic!(rt; "a text"),
-        Some(text) => assert_eq!(rt; text.as_str(), "a"),
-    }
     assert!(rt; Value::from(true).into_string().is_none());
 }
 
+#[test]
+fn data_in_values(rt: HostRuntime) {
+    let data = value_of(&rt, "<00ff>");
+    same(&rt, "the data", &data.as_data(), &Some([0, 255].as_slice()));
+    let bytes = some(&rt, "the data", data.into_data());
+    same(
+        &rt,
+        "the data taken out",
+        &bytes.as_slice(),
+        &[0, 255].as_slice(),
+    );
+}
+
+#[test]
+fn strings_in_values(rt: HostRuntime) {
+    let value = Value::from(text(&rt, "a"));
+    same(&rt, "the string", &value.as_string(), &Some("a"));
+    let text = some(&rt, "the string", value.into_string());
+    same(&rt, "the string taken out", &text.as_str(), &"a");
+}
+
 fn expect_numbers(rt: &impl Abort, value: Value, signed: Option<i64>, unsigned: Option<u64>) {
-    assert_eq!(rt; value.as_signed_integer(), signed);
-    assert_eq!(rt; value.as_unsigned_integer(), unsigned);
+    same(
+        rt,
+        "value.as_signed_integer()",
+        &value.as_signed_integer(),
+        &signed,
+    );
+    same(
+        rt,
+        "value.as_unsigned_integer()",
+        &value.as_unsigned_integer(),
+        &unsigned,
+    );
 }
 
 #[test]
@@ -287,27 +314,23 @@ fn numbers_in_values(rt: HostRuntime) {
 }
 
 #[test]
-fn collections_in_values(rt: HostRuntime) {
+fn arrays_in_values(rt: HostRuntime) {
     let mut value = value_of(&rt, "[ 1 end");
-    match value.as_array_mut() {
-        None => panic!(rt; "an array"),
-        Some(items) => must(&rt, items.push(number(2))),
-    }
+    let items = some(&rt, "an array", value.as_array_mut());
+    must(&rt, items.push(number(2)));
     assert!(rt; value.as_dictionary_mut().is_none());
-    let mut pairs = value_of(&rt, "{ 'a' 1 end");
-    match pairs.as_dictionary_mut() {
-        None => panic!(rt; "a dictionary"),
-        Some(pairs) => assert!(rt; pairs.insert(text(&rt, "b"), number(2)).is_ok()),
-    }
-    assert!(rt; pairs.as_array_mut().is_none());
+    let items = some(&rt, "an array", value.into_array());
+    expect_value(&rt, Ok(Value::from(items)), "[2 1 2 end");
     assert!(rt; Value::from(true).into_array().is_none());
+}
+
+#[test]
+fn dictionaries_in_values(rt: HostRuntime) {
+    let mut value = value_of(&rt, "{ 'a' 1 end");
+    let pairs = some(&rt, "a dictionary", value.as_dictionary_mut());
+    assert!(rt; pairs.insert(text(&rt, "b"), number(2)).is_ok());
+    assert!(rt; value.as_array_mut().is_none());
+    let pairs = some(&rt, "a dictionary", value.into_dictionary());
+    expect_dictionary(&rt, pairs, "{2 'a' 1 'b' 2 end");
     assert!(rt; Value::from(true).into_dictionary().is_none());
-    match value.into_array() {
-        None => panic!(rt; "an array"),
-        Some(items) => expect_value(&rt, Ok(Value::from(items)), "[2 1 2 end"),
-    }
-    match pairs.into_dictionary() {
-        None => panic!(rt; "a dictionary"),
-        Some(pairs) => expect_dictionary(&rt, pairs, "{2 'a' 1 'b' 2 end"),
-    }
 }

@@ -1,6 +1,6 @@
 //! Which events are equal, and what their copies are.
 
-use crate::support::must;
+use crate::support::{must, same};
 use plist_base::{Event, EventKind, Uid};
 use std::borrow::{CowSlice, CowStr};
 use std::process::Abort;
@@ -43,5 +43,5 @@ fn equal_by_content(rt: HostRuntime) {
 #[test]
 fn kinds_of_events(rt: HostRuntime) {
     let kind = EventKind::of_event(&Event::Uid(Uid::new(1)));
-    assert_eq!(rt; kind, EventKind::Uid);
+    same(&rt, "kind", &kind, &EventKind::Uid);
 }

@@ -1,13 +1,18 @@
 //! Errors: their texts, and the I/O errors in them.
 
-use crate::support::must;
+use crate::support::{must, same};
 use plist_base::{Error, ErrorKind, EventKind};
 use plist_support::expect_failure;
 use std::io;
 use std::process::Abort;
 
 fn expect_text(rt: &(impl Abort + AllocGlobal), error: Error, text: &str) {
-    assert_eq!(rt; must(rt, error.to_string(rt.alloc())).as_str(), text);
+    same(
+        rt,
+        "the text",
+        &must(rt, error.to_string(rt.alloc())).as_str(),
+        &text,
+    );
 }
 
 fn failed_device() -> Error {
@@ -65,7 +70,7 @@ fn texts_with_an_offset(rt: HostRuntime) {
 // Checks the `Display` and the `Debug` text of a kind of events, separated by a blank.
 fn expect_kind(rt: &(impl Abort + AllocGlobal), kind: EventKind, texts: &str) {
     let found = must(rt, format!(in rt.alloc(); "{kind} {kind:?}"));
-    assert_eq!(rt; found.as_str(), texts);
+    same(rt, "the texts", &found.as_str(), &texts);
 }
 
 #[test]
@@ -106,7 +111,12 @@ fn device_errors_come_back(rt: HostRuntime) {
     assert!(rt; failed.is_io());
     assert!(rt; !failed.is_eof());
     match failed.into_io() {
-        Ok(failure) => assert_eq!(rt; failure.kind(), io::ErrorKind::Other),
+        Ok(failure) => same(
+            &rt,
+            "failure.kind()",
+            &failure.kind(),
+            &io::ErrorKind::Other,
+        ),
         Err(_) => panic!(rt; "a device failed"),
     }
     let answer: Result<(), Error> = Err(failed_device());
@@ -127,7 +137,7 @@ fn other_faults_stay(rt: HostRuntime) {
         Ok(_) => panic!(rt; "no device failed"),
         Err(fault) => {
             assert!(rt; matches!(fault.kind(), ErrorKind::UnexpectedEof));
-            assert_eq!(rt; fault.offset(), Some(7));
+            same(&rt, "fault.offset()", &fault.offset(), &Some(7));
         }
     }
 }

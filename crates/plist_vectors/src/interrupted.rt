@@ -2,7 +2,7 @@
 //! it.
 
 use crate::sources::sample;
-use crate::support::must;
+use crate::support::{must, same, same_at};
 use plist_base::{Seeking, Source, read_exact_at};
 use plist_support::{Device, Disk, expect_io};
 use std::io::ErrorKind;
@@ -55,10 +55,21 @@ fn tries_nothing_twice(rt: HostRuntime) {
     for kind in KINDS {
         for (call, asked) in [(0, 0), (1, 1), (2, 1), (3, 1), (4, 1), (5, 2), (6, 2)] {
             let (found, calls) = failure_of_disk(&rt, call, kind);
-            assert_eq!(rt; found, Some((asked, kind)), "at call {call}");
-            assert_eq!(rt; calls, call.saturating_add(1));
+            same_at(
+                &rt,
+                "the failure at call",
+                call,
+                &found,
+                &Some((asked, kind)),
+            );
+            same(&rt, "calls", &calls, &call.saturating_add(1));
         }
-        assert_eq!(rt; failure_of_disk(&rt, 7, kind), (None, 7));
+        same(
+            &rt,
+            "no failure",
+            &failure_of_disk(&rt, 7, kind),
+            &(None, 7),
+        );
     }
 }
 
@@ -73,6 +84,6 @@ fn a_failed_read_has_its_place(rt: HostRuntime) {
             &rt,
             expect_io(answer, ErrorKind::Interrupted, Some(call + 2)),
         );
-        assert_eq!(rt; device.calls, call + 1);
+        same(&rt, "device.calls", &device.calls, &(call + 1));
     }
 }

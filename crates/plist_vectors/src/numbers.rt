@@ -2,7 +2,7 @@
 
 ghost use Rattle.std.specs.Prelude.{◌≡◌, ◌<ℤ◌, ◌↔◌, IsTrue};
 
-use crate::support::must;
+use crate::support::{must, same};
 use plist_base::{Date, Integer, InvalidInteger, RealBits, Uid};
 use std::cmp::Ordering;
 use std::hash::{DefaultHasher, Hash, Hasher};
@@ -16,12 +16,19 @@ fn expect(
     unsigned: Option<u64>,
     text: &str,
 ) {
-    assert_eq!(rt; number.as_signed(), signed);
-    assert_eq!(rt; number.as_unsigned(), unsigned);
-    assert_eq!(rt; must(rt, number.to_string(rt.alloc())).as_str(), text);
-    assert_eq!(rt;
-        must(rt, format!(in rt.alloc(); "{number:?}")).as_str(),
-        text
+    same(rt, "signed", &number.as_signed(), &signed);
+    same(rt, "unsigned", &number.as_unsigned(), &unsigned);
+    same(
+        rt,
+        "the text",
+        &must(rt, number.to_string(rt.alloc())).as_str(),
+        &text,
+    );
+    same(
+        rt,
+        "the debug text",
+        &must(rt, format!(in rt.alloc(); "{number:?}")).as_str(),
+        &text,
     );
 }
 
@@ -69,19 +76,29 @@ fn ordered_as_whole_numbers(rt: HostRuntime) {
     assert!(rt; is_below(&Integer::from(0u8), &above_signed));
     assert!(rt; !is_below(&above_signed, &Integer::from(i64::MAX)));
     let order = above_signed.cmp(&Integer::from(i64::MIN));
-    assert_eq!(rt; order, Ordering::Greater);
+    same(&rt, "order", &order, &Ordering::Greater);
 }
 
 #[test]
 fn text_of_the_refusal(rt: HostRuntime) {
     let text = must(&rt, InvalidInteger.to_string(rt.alloc()));
-    assert_eq!(rt; text.as_str(), "String was not a valid plist integer");
+    same(
+        &rt,
+        "the text",
+        &text.as_str(),
+        &"String was not a valid plist integer",
+    );
 }
 
 fn expect_uid(rt: &(impl Abort + AllocGlobal), number: u64, text: &str) {
     let uid = Uid::new(number);
-    assert_eq!(rt; uid.get(), number);
-    assert_eq!(rt; must(rt, format!(in rt.alloc(); "{uid:?}")).as_str(), text);
+    same(rt, "the number", &uid.get(), &number);
+    same(
+        rt,
+        "the debug text",
+        &must(rt, format!(in rt.alloc(); "{uid:?}")).as_str(),
+        &text,
+    );
 }
 
 #[test]
@@ -109,9 +126,9 @@ fn hash_of<T: Hash>(value: &T) -> u64 {
 }
 
 // Checks that two equal values have the same hash, and another one has a different hash.
-fn expect_hashes<T: Hash + Eq>(rt: &impl Abort, value: &T, same: &T, other: &T) {
-    assert!(rt; value == same);
-    assert_eq!(rt; hash_of(value), hash_of(same));
+fn expect_hashes<T: Hash + Eq>(rt: &impl Abort, value: &T, equal: &T, other: &T) {
+    assert!(rt; value == equal);
+    same(rt, "the hash", &hash_of(value), &hash_of(equal));
     assert!(rt; value != other);
     assert!(rt; hash_of(value) != hash_of(other));
 }
@@ -129,7 +146,12 @@ fn hashes_of_integers(rt: HostRuntime) {
 #[test]
 fn hashes_of_uids(rt: HostRuntime) {
     expect_hashes(&rt, &Uid::new(5), &Uid::new(5), &Uid::new(6));
-    assert_eq!(rt; hash_of(&Uid::new(5)), hash_of(&5u64));
+    same(
+        &rt,
+        "the hash of a Uid",
+        &hash_of(&Uid::new(5)),
+        &hash_of(&5u64),
+    );
 }
 
 #[test]

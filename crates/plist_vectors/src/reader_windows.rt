@@ -1,6 +1,6 @@
 //! How `Reader` reads in windows, and how it ends.
 
-use crate::support::must;
+use crate::support::{must, same, some, that};
 use plist_base::{Error, OwnedEvent, Seeking};
 use plist_reader::Reader;
 use plist_support::{Device, DeviceFault, Disk, expect_io, file, words_of};
@@ -17,9 +17,9 @@ fn expect_few_calls(rt: &(impl Abort + AllocGlobal), bytes: &[u8], length: usize
         words_of(rt.alloc(), Reader::new(rt.alloc(), Seeking::new(&mut disk))),
     );
     let text = found.trim_matches('\'');
-    assert_eq!(rt; text.len(), length);
+    same(rt, "text.len()", &text.len(), &length);
     assert!(rt; text.bytes().all(|byte| byte == b'a'));
-    assert!(rt; disk.calls <= 20, "{} calls", disk.calls);
+    that(rt, "few calls, and not", disk.calls, disk.calls <= 20);
 }
 
 #[test]
@@ -54,11 +54,9 @@ fn only_item(
 fn expect_handed_on(rt: &(impl Abort + AllocGlobal), bytes: &[u8], call: u64) {
     let bytes = must(rt, Vec::from_slice(rt.alloc(), bytes));
     let mut device = Device::with_fault(bytes, call, DeviceFault::Fails(ErrorKind::TimedOut));
-    match only_item(rt, &mut device) {
-        Some(item) => must(rt, expect_io(item, ErrorKind::TimedOut, Some(device.place))),
-        None => panic!(rt; "no item"),
-    }
-    assert_eq!(rt; device.calls, call.saturating_add(1));
+    let item = some(rt, "the item", only_item(rt, &mut device));
+    must(rt, expect_io(item, ErrorKind::TimedOut, Some(device.place)));
+    same(rt, "device.calls", &device.calls, &call.saturating_add(1));
 }
 
 #[test]

@@ -1,24 +1,41 @@
 //! How `BinaryReader` ends.
 
-use crate::support::must;
-use plist_base::{Error, OwnedEvent, read_exact_at};
+use crate::support::{must, same, some, that};
+use plist_base::{Error, OwnedEvent, Source, read_exact_at};
 use plist_binread::BinaryReader;
 use plist_support::{Device, DeviceFault, READ_FAILURES, expect_io, file};
 use std::io::ErrorKind;
 use std::process::Abort;
 
-// Checks that the items end with an error at offset 0.
-fn expect_end(rt: &(impl Abort + AllocGlobal), bytes: &[u8], is_eof: bool) {
-    let mut reader = BinaryReader::new(rt.alloc(), bytes);
-    match reader.next() {
+// Checks that nothing more is yielded, however often the reader is called.
+fn expect_over<S: Source>(rt: &impl Abort, reader: &mut BinaryReader<S>) {
+    for _ in 0..3 {
+        assert!(rt; reader.next().is_none());
+    }
+}
+
+// Checks that an item is an error at this offset.
+fn expect_error(
+    rt: &impl Abort,
+    item: Option<Result<OwnedEvent, Error>>,
+    is_eof: bool,
+    offset: u64,
+) {
+    match item {
         Some(Err(error)) => {
-            assert_eq!(rt; error.offset(), Some(0));
-            assert_eq!(rt; error.is_eof(), is_eof);
+            same(rt, "the offset", &error.offset(), &Some(offset));
+            same(rt, "error.is_eof()", &error.is_eof(), &is_eof);
         }
         _ => panic!(rt; "no fault"),
     }
-    assert!(rt; reader.next().is_none());
-    assert!(rt; reader.next().is_none());
+}
+
+// Checks that the items end with an error at offset 0.
+fn expect_end(rt: &(impl Abort + AllocGlobal), bytes: &[u8], is_eof: bool) {
+    let mut reader = BinaryReader::new(rt.alloc(), bytes);
+    let first = reader.next();
+    expect_over(rt, &mut reader);
+    expect_error(rt, first, is_eof, 0);
 }
 
 #[test]
@@ -50,9 +67,7 @@ fn last_item(
             None => break,
         }
     }
-    for _ in 0..3 {
-        assert!(rt; reader.next().is_none());
-    }
+    expect_over(rt, &mut reader);
     last
 }
 
@@ -64,11 +79,9 @@ fn expect_failure(rt: &(impl Abort + AllocGlobal), call: u64, kind: ErrorKind) -
     if device.failures == 0 {
         return false;
     }
-    match last {
-        Some(item) => must(rt, expect_io(item, kind, Some(device.place))),
-        None => panic!(rt; "no item"),
-    }
-    assert_eq!(rt; device.calls, call.saturating_add(1));
+    let item = some(rt, "the last item", last);
+    must(rt, expect_io(item, kind, Some(device.place)));
+    same(rt, "device.calls", &device.calls, &call.saturating_add(1));
     true
 }
 
@@ -77,7 +90,7 @@ fn expect_failure(rt: &(impl Abort + AllocGlobal), call: u64, kind: ErrorKind) -
 fn expect_failures(rt: &(impl Abort + AllocGlobal), kind: ErrorKind) {
     for call in 0..1000 {
         if !expect_failure(rt, call, kind) {
-            assert!(rt; call > 46, "a failure at call {call} was lost");
+            that(rt, "no failure is lost at call", call, call > 46);
             return;
         }
     }
@@ -91,7 +104,7 @@ fn expect_handed_on(rt: &(impl Abort + AllocGlobal), kind: ErrorKind) {
     let mut device = device_of(rt, 2, DeviceFault::Fails(kind));
     let answer = read_exact_at(&mut device, 8, &mut [0; 4]);
     must(rt, expect_io(answer, kind, Some(10)));
-    assert_eq!(rt; device.calls, 3);
+    same(rt, "device.calls", &device.calls, &3);
 }
 
 #[test]
@@ -109,14 +122,8 @@ fn expect_short(rt: &(impl Abort + AllocGlobal), call: u64) -> bool {
     if device.calls <= call {
         return false;
     }
-    match last {
-        Some(Err(error)) => {
-            assert!(rt; error.is_eof());
-            assert_eq!(rt; error.offset(), Some(device.place));
-        }
-        _ => panic!(rt; "no fault"),
-    }
-    assert_eq!(rt; device.calls, call.saturating_add(1));
+    expect_error(rt, last, true, device.place);
+    same(rt, "device.calls", &device.calls, &call.saturating_add(1));
     true
 }
 
@@ -125,7 +132,7 @@ fn expect_short(rt: &(impl Abort + AllocGlobal), call: u64) -> bool {
 fn expect_shorts(rt: &(impl Abort + AllocGlobal)) {
     for call in 1..1000 {
         if !expect_short(rt, call) {
-            assert!(rt; call > 46, "a short read at call {call} was lost");
+            that(rt, "no short read is lost at call", call, call > 46);
             return;
         }
     }

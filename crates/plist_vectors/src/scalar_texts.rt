@@ -1,6 +1,6 @@
 //! Data as a value, and the errors of parsing texts.
 
-use crate::support::must;
+use crate::support::{must, same};
 use plist_base::{Data, DecodeError, Error, InvalidXmlData, InvalidXmlDate};
 use std::process::Abort;
 
@@ -9,24 +9,31 @@ fn data_of_bytes(rt: HostRuntime) {
     let mut data = Data::from(must(&rt, Vec::from_slice(rt.alloc(), &[0, 255])));
     let copy = must(&rt, data.clone());
     assert!(rt; copy == data);
-    assert_eq!(rt;
-        must(&rt, format!(in rt.alloc(); "{data:?}")).as_str(),
-        "[0, 255]"
+    same(
+        &rt,
+        "the debug text",
+        &must(&rt, format!(in rt.alloc(); "{data:?}")).as_str(),
+        &"[0, 255]",
     );
     data.as_mut().fill(7);
-    assert_eq!(rt; data.as_ref(), [7, 7].as_slice());
+    same(&rt, "the filled data", &data.as_ref(), &[7, 7].as_slice());
     assert!(rt; copy != data);
     let bytes = Vec::from(copy);
-    assert_eq!(rt; bytes.as_slice(), [0, 255].as_slice());
+    same(
+        &rt,
+        "the bytes of the copy",
+        &bytes.as_slice(),
+        &[0, 255].as_slice(),
+    );
     let shown = must(&rt, InvalidXmlData::OutOfMemory.to_string(rt.alloc()));
-    assert_eq!(rt; shown.as_str(), "OutOfMemory");
+    same(&rt, "the text", &shown.as_str(), &"OutOfMemory");
 }
 
 // Checks that the text isn't data because of the dash at this offset.
 fn expect_dash(rt: &(impl Abort + AllocGlobal), text: &str, place: usize) {
     match Data::from_xml_format(rt.alloc(), text) {
         Err(InvalidXmlData::Decode(DecodeError::InvalidByte(found, b'-'))) => {
-            assert_eq!(rt; found, place, "in {text:?}");
+            same(rt, text, &found, &place);
         }
         _ => panic!(rt; "{text:?} has a dash"),
     }
@@ -43,8 +50,18 @@ fn places_in_data_texts(rt: HostRuntime) {
 #[test]
 fn refusal_of_a_date(rt: HostRuntime) {
     let shown = must(&rt, InvalidXmlDate.to_string(rt.alloc()));
-    assert_eq!(rt; shown.as_str(), "String was not a valid XML plist date");
+    same(
+        &rt,
+        "the text",
+        &shown.as_str(),
+        &"String was not a valid XML plist date",
+    );
     let error = Error::from(InvalidXmlDate);
     let shown = must(&rt, error.to_string(rt.alloc()));
-    assert_eq!(rt; shown.as_str(), "InvalidDateString");
+    same(
+        &rt,
+        "the text of the error",
+        &shown.as_str(),
+        &"InvalidDateString",
+    );
 }

@@ -1,6 +1,6 @@
 //! The sizes of `SharingWriter`'s files, and how it fails.
 
-use crate::support::{expect_answers, file_of_true, must, write_all};
+use crate::support::{expect_answers, file_of_true, must, same, same_at, write_all};
 use plist_binwrite::BinaryWriter;
 use plist_share::SharingWriter;
 use plist_support::{Device, file, front};
@@ -19,7 +19,13 @@ fn doubled_arrays(rt: HostRuntime) {
     for level in 0..17u64 {
         let bytes = shared(&rt, words.as_str());
         let length = level.saturating_mul(4).saturating_add(42);
-        assert_eq!(rt; bytes.len() as u64, length, "{level}");
+        same_at(
+            &rt,
+            "length at level",
+            level,
+            &(bytes.len() as u64),
+            &length,
+        );
         words = must(&rt, format!(in rt.alloc(); "[ {words} {words} end"));
     }
 }
@@ -32,8 +38,8 @@ fn beside_the_plain_writer(rt: HostRuntime) {
                  [2 [2 [0 end [0 end end [2 [0 end [0 end end end end";
     let mut writer = BinaryWriter::new(rt.alloc(), Vec::new(rt.alloc()));
     write_all(&rt, &mut writer, words);
-    assert_eq!(rt; writer.into_inner().len(), 84);
-    assert_eq!(rt; shared(&rt, words).len(), 54);
+    same(&rt, "the plain length", &writer.into_inner().len(), &84);
+    same(&rt, "the shared length", &shared(&rt, words).len(), &54);
 }
 
 // No I/O error is returned unless a call of the device fails.
@@ -49,9 +55,9 @@ fn io_without_failing_write(rt: HostRuntime) {
     );
     let device = writer.into_inner();
     let bytes = must(&rt, file(rt.alloc(), "a20101 a0 080b", [1, 1], [2, 0, 12]));
-    assert_eq!(rt; device.bytes.as_slice(), bytes.as_slice());
-    assert_eq!(rt; device.flushed, bytes.len());
-    assert_eq!(rt; device.failures, 0);
+    same(&rt, "the file", &device.bytes, &bytes);
+    same(&rt, "flushed", &device.flushed, &bytes.len());
+    same(&rt, "failures", &device.failures, &0);
 }
 
 // Checks that these bytes are written if the device fails at this call, and that it isn't called
@@ -61,13 +67,16 @@ fn expect_failure(rt: &(impl Abort + AllocGlobal), fails_at: u64, bytes: &[u8]) 
     let mut writer = SharingWriter::new(rt.alloc(), device);
     expect_answers(rt, &mut writer, "true true", "Io; WriterFailed");
     let device = writer.into_inner();
-    assert_eq!(rt; device.bytes.as_slice(), bytes, "at call {fails_at}");
-    assert_eq!(rt; device.failures, 1, "at call {fails_at}");
-    assert_eq!(rt;
-        device.calls,
-        fails_at.saturating_add(1),
-        "at call {fails_at}"
+    let calls = fails_at.saturating_add(1);
+    same_at(
+        rt,
+        "bytes at call",
+        fails_at,
+        &device.bytes.as_slice(),
+        &bytes,
     );
+    same_at(rt, "failures at call", fails_at, &device.failures, &1);
+    same_at(rt, "calls at call", fails_at, &device.calls, &calls);
 }
 
 #[test]

@@ -1,6 +1,6 @@
 //! Sources over a file, and readers of their bytes from the start on.
 
-use crate::support::must;
+use crate::support::{must, same, same_at, that};
 use plist_base::{Seeking, Sequential, Source, read_exact_at};
 use plist_binread::BinaryReader;
 use plist_support::{DEVICE_MESSAGE, Device, DeviceFault, Disk, expect_io, file, words_of};
@@ -24,7 +24,7 @@ pub(crate) fn sample(rt: &(impl Abort + AllocGlobal), size: u32) -> Vec<u8> {
 fn expect_bytes(rt: &impl Abort, bytes: &[u8], place: u32) {
     let mut here = place;
     for byte in bytes {
-        assert_eq!(rt; *byte, byte_at(here), "at {here}");
+        same_at(rt, "the byte at", u64::from(here), byte, &byte_at(here));
         here = here.saturating_add(1);
     }
 }
@@ -45,7 +45,12 @@ fn expect_read<S: Source>(
         }
         Err(error) => {
             assert!(rt; place.saturating_add(u32::from(length)) > size);
-            assert!(rt; error.is_eof(), "{length} bytes at {place}");
+            that(
+                rt,
+                "an end, in the read at",
+                u64::from(place),
+                error.is_eof(),
+            );
         }
     }
 }
@@ -60,7 +65,7 @@ const PLACES: [u32; 17] = [
 fn gives_the_bytes(rt: HostRuntime) {
     let size = 90_000;
     let mut source = Seeking::with_windows(rt.alloc(), Cursor::new(sample(&rt, size)));
-    assert_eq!(rt; must(&rt, source.size()), u64::from(size));
+    same(&rt, "the size", &must(&rt, source.size()), &u64::from(size));
     for place in PLACES {
         expect_read(&rt, &mut source, size, place, 1);
         expect_read(&rt, &mut source, size, place, 2);
@@ -149,12 +154,42 @@ const OF_LAST: [u32; 4] = [57_344, 122_880, 188_416, 253_952];
 // number doubles once more, at the seventeenth such fill after the first doubling.
 #[test]
 fn windows_grow(rt: HostRuntime) {
-    assert_eq!(rt; calls_of_rounds(&rt, true, OF_ONE, 3), 24);
-    assert_eq!(rt; calls_of_rounds(&rt, true, OF_ONE, 4), 32);
-    assert_eq!(rt; calls_of_rounds(&rt, true, OF_ONE, 100), 32);
-    assert_eq!(rt; calls_of_rounds(&rt, false, OF_ONE, 100), 800);
-    assert_eq!(rt; calls_of_rounds(&rt, true, OF_LAST, 8), 64);
-    assert_eq!(rt; calls_of_rounds(&rt, true, OF_LAST, 100), 64);
+    same(
+        &rt,
+        "three rounds",
+        &calls_of_rounds(&rt, true, OF_ONE, 3),
+        &24,
+    );
+    same(
+        &rt,
+        "four rounds",
+        &calls_of_rounds(&rt, true, OF_ONE, 4),
+        &32,
+    );
+    same(
+        &rt,
+        "a hundred rounds",
+        &calls_of_rounds(&rt, true, OF_ONE, 100),
+        &32,
+    );
+    same(
+        &rt,
+        "a hundred rounds without windows",
+        &calls_of_rounds(&rt, false, OF_ONE, 100),
+        &800,
+    );
+    same(
+        &rt,
+        "eight rounds of the last slot",
+        &calls_of_rounds(&rt, true, OF_LAST, 8),
+        &64,
+    );
+    same(
+        &rt,
+        "a hundred rounds of the last slot",
+        &calls_of_rounds(&rt, true, OF_LAST, 100),
+        &64,
+    );
 }
 
 // Reads three bytes, and returns whether the disk failed.
@@ -182,12 +217,14 @@ fn expect_failure(rt: &(impl Abort + AllocGlobal), call: u64) {
     let first = fails_at(rt, &mut source, 5);
     let second = fails_at(rt, &mut source, 8_500);
     let third = fails_at(rt, &mut source, 5);
-    assert_eq!(rt;
-        [first, second, third]
+    same(
+        rt,
+        "failures",
+        &[first, second, third]
             .iter()
             .filter(|failed| **failed)
             .count(),
-        1
+        &1,
     );
 }
 
@@ -208,16 +245,28 @@ fn expect_failed_window(rt: &(impl Abort + AllocGlobal), call: u64) {
     for place in OF_ONE {
         if fails_at(rt, &mut source, place) {
             failures = failures.saturating_add(1);
-            assert!(rt;
+            that(
+                rt,
+                "an empty window after the failure at call",
+                call,
                 source.buffered(u64::from(place)).is_empty(),
-                "at call {call}"
             );
-            assert!(rt; !fails_at(rt, &mut source, place), "at call {call}");
+            that(
+                rt,
+                "a second read after the failure at call",
+                call,
+                !fails_at(rt, &mut source, place),
+            );
         }
     }
-    assert_eq!(rt; failures, 1, "at call {call}");
+    same_at(rt, "failures at call", call, &failures, &1);
     for place in OF_ONE {
-        assert!(rt; !fails_at(rt, &mut source, place), "at call {call}");
+        that(
+            rt,
+            "a later read after the failure at call",
+            call,
+            !fails_at(rt, &mut source, place),
+        );
     }
 }
 
@@ -245,6 +294,26 @@ fn gives_the_bytes_of_short_reads_of_more_windows(rt: HostRuntime) {
     }
 }
 
+// Checks that the items are a prefix of the whole ones, followed by the error of this call.
+fn expect_cut(rt: &impl Abort, found: &str, whole: &str, call: u64) {
+    match found.split_once("Io (offset ") {
+        None => panic!(rt; "at call {call} came {found}"),
+        Some((before, said)) => {
+            let before = before.trim_end();
+            that(
+                rt,
+                "a prefix before the failure at call",
+                call,
+                whole.starts_with(before),
+            );
+            assert!(rt;
+                said.ends_with(DEVICE_MESSAGE),
+                "at call {call} came {said}"
+            );
+        }
+    }
+}
+
 // Checks the items of a file of eight events that returns one byte per read and fails at this call.
 // The offset of `Io` is left out. Returns whether it failed.
 fn expect_items_of_disk(rt: &(impl Abort + AllocGlobal), windows: bool, call: u64) -> bool {
@@ -261,27 +330,18 @@ fn expect_items_of_disk(rt: &(impl Abort + AllocGlobal), windows: bool, call: u6
         words_of(rt.alloc(), BinaryReader::new(rt.alloc(), source)),
     );
     if disk.failures == 0 {
-        assert_eq!(rt; found.as_str(), whole);
+        same(rt, "the items", &found.as_str(), &whole);
         return false;
     }
-    assert_eq!(rt; disk.calls, call.saturating_add(1));
-    match found.split_once("Io (offset ") {
-        None => panic!(rt; "at call {call} came {found}"),
-        Some((before, said)) => {
-            assert!(rt; whole.starts_with(before.trim_end()), "at call {call}");
-            assert!(rt;
-                said.ends_with(DEVICE_MESSAGE),
-                "at call {call} came {said}"
-            );
-        }
-    }
+    same(rt, "disk.calls", &disk.calls, &call.saturating_add(1));
+    expect_cut(rt, found.as_str(), whole, call);
     true
 }
 
 fn expect_items_of_disks(rt: &(impl Abort + AllocGlobal), windows: bool) {
     for call in 0..1000 {
         if !expect_items_of_disk(rt, windows, call) {
-            assert!(rt; call > 20, "a failure at call {call} was lost");
+            that(rt, "no failure is lost at call", call, call > 20);
             return;
         }
     }
@@ -303,7 +363,7 @@ fn expect_next<R: Read>(
 ) {
     let mut buf = must(rt, vec![in rt.alloc(); 0u8; size]);
     match reader.read(&mut buf) {
-        Ok(count) => assert_eq!(rt; &buf[..count], wanted),
+        Ok(count) => same(rt, "the bytes", &&buf[..count], &wanted),
         Err(failure) => panic!(rt; "{failure:?}"),
     }
 }
@@ -316,7 +376,12 @@ fn reads_from_the_front(rt: HostRuntime) {
     expect_next(&rt, &mut reader, 4, b"cdef");
     expect_next(&rt, &mut reader, 4, b"g");
     expect_next(&rt, &mut reader, 4, b"");
-    assert_eq!(rt; reader.into_inner(), b"abcdefg".as_slice());
+    same(
+        &rt,
+        "what remains",
+        &reader.into_inner(),
+        &b"abcdefg".as_slice(),
+    );
 }
 
 // A failed read isn't tried again, and the next one begins at its offset.
@@ -328,12 +393,17 @@ fn a_failed_read_takes_nothing(rt: HostRuntime) {
     expect_next(&rt, &mut reader, 2, b"a");
     match reader.read(&mut [0; 2]) {
         Ok(_) => panic!(rt; "the device failed"),
-        Err(failure) => assert_eq!(rt; failure.kind(), ErrorKind::TimedOut),
+        Err(failure) => same(
+            &rt,
+            "the kind of the failure",
+            &failure.kind(),
+            &ErrorKind::TimedOut,
+        ),
     }
     expect_next(&rt, &mut reader, 2, b"b");
     let device = reader.into_inner();
-    assert_eq!(rt; device.calls, 3);
-    assert_eq!(rt; device.place, 1);
+    same(&rt, "device.calls", &device.calls, &3);
+    same(&rt, "device.place", &device.place, &1);
 }
 
 // If a read returns no byte, the error is `UnexpectedEof`, with the offset of that read.
@@ -344,8 +414,8 @@ fn ends_where_no_byte_is(rt: HostRuntime) {
         Ok(()) => panic!(rt; "two bytes are there"),
         Err(error) => {
             assert!(rt; error.is_eof());
-            assert_eq!(rt; error.offset(), Some(8));
+            same(&rt, "error.offset()", &error.offset(), &Some(8));
         }
     }
-    assert_eq!(rt; device.calls, 3);
+    same(&rt, "device.calls", &device.calls, &3);
 }

@@ -1,9 +1,11 @@
 //! What the tests share. A test panics if it doesn't find what it expects.
 
 mod file;
+mod same;
 mod words;
 
 pub(crate) use file::file_of_true;
+pub(crate) use same::{same, same_at, that};
 use std::fmt::Debug;
 use std::process::Abort;
 pub(crate) use words::{
@@ -15,5 +17,13 @@ pub(crate) fn must<T, E: Debug>(rt: &impl Abort, answer: Result<T, E>) -> T {
     match answer {
         Ok(value) => value,
         Err(error) => panic!(rt; "{error:?}"),
+    }
+}
+
+// Returns the content of an option that must not be `None`.
+pub(crate) fn some<T>(rt: &impl Abort, what: &str, found: Option<T>) -> T {
+    match found {
+        Some(content) => content,
+        None => panic!(rt; "{what}: nothing is there"),
     }
 }

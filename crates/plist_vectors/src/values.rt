@@ -1,6 +1,6 @@
 //! Dictionaries, whose pairs are ordered, and values.
 
-use crate::support::must;
+use crate::support::{must, same, some};
 use plist::{Dictionary, Value, kind_of_value};
 use plist_base::{Date, EventKind, Integer, RealBits, Uid};
 use std::process::Abort;
@@ -46,39 +46,51 @@ fn expect_pairs(rt: &(impl Abort + AllocGlobal), pairs: &Dictionary, wanted: &st
         let pair = must(rt, format!(in rt.alloc(); " {}={number}", key.as_str()));
         must(rt, all.push_str(pair.as_str()));
     }
-    assert_eq!(rt; all.as_str(), wanted);
+    same(rt, "the pairs", &all.as_str(), &wanted);
 }
 
 #[test]
 fn remove_moves_the_last_pair(rt: HostRuntime) {
     let mut pairs = three(&rt);
-    assert_eq!(rt; removed(&mut pairs, "a"), Some(1));
+    same(&rt, "remove of a", &removed(&mut pairs, "a"), &Some(1));
     expect_pairs(&rt, &pairs, " c=3 b=2");
-    assert_eq!(rt; removed(&mut pairs, "a"), None);
-    assert_eq!(rt; removed(&mut pairs, "b"), Some(2));
-    assert_eq!(rt; number_at(&pairs, "c"), Some(3));
-    assert_eq!(rt; pairs.len(), 1);
+    same(
+        &rt,
+        "a second remove of a",
+        &removed(&mut pairs, "a"),
+        &None,
+    );
+    same(&rt, "remove of b", &removed(&mut pairs, "b"), &Some(2));
+    same(&rt, "the value of c", &number_at(&pairs, "c"), &Some(3));
+    same(&rt, "the length", &pairs.len(), &1);
 }
 
 #[test]
 fn insert_keeps_the_place(rt: HostRuntime) {
     let mut pairs = three(&rt);
-    assert_eq!(rt; put(&rt, &mut pairs, "b", 9), Some(2));
-    assert_eq!(rt; put(&rt, &mut pairs, "d", 4), None);
+    same(
+        &rt,
+        "the old value of b",
+        &put(&rt, &mut pairs, "b", 9),
+        &Some(2),
+    );
+    same(
+        &rt,
+        "the old value of d",
+        &put(&rt, &mut pairs, "d", 4),
+        &None,
+    );
     expect_pairs(&rt, &pairs, " a=1 b=9 c=3 d=4");
 }
 
 #[test]
 fn looks_up(rt: HostRuntime) {
     let mut pairs = three(&rt);
-    assert_eq!(rt; number_at(&pairs, "b"), Some(2));
+    same(&rt, "the value of b", &number_at(&pairs, "b"), &Some(2));
     assert!(rt; pairs.get("B").is_none());
     assert!(rt; pairs.contains_key("c"));
     assert!(rt; !pairs.contains_key(""));
-    match pairs.get_mut("c") {
-        None => assert!(rt; false, "the key is there"),
-        Some(value) => *value = Value::from(30u64),
-    }
+    *some(&rt, "the value of c", pairs.get_mut("c")) = Value::from(30u64);
     assert!(rt; pairs.get_mut("d").is_none());
     expect_pairs(&rt, &pairs, " a=1 b=2 c=30");
 }
@@ -90,14 +102,19 @@ fn clear_empties(rt: HostRuntime) {
     pairs.clear();
     assert!(rt; pairs.is_empty());
     assert!(rt; pairs.get("a").is_none());
-    assert_eq!(rt; put(&rt, &mut pairs, "a", 7), None);
-    assert_eq!(rt; pairs.len(), 1);
+    same(
+        &rt,
+        "the old value of a",
+        &put(&rt, &mut pairs, "a", 7),
+        &None,
+    );
+    same(&rt, "the length", &pairs.len(), &1);
 }
 
 // Checks that this many items remain, by each of the iterator's bounds.
 fn expect_length<I: ExactSizeIterator>(rt: &impl Abort, iter: &I, length: usize) {
-    assert_eq!(rt; iter.len(), length);
-    assert_eq!(rt; iter.size_hint(), (length, Some(length)));
+    same(rt, "the length", &iter.len(), &length);
+    same(rt, "the bounds", &iter.size_hint(), &(length, Some(length)));
 }
 
 #[test]
@@ -105,9 +122,12 @@ fn iter_gives_the_order(rt: HostRuntime) {
     let pairs = three(&rt);
     let mut iter = pairs.iter();
     expect_length(&rt, &iter, 3);
-    assert_eq!(rt;
-        iter.next().and_then(|pair| pair.1.as_unsigned_integer()),
-        Some(1)
+    let (_key, value) = some(&rt, "the first pair", iter.next());
+    same(
+        &rt,
+        "the first number",
+        &value.as_unsigned_integer(),
+        &Some(1),
     );
     expect_length(&rt, &iter, 2);
 }
@@ -117,8 +137,10 @@ fn keys_give_the_order(rt: HostRuntime) {
     let pairs = three(&rt);
     let mut keys = pairs.keys();
     expect_length(&rt, &keys, 3);
-    assert_eq!(rt; keys.next().map(|key| key.as_str()), Some("a"));
-    assert_eq!(rt; keys.next().map(|key| key.as_str()), Some("b"));
+    let first = some(&rt, "the first key", keys.next());
+    same(&rt, "the first key", &first.as_str(), &"a");
+    let second = some(&rt, "the second key", keys.next());
+    same(&rt, "the second key", &second.as_str(), &"b");
 }
 
 #[test]
@@ -126,25 +148,32 @@ fn values_give_the_order(rt: HostRuntime) {
     let pairs = three(&rt);
     let mut values = pairs.values();
     expect_length(&rt, &values, 3);
-    assert_eq!(rt;
-        values.next().and_then(|value| value.as_unsigned_integer()),
-        Some(1)
+    let first = some(&rt, "the first value", values.next());
+    same(
+        &rt,
+        "the first number",
+        &first.as_unsigned_integer(),
+        &Some(1),
     );
-    assert_eq!(rt;
-        values.next().and_then(|value| value.as_unsigned_integer()),
-        Some(2)
+    let second = some(&rt, "the second value", values.next());
+    same(
+        &rt,
+        "the second number",
+        &second.as_unsigned_integer(),
+        &Some(2),
     );
 }
 
 // Checks the next pair of the iterator.
 fn expect_pair(rt: &impl Abort, next: Option<(String, Value)>, key: &str, value: u64) {
-    match next {
-        None => panic!(rt; "too few pairs"),
-        Some((name, number)) => {
-            assert_eq!(rt; name.as_str(), key);
-            assert_eq!(rt; number.as_unsigned_integer(), Some(value));
-        }
-    }
+    let (name, number) = some(rt, key, next);
+    same(rt, "the key", &name.as_str(), &key);
+    same(
+        rt,
+        "the number",
+        &number.as_unsigned_integer(),
+        &Some(value),
+    );
 }
 
 #[test]
@@ -158,7 +187,7 @@ fn into_iter_gives_the_order(rt: HostRuntime) {
 }
 
 fn expect_kind(rt: &impl Abort, value: Value, kind: EventKind) {
-    assert_eq!(rt; kind_of_value(&value), kind);
+    same(rt, "the kind", &kind_of_value(&value), &kind);
 }
 
 #[test]
@@ -200,5 +229,5 @@ fn dictionaries_in_values(rt: HostRuntime) {
     let value = one_pair(&rt, "k", two_items(&rt));
     let found = must(&rt, format!(in rt.alloc(); "{value:?}"));
     let wanted = "Dictionary({\"k\": Array([Dictionary({\"on\": Boolean(true)}), Integer(5)])})";
-    assert_eq!(rt; found.as_str(), wanted);
+    same(&rt, "the debug text", &found.as_str(), &wanted);
 }

@@ -2,7 +2,7 @@
 
 ghost use Rattle.std.specs.Prelude.{None};
 
-use crate::support::{expect_value, must};
+use crate::support::{expect_value, must, same};
 use plist::Value;
 use plist_base::{Limits, Source};
 use plist_binread::BinaryReader;
@@ -60,12 +60,17 @@ fn ends_where_no_memory_is_found(rt: HostRuntime) {
     let limits = Limits { depth: 9, items: 9 };
     let limited = BinaryReader::with_limits(rt.alloc(), Vast, limits);
     let found = must(&rt, words_of(rt.alloc(), limited));
-    assert_eq!(rt; found.as_str(), "OutOfMemory");
+    same(
+        &rt,
+        "the items under limits",
+        &found.as_str(),
+        &"OutOfMemory",
+    );
     let found = must(
         &rt,
         words_of(rt.alloc(), BinaryReader::new(rt.alloc(), Vast)),
     );
-    assert_eq!(rt; found.as_str(), "OutOfMemory");
+    same(&rt, "the items", &found.as_str(), &"OutOfMemory");
 }
 
 // Reading a value fails at data for which there is no memory.

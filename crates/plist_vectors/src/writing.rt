@@ -1,6 +1,6 @@
 //! `BinaryWriter` returns no I/O error of its own.
 
-use crate::support::{expect_answers, file_of_true, must, value_of};
+use crate::support::{expect_answers, file_of_true, must, same, value_of};
 use plist_binwrite::BinaryWriter;
 use plist_support::{Device, file};
 use std::process::Abort;
@@ -11,10 +11,15 @@ fn expect_two_sent(rt: &(impl Abort + AllocGlobal), device: &Device) {
     let mut both = file_of_true(rt);
     let second = must(rt, file(rt.alloc(), "a20101 5161 080b", [1, 1], [2, 0, 13]));
     must(rt, both.extend_from_slice(second.as_slice()));
-    assert_eq!(rt; device.bytes.as_slice(), both.as_slice());
-    assert_eq!(rt; device.flushed, both.len());
-    assert_eq!(rt; device.calls, 42 + 1 + 47 + 1);
-    assert_eq!(rt; device.failures, 0);
+    same(
+        rt,
+        "device.bytes",
+        &device.bytes.as_slice(),
+        &both.as_slice(),
+    );
+    same(rt, "device.flushed", &device.flushed, &both.len());
+    same(rt, "device.calls", &device.calls, &(42 + 1 + 47 + 1));
+    same(rt, "device.failures", &device.failures, &0);
 }
 
 // No I/O error is returned unless a call of the device fails.

@@ -1,6 +1,6 @@
 //! Events written as words, and checks of their values and writers.
 
-use crate::support::must;
+use crate::support::{must, same};
 use plist::{Builder, Value};
 use plist_base::{Error, Writer};
 use plist_support::words_of_events;
@@ -37,7 +37,7 @@ pub(crate) fn expect_value(
         Ok(value) => words_of_value(rt, &value),
         Err(error) => must(rt, error.to_string(rt.alloc())),
     };
-    assert_eq!(rt; words.as_str(), wanted);
+    same(rt, "the value", &words.as_str(), &wanted);
 }
 
 // Writes the events of these words to a writer, which must accept them.
