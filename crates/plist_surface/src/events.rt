@@ -31,21 +31,21 @@ pub fn event_at(number: u8) -> Option<Event<'static>> {
 
 // Prints an event after a blank.
 pub fn print_event<W: Write>(out: &mut W, event: &Event<'_>) -> Result<(), Error> {
-    match event {
-        Event::StartArray(Some(length)) => write!(out, " [{length}")?,
-        Event::StartArray(None) => write!(out, " [")?,
-        Event::StartDictionary(Some(length)) => write!(out, " {{{length}")?,
-        Event::StartDictionary(None) => write!(out, " {{")?,
-        Event::EndCollection => write!(out, " end")?,
-        Event::Boolean(flag) => write!(out, " {flag}")?,
-        Event::Data(bytes) => write!(out, " data:{}", bytes.as_slice().len())?,
-        Event::Date(date) => write!(out, " date:{}", date.plist_secs())?,
-        Event::Integer(number) => write!(out, " {number}")?,
-        Event::Real(bits) => write!(out, " real:{}", bits.to_f64())?,
-        Event::String(text) => write!(out, " {:?}", text.as_str())?,
-        Event::Uid(uid) => write!(out, " uid:{}", uid.get())?,
-    }
-    Ok(())
+    let printed = match event {
+        Event::StartArray(Some(length)) => write!(out, " [{length}"),
+        Event::StartArray(None) => write!(out, " ["),
+        Event::StartDictionary(Some(length)) => write!(out, " {{{length}"),
+        Event::StartDictionary(None) => write!(out, " {{"),
+        Event::EndCollection => write!(out, " end"),
+        Event::Boolean(flag) => write!(out, " {flag}"),
+        Event::Data(bytes) => write!(out, " data:{}", bytes.as_slice().len()),
+        Event::Date(date) => write!(out, " date:{}", date.plist_secs()),
+        Event::Integer(number) => write!(out, " {number}"),
+        Event::Real(bits) => write!(out, " real:{}", bits.to_f64()),
+        Event::String(text) => write!(out, " {:?}", text.as_str()),
+        Event::Uid(uid) => write!(out, " uid:{}", uid.get()),
+    };
+    Ok(printed?)
 }
 
 // Prints a line with a name and items.

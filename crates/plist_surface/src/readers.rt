@@ -57,24 +57,33 @@ pub fn inner_of_ascii<R: Read + Drop>(alloc: Global, inner: R) -> R {
     reader.into_inner()
 }
 
+// Prints the items within these limits, which the name states.
+fn print_within<W: Write>(
+    alloc: Global,
+    out: &mut W,
+    name: &str,
+    limits: Limits,
+) -> Result<(), Error> {
+    print_items(out, name, BinaryReader::with_limits(alloc, SHARED, limits))
+}
+
 fn print_limited<W: Write>(alloc: Global, out: &mut W) -> Result<(), Error> {
     let all: Limits = Limits {
         depth: 3,
         items: 14,
     };
-    print_items(out, "3 14", BinaryReader::with_limits(alloc, SHARED, all))?;
+    print_within(alloc, out, "3 14", all)?;
     let fewer = Limits {
         depth: 3,
         items: 13,
     };
-    print_items(out, "3 13", BinaryReader::with_limits(alloc, SHARED, fewer))?;
+    print_within(alloc, out, "3 13", fewer)?;
     let flat = Limits {
         depth: 2,
         items: 100,
     };
-    print_items(out, "2 100", BinaryReader::with_limits(alloc, SHARED, flat))?;
-    let both = Limits { depth: 2, items: 2 };
-    print_items(out, "2 2", BinaryReader::with_limits(alloc, SHARED, both))
+    print_within(alloc, out, "2 100", flat)?;
+    print_within(alloc, out, "2 2", Limits { depth: 2, items: 2 })
 }
 
 pub fn print<W: Write>(alloc: Global, out: &mut W) -> Result<(), Error> {
