@@ -116,9 +116,8 @@ fn try_put_collection<W: Write>(
     push_references(sink.buffer, plan, &mut keys) && push_references(sink.buffer, plan, &mut values)
 }
 
-// Puts the object of the scalar at an index, if it surely fits into the buffer and isn't a string
-// with characters outside ASCII, and returns whether it was put. If no scalar is at the index,
-// nothing is put.
+// Puts the object of the scalar at an index, if it surely fits into the buffer, and returns whether it
+// was put. If no scalar is at the index, nothing is put.
 #[inline(always)]
 fn try_put_scalar<W: Write>(sink: &mut Sink<'_, W>, events: &EventTable<'_>, index: usize) -> bool
     requires { index < length (plain_events events.now) }
@@ -135,8 +134,8 @@ fn try_put_scalar<W: Write>(sink: &mut Sink<'_, W>, events: &EventTable<'_>, ind
     }
 }
 
-// Puts the object of the tree that begins at an index, if it surely fits into the buffer and isn't a
-// string with characters outside ASCII, and returns whether it was put. At an end, nothing is put.
+// Puts the object of the tree that begins at an index, if it surely fits into the buffer, and returns
+// whether it was put. At an end, nothing is put.
 #[inline(always)]
 fn try_put_object<W: Write>(sink: &mut Sink<'_, W>, plan: &FilePlan<'_, '_>, index: usize) -> bool
     requires plan { IsFilePlan plan.now }
@@ -183,8 +182,8 @@ fn put_object<W: Write>(
 }
 
 // Puts the object of the event at an index and stores its offset, unless it was put before, and
-// returns `true`. If the object may not fit into the buffer, or is a string with characters outside
-// ASCII, nothing is put, and the result is `false`.
+// returns `true`. If the object may not fit into the buffer, nothing is put, and the result is
+// `false`.
 #[inline(always)]
 fn try_put_first<W: Write>(
     sink: &mut Sink<'_, W>,
@@ -234,8 +233,9 @@ fn put_first<W: Write>(
     put_object(sink, plan, index)
 }
 
-// Does for the event at an index what `try_put_first` does. An end has no object. The result is `false`
-// for a dictionary, which has keys.
+// Puts the object of the event at an index as `try_put_first` does, and returns whether it was put
+// now or before. An end has no object. For a dictionary, whose keys follow it, nothing is put, and the
+// result is `false`.
 #[inline(always)]
 fn try_put_here<W: Write>(
     sink: &mut Sink<'_, W>,

@@ -5,12 +5,12 @@
 ghost use Rattle.std.specs.Prelude.{◌≡◌, ◌+◌, ◌++◌, ◌∷◌, ◌≤◌, length, true, false};
 ghost use Rattle.plist_base.specs.Sinks.{buffered, room};
 ghost use Rattle.plist_base.specs.Trees as trees;
-ghost use Rattle.plist_binwrite.specs.Forms.{doublings, unsigned_form, length_form, scalar_form};
+ghost use Rattle.plist_binwrite.specs.Forms.{doublings, is_ascii_text, unsigned_form, length_form, scalar_form};
 ghost use Rattle.std.specs.Int.{bytes_high_first};
 ghost use Rattle.plist_buffer.specs.StoredScalars.{scalar_of_ref};
 ghost use Rattle.plist_format.specs.Marker.{byte_of, high_half};
 
-use crate::text::is_ascii_text;
+use crate::text::{count_units, is_ascii_text, push_units};
 use crate::widths::least_width;
 use plist_base::{Date, FixedBuffer, Integer, RealBits, Uid};
 use plist_buffer::stored_scalar::ScalarRef;
@@ -163,8 +163,22 @@ pub fn push_integer(buffer: &mut FixedBuffer, value: Integer)
     }
 }
 
-// Pushes a string, if it is ASCII and surely fits into the buffer, and returns whether it was
-// pushed.
+// Pushes a string in UTF-16, if it surely fits into the buffer, and returns whether it was pushed.
+fn push_wide_text(buffer: &mut FixedBuffer, text: &str) -> bool
+    requires wide { is_ascii_text text.now ≡ false }
+    ensures pushed { result ≡ true
+        → buffered buffer.new ≡ buffered buffer.old ++ scalar_form (trees.String text.now) }
+    ensures unchanged { result ≡ false → buffer.new ≡ buffer.old }
+{
+    let count = count_units(text);
+    if count > 30_000 || buffer.room() < 32 + 2 * count {
+        return false;
+    }
+    push_length(buffer, CountedKind::WideText, count as u64);
+    push_units(buffer, &mut text.chars())
+}
+
+// Pushes a string, if it surely fits into the buffer, and returns whether it was pushed.
 #[inline(always)]
 fn push_text(buffer: &mut FixedBuffer, text: &str) -> bool
     requires { 17 ≤ room buffer.old }
@@ -172,8 +186,11 @@ fn push_text(buffer: &mut FixedBuffer, text: &str) -> bool
         → buffered buffer.new ≡ buffered buffer.old ++ scalar_form (trees.String text.now) }
     ensures unchanged { result ≡ false → buffer.new ≡ buffer.old }
 {
-    if text.len() > buffer.room() - 10 || !is_ascii_text(text) {
+    if text.len() > buffer.room() - 10 {
         return false;
+    }
+    if !is_ascii_text(text) {
+        return push_wide_text(buffer, text);
     }
     push_length(buffer, CountedKind::Text, text.len() as u64);
     buffer.push(text.as_bytes());
@@ -197,8 +214,7 @@ fn push_data(buffer: &mut FixedBuffer, bytes: &[u8]) -> bool
 }
 
 /// Pushes the object of a scalar, and returns `true`. If the scalar is a string or data for which
-/// there may be no room, or a string that isn't ASCII, nothing is pushed, and the result is
-/// `false`. There must be room for 17 bytes. A loop calls this before `put_scalar`, because then no
+/// there may be no room, nothing is pushed, and the result is `false`. There must be room for 17 bytes. A loop calls this before `put_scalar`, because then no
 /// large `Result` is zeroed.
 #[inline(always)]
 pub fn push_scalar(buffer: &mut FixedBuffer, scalar: ScalarRef<'_>) -> bool

@@ -1,52 +1,71 @@
 //! Puts strings, in ASCII or in UTF-16.
 
-ghost use Rattle.std.specs.Prelude.{◌≡◌, ◌++◌, Ok, true, false, length};
+ghost use Rattle.std.specs.Prelude.{◌≡◌, ◌≤◌, ◌<◌, ◌+◌, ◌*◌, ◌++◌, [], true, false, length};
+ghost use Rattle.std.specs.Str.{IsUtf8};
+ghost use Rattle.std.specs.Str.Iter.{chars_rest};
 ghost use Rattle.std.specs.Char.Escape.{encode_utf16};
 ghost use Rattle.plist_base.specs.Trees.{String};
 ghost use Rattle.plist_binwrite.specs.Forms.{units_of, is_ascii_text, length_form, scalar_form, table_form};
-ghost use Rattle.plist_base.specs.Sinks.{Puts, PutsBytes, PutsNothing};
+ghost use Rattle.plist_base.specs.Sinks.{Puts, buffered, room};
+ghost use Rattle.plist_binwrite.specs.inner.Layout.{PushesUnits};
 
-use crate::forms::{CountedKind, put_length, put_number, try_put_number};
-use plist_base::{Error, Sink};
+use crate::forms::{CountedKind, put_length};
+use crate::push::push_number;
+use plist_base::{Error, FixedBuffer, Sink};
 use std::io::Write;
+use std::str::Chars;
 
-// Puts the UTF-16 units of a character, each in two bytes in big-endian order.
-fn put_char<W: Write>(sink: &mut Sink<'_, W>, c: char) -> Result<(), Error>
-    ensures { Puts W.contents sink.old (table_form 2 (encode_utf16 c)) result sink.new }
+// Pushes the UTF-16 units of a character, each in two bytes in big-endian order.
+#[inline(always)]
+fn push_char(buffer: &mut FixedBuffer, c: char)
+    requires { 16 ≤ room buffer.old }
+    ensures pushed { buffered buffer.new ≡ buffered buffer.old ++ table_form 2 (encode_utf16 c) }
+    ensures room { room buffer.new + 2 * length (encode_utf16 c) ≡ room buffer.old }
 {
     let code = u64::from(c as u32);
     if code < 0x1_0000 {
-        return put_number(sink, 2, code);
+        push_number(buffer, 2, code);
+        return;
     }
     let above = code - 0x1_0000;
-    put_number(sink, 2, 0xd800 + above / 0x400)?;
-    put_number(sink, 2, 0xdc00 + above % 0x400)
+    push_number(buffer, 2, 0xd800 + above / 0x400);
+    push_number(buffer, 2, 0xdc00 + above % 0x400);
 }
 
-// Puts a character and returns `true`, if it has a single UTF-16 unit and this fits into the buffer
-// of the sink. Otherwise puts nothing and returns `false`.
+/// Pushes the UTF-16 units of the characters that an iterator still has to yield, as long as there
+/// is room for sixteen bytes, and returns whether all are pushed. There must be room for sixteen
+/// bytes.
 #[inline(always)]
-fn try_put_char<W: Write>(sink: &mut Sink<'_, W>, c: char) -> bool
-    ensures put { result ≡ true → PutsBytes W.contents sink.old (table_form 2 (encode_utf16 c))
-        (Ok tt) sink.new }
-    ensures unchanged { result ≡ false → PutsNothing sink.old sink.new }
+pub fn push_units(buffer: &mut FixedBuffer, chars: &mut Chars<'_>) -> bool
+    requires utf8 { IsUtf8 (chars_rest chars.old) }
+    requires room { 16 ≤ room buffer.old }
+    ensures pushed { PushesUnits (buffer.old, chars_rest chars.old)
+        (buffer.new, chars_rest chars.new) }
+    ensures all { result ≡ true → chars_rest chars.new ≡ [] }
+    ensures some { result ≡ false → length (units_of (chars_rest chars.new))
+        < length (units_of (chars_rest chars.old)) }
+    ensures fits { 16 + 2 * length (units_of (chars_rest chars.old)) ≤ room buffer.old
+        → result ≡ true }
 {
-    let code = u64::from(c as u32);
-    if code < 0x1_0000 {
-        return try_put_number(sink, 2, code);
+    while let Some(c) = chars.next() {
+        push_char(buffer, c);
+        if buffer.room() < 16 {
+            return false;
+        }
     }
-    false
+    true
 }
 
 fn put_units<W: Write>(sink: &mut Sink<'_, W>, text: &str) -> Result<(), Error>
     ensures { Puts W.contents sink.old (table_form 2 (units_of text.now)) result sink.new }
 {
-    for c in text.chars() {
-        if !try_put_char(sink, c) {
-            put_char(sink, c)?;
+    let mut chars = text.chars();
+    loop {
+        sink.make_room(16)?;
+        if push_units(sink.buffer, &mut chars) {
+            return Ok(());
         }
     }
-    Ok(())
 }
 
 // Returns the number of UTF-16 units of a character.

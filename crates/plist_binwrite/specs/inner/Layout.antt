@@ -1,6 +1,7 @@
 -- A planned file, the order of its objects, and their offsets.
 use Rattle.std.specs.Prelude.{◌≡◌, ◌≢◌, ℕ, ◌+◌, ◌*◌, ◌^◌, ◌<◌, ◌≤◌, true, false, eqb, List, ◌++◌, length, slice_index, map, Option, Ok, OnOk}
 use Rattle.std.specs.List.{list_any, IsDistinct}
+use Rattle.std.specs.Str.{IsUtf8}
 use Rattle.plist_base.specs.Bracketing.{lengthless}
 use Rattle.plist_base.specs.Sinks.{HasPut, PutsBytes, buffered, room}
 use Rattle.plist_base.specs.declared.fixed_buffer.FixedBuffer.{FixedBuffer}
@@ -16,7 +17,7 @@ use Rattle.plist_format.specs.Marker.{high_half}
 use Rattle.plist_format.specs.declared.marker.CountedKind.{CountedKind}
 use Rattle.plist_binwrite.specs.Classes.{size_by}
 use Rattle.plist_binwrite.specs.EventClasses.{events_in, class_in}
-use Rattle.plist_binwrite.specs.Forms.{IsWritable, form, length_form, reference_width, table_form}
+use Rattle.plist_binwrite.specs.Forms.{IsWritable, form, length_form, reference_width, table_form, units_of}
 use Rattle.plist_binwrite.specs.Numberings.{Describes}
 use Rattle.plist_binwrite.specs.Written.{Laid, file_with, laid_out}
 use Rattle.plist_binwrite.specs.declared.plan.FilePlan.{FilePlan}
@@ -31,6 +32,15 @@ pub record IsOrder (count : ℕ) (order places : List ℕ) : Type 0 where
   pub below : (k : ℕ) → list_any (eqb k) order ≡ true → k < count
   pub marked : (k : ℕ) → list_any (eqb k) order ≡ true → slice_index places k ≢ 0
   pub others : (k : ℕ) → list_any (eqb k) order ≡ false → slice_index places k ≡ 0
+
+-- the UTF-16 units of the first characters of a text are pushed; `old` and `new` are the buffer and
+-- the text that is left
+pub record PushesUnits (old new : FixedBuffer × List ℕ) : Type 0 where
+  pub front : List ℕ
+  pub left : units_of old.1 ≡ front ++ units_of new.1
+  pub utf8 : IsUtf8 new.1
+  pub pushed : buffered new.0 ≡ buffered old.0 ++ table_form 2 front
+  pub fewer : room new.0 + 2 * length front ≡ room old.0
 
 module _ (plan : FilePlan) where
   -- the number of the object of the event at an index

@@ -1,14 +1,16 @@
-use Rattle.std.proofs.Common.{◌≡◌, ℕ, List, ◌++◌, IsUtf8, flat_map, Ok}
+use Rattle.std.proofs.Common.{◌≡◌, ◌++◌, ℕ, List, IsUtf8, Ok, length}
 use Rattle.std.specs.Str.Iter.{chars_rest}
-use Rattle.plist_binwrite.specs.Forms.{units_of}
-use Rattle.std.specs.Int.{bytes_high_first}
 use Rattle.plist_base.specs.Sinks.{PutsBytes}
+use Rattle.plist_binwrite.specs.Forms.{table_form, units_of}
 use Rattle.plist_binwrite.proofs.text.put_units.Given as goal
 
-abbrev pub invariant-loop-c : goal.invariant-loop-c
-invariant-loop-c g l =
-    IsUtf8 (chars_rest l.c-iterator)
-    × ((done : List ℕ) × PutsBytes g.W.Write.contents l.initial.sink done
-    (Ok tt) l.sink
-    × (done ++ flat_map (bytes_high_first 2) (units_of (chars_rest l.c-iterator))
-    ≡ flat_map (bytes_high_first 2) (units_of l.text)))
+abbrev pub invariant-loop-sink : goal.invariant-loop-sink
+invariant-loop-sink g l = record {
+  utf8 : IsUtf8 (chars_rest l.chars);
+  done : List ℕ;
+  put : PutsBytes g.W.Write.contents l.fn.sink (table_form 2 done) (Ok tt) l.sink;
+  left : done ++ units_of (chars_rest l.chars) ≡ units_of l.text;
+}
+
+abbrev pub decreases-loop-sink : goal.decreases-loop-sink
+decreases-loop-sink g l = length (units_of (chars_rest l.chars))

@@ -1,0 +1,19 @@
+use Rattle.std.proofs.Common.{◌++◌, ap, append_assoc, length, ◌∙◌}
+use Rattle.plist_base.specs.Sinks.{buffered}
+use Rattle.plist_binwrite.specs.Forms.{length_form, table_form, units_of}
+use Rattle.plist_binwrite.proofs.Reading.{units_empty}
+use Rattle.plist_binwrite.proofs.UnitLists.{whole_units}
+use Rattle.plist_binwrite.proofs.push.push_wide_text.Goals as goal
+
+pub returns-clause-pushed : goal.returns-clause-pushed
+returns-clause-pushed c = λ done.
+    let text = c.args.text.now in
+    let before = buffered c.args.buffer.now in
+    let pushed = c.push_units.ensures.pushed in
+    let none = units_empty _ (ap length (c.push_units.ensures.all done)) in
+    let all = whole_units pushed none ∙ ap units_of c.chars.ensures.rest in
+    rw c.requires.wide
+    (pushed.pushed ∙ ap (λ l. l ++ table_form 2 pushed.front)
+    (rw c.count_units-count.ensures.value at c.push_length.ensures.pushed)
+    ∙ append_assoc before (length_form 0x6 (length (units_of text))) (table_form 2 pushed.front)
+    ∙ ap (λ l. before ++ (length_form 0x6 (length (units_of text)) ++ table_form 2 l)) all)
