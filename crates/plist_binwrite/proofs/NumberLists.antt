@@ -13,7 +13,7 @@ use Rattle.plist_buffer.specs.declared.children.Child.TheVariants.{Key, Value}
 use Rattle.plist_buffer.specs.declared.children.Half.TheVariants.{Keys, Values}
 use Rattle.plist_buffer.specs.inner.UnclosedStarts.{skip_after}
 use Rattle.plist_binwrite.specs.declared.plan.FilePlan.{FilePlan}
-use Rattle.plist_binwrite.specs.inner.Layout.{PushesReferences, number_in}
+use Rattle.plist_binwrite.specs.inner.Layout.{PushesReferences, number_of_event}
 use Rattle.std.specs.List.{flat_map}
 use Rattle.std.proofs.lemmas.Grind.{flat_map-append}
 use Rattle.std.proofs.lemmas.List.{take-append-drop, take_more}
@@ -52,7 +52,7 @@ module _ (f : ℕ → List ℕ) (xs : List ℕ) (i : ℕ) (lt : i < length xs) w
 -- one more reference is pushed
 pub pushes_one : {plan : FilePlan} {a b c : FixedBuffer} {all rest : List ℕ} (child : ℕ)
     → PushesReferences plan (a, all) (b, child ∷ rest)
-    → buffered c ≡ buffered b ++ bytes_high_first plan.width (number_in plan child)
+    → buffered c ≡ buffered b ++ bytes_high_first plan.width (number_of_event plan child)
     → room c + plan.width ≡ room b → PushesReferences plan (a, all) (c, rest)
 pushes_one {plan} {a} {b} {c} {all} {rest} child p pushed less = record {
   front = p.front ++ child ∷ [];
@@ -70,16 +70,16 @@ pushes_one {plan} {a} {b} {c} {all} {rest} child p pushed less = record {
 }
   where
     bytes : List ℕ
-    bytes = bytes_high_first plan.width (number_in plan child)
+    bytes = bytes_high_first plan.width (number_of_event plan child)
 
     table : List ℕ → List ℕ
-    table indices = table_form plan.width (map (number_in plan) indices)
+    table indices = table_form plan.width (map (number_of_event plan) indices)
 
     more : table (p.front ++ child ∷ []) ≡ table p.front ++ bytes
     more =
-        ap (table_form plan.width) (map-append (number_in plan) p.front (child ∷ []))
-        ∙ flat_map-append (bytes_high_first plan.width) (map (number_in plan) p.front)
-        (number_in plan child ∷ [])
+        ap (table_form plan.width) (map-append (number_of_event plan) p.front (child ∷ []))
+        ∙ flat_map-append (bytes_high_first plan.width) (map (number_of_event plan) p.front)
+        (number_of_event plan child ∷ [])
         ∙ ap (λ l. table p.front ++ l) (append-nil bytes)
 
 -- what is left of a list after its front
@@ -90,14 +90,14 @@ all_behind P (x ∷ front) rest all = all_behind P front rest all.1
 
 -- the bytes of the references that are pushed, and of those that are left
 pub references_split : {plan : FilePlan} {old new : FixedBuffer × List ℕ}
-    (p : PushesReferences plan old new) → table_form plan.width (map (number_in plan) p.front)
-    ++ table_form plan.width (map (number_in plan) new.1)
-    ≡ table_form plan.width (map (number_in plan) old.1)
+    (p : PushesReferences plan old new) → table_form plan.width (map (number_of_event plan) p.front)
+    ++ table_form plan.width (map (number_of_event plan) new.1)
+    ≡ table_form plan.width (map (number_of_event plan) old.1)
 references_split {plan} {old} {new} p =
-    sym (flat_map-append (bytes_high_first plan.width) (map (number_in plan) p.front)
-    (map (number_in plan) new.1))
-    ∙ ap (table_form plan.width) (sym (map-append (number_in plan) p.front new.1))
-    ∙ ap (λ l. table_form plan.width (map (number_in plan) l)) (sym p.left)
+    sym (flat_map-append (bytes_high_first plan.width) (map (number_of_event plan) p.front)
+    (map (number_of_event plan) new.1))
+    ∙ ap (table_form plan.width) (sym (map-append (number_of_event plan) p.front new.1))
+    ∙ ap (λ l. table_form plan.width (map (number_of_event plan) l)) (sym p.left)
 
 -- all references are pushed
 module _ {plan : FilePlan} {old new : FixedBuffer × List ℕ} (p : PushesReferences plan old new)
@@ -106,9 +106,9 @@ module _ {plan : FilePlan} {old new : FixedBuffer × List ℕ} (p : PushesRefere
   whole_front = sym (append-nil p.front) ∙ ap (λ l. p.front ++ l) (sym none) ∙ sym p.left
 
   pub whole_pushed : buffered new.0
-      ≡ buffered old.0 ++ table_form plan.width (map (number_in plan) old.1)
+      ≡ buffered old.0 ++ table_form plan.width (map (number_of_event plan) old.1)
   whole_pushed =
-      p.pushed ∙ ap (λ l. buffered old.0 ++ table_form plan.width (map (number_in plan) l)) whole_front
+      p.pushed ∙ ap (λ l. buffered old.0 ++ table_form plan.width (map (number_of_event plan) l)) whole_front
 
 -- ---- keys
 

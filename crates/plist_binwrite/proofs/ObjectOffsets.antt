@@ -25,7 +25,7 @@ use Rattle.plist_binwrite.specs.EventClasses.{events_in}
 use Rattle.std.proofs.lemmas.Bool.Decides.{leb_tells}
 use Rattle.std.proofs.Math.ListN.{get_or-eq_default}
 use Rattle.plist_binwrite.specs.declared.plan.FilePlan.{FilePlan}
-use Rattle.plist_binwrite.specs.inner.Layout.{AreObjectsOf, ArePut, HasPlace, IsFilePlan, IsLayout, IsOrder, KeepsPlaces, PutsAt, PutsFile, number_in}
+use Rattle.plist_binwrite.specs.inner.Layout.{AreObjectsOf, ArePut, HasPlace, IsFilePlan, IsLayout, IsOrder, KeepsPlaces, PutsAt, PutsFile, number_of_event}
 use Rattle.plist_binwrite.specs.inner.ObjectSizes.{total_below}
 use Rattle.plist_base.specs.Trees.{Tree, Leaf, Array, Dictionary}
 use Rattle.plist_buffer.specs.EventTable.{HasItem}
@@ -418,10 +418,10 @@ module _ {plan : FilePlan} (r : IsFilePlan plan) {W : Type 0} {contents : W → 
     }
 
     module _ (p : ℕ) (item : HasItem (events_in plan.given) p)
-        (free : get_or places (number_in plan p) 0 ≡ 0) (v : ℕ)
+        (free : get_or places (number_of_event plan p) 0 ≡ 0) (v : ℕ)
         (is : (n : ℕ) → HasPut sink n → n < 2 ^ 64 → v ≡ n) where
       abbrev k : ℕ
-      k = number_in plan p
+      k = number_of_event plan p
 
       below : k < plan.numbering.count
       below = numbers_below r.numbered.planned p item.0 item.1
@@ -429,7 +429,7 @@ module _ {plan : FilePlan} (r : IsFilePlan plan) {W : Type 0} {contents : W → 
       -- the object of one more event is put
       pub put_next : {answer : Answer} {new : Sink W}
           → ((t : Tree) → OccursAt (events_in plan.given) t p
-          → PutsBytes contents sink (form plan.width (object_of (number_in plan) t p)) answer new)
+          → PutsBytes contents sink (form plan.width (object_of (number_of_event plan) t p)) answer new)
           → ArePut plan contents start (set places k v) answer new
       put_next put =
           let u = occurs_at (events_in plan.given) r.numbered.planned.whole p item.0 item.1 in
@@ -462,13 +462,13 @@ number_told (Some m) default v is n same small = is ∙ same
 -- the object of an event is put
 pub puts_first : {plan : FilePlan} (r : IsFilePlan plan) {W : Type 0}
     {contents : W → Option (List ℕ)} {places : List ℕ} {sink new : Sink W} (p : ℕ)
-    (item : HasItem (events_in plan.given) p) (free : get_or places (number_in plan p) 0 ≡ 0)
+    (item : HasItem (events_in plan.given) p) (free : get_or places (number_of_event plan p) 0 ≡ 0)
     (v : ℕ) (is : (n : ℕ) → HasPut sink n → n < 2 ^ 64 → v ≡ n) (answer : Answer)
     → ((t : Tree) → OccursAt (events_in plan.given) t p
-    → PutsBytes contents sink (form plan.width (object_of (number_in plan) t p)) answer new)
-    → PutsAt plan contents p (places, sink) answer (set places (number_in plan p) v, new)
+    → PutsBytes contents sink (form plan.width (object_of (number_of_event plan) t p)) answer new)
+    → PutsAt plan contents p (places, sink) answer (set places (number_of_event plan p) v, new)
 puts_first {plan} r {places = places} p item free v is answer put = record {
-  long = length-set places (number_in plan p) v;
+  long = length-set places (number_of_event plan p) v;
   step = λ start none a. (
     put_next r a none p item free v is put,
     put_kept r a none p item free v is,

@@ -20,7 +20,7 @@ use Rattle.plist_format.specs.declared.marker.CountedKind.TheVariants as counted
 use Rattle.plist_binwrite.specs.EventClasses.{events_in}
 use Rattle.plist_binwrite.specs.declared.plan.FilePlan.{FilePlan}
 use Rattle.plist_binwrite.specs.declared.size.ObjectSizes.{ObjectSizes}
-use Rattle.plist_binwrite.specs.inner.Layout.{collection_form, number_in}
+use Rattle.plist_binwrite.specs.inner.Layout.{collection_form, number_of_event}
 use Rattle.plist_buffer.specs.inner.Entries.{is_leaf}
 use Rattle.plist_buffer.proofs.TreeOccurrences.{occurs_whole, occurs_items, occurs_pairs, occurs_item, occurs_next, occurs_key, occurs_value, occurs_next_pair}
 use Rattle.plist_buffer.proofs.TreeStarts.{stands_single, starts_array, starts_dictionary, no_start, begins, occurs_in}
@@ -162,7 +162,7 @@ module _ (plan : FilePlan) where
   es = events_in plan.given
 
   abbrev num : ℕ → ℕ
-  num = number_in plan
+  num = number_of_event plan
 
   -- the bytes of the object of a tree that begins at an index
   abbrev tree_form : Tree → (index : ℕ) → List ℕ

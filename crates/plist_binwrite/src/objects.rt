@@ -12,7 +12,7 @@ ghost use Rattle.plist_binwrite.specs.Forms.{form, scalar_form};
 ghost use Rattle.plist_binwrite.specs.Numberings.{object_of};
 ghost use Rattle.plist_buffer.specs.Children.{indices_left};
 ghost use Rattle.plist_buffer.specs.Occurrences.{OccursAt};
-ghost use Rattle.plist_binwrite.specs.inner.Layout.{ArePut, IsFilePlan, PushesReferences, PutsAt, collection_form, number_in, references_of};
+ghost use Rattle.plist_binwrite.specs.inner.Layout.{ArePut, IsFilePlan, PushesReferences, PutsAt, collection_form, number_of_event, references_of};
 
 use crate::forms::{CountedKind, put_length, put_scalar};
 use crate::plan::FilePlan;
@@ -142,7 +142,7 @@ fn try_put_object<W: Write>(sink: &mut Sink<'_, W>, plan: &FilePlan<'_, '_>, ind
     requires index { index < length (events_in plan.now.given) }
     ensures put { result ≡ true → (tree : Tree) → OccursAt (events_in plan.now.given) tree index
         → PutsBytes W.contents sink.old (form plan.now.width
-        (object_of (number_in plan.now) tree index)) (Ok tt) sink.new }
+        (object_of (number_of_event plan.now) tree index)) (Ok tt) sink.new }
     ensures unchanged { result ≡ false → PutsNothing sink.old sink.new }
 {
     match plan.given.events.kind_at(index) {
@@ -169,7 +169,7 @@ fn put_object<W: Write>(
     requires index { index < length (events_in plan.now.given) }
     ensures { (tree : Tree) → OccursAt (events_in plan.now.given) tree index
         → Puts W.contents sink.old (form plan.now.width
-        (object_of (number_in plan.now) tree index)) result sink.new }
+        (object_of (number_of_event plan.now) tree index)) result sink.new }
 {
     match plan.given.events.kind_at(index) {
         EventShape::StartArray => put_collection(sink, plan, index, CountedKind::Array),

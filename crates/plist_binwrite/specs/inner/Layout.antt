@@ -44,12 +44,12 @@ pub record PushesUnits (old new : FixedBuffer × List ℕ) : Type 0 where
 
 module _ (plan : FilePlan) where
   -- the number of the object of the event at an index
-  abbrev pub number_in : (index : ℕ) → ℕ
-  number_in = object_number plan.given plan.numbering
+  abbrev pub number_of_event : (index : ℕ) → ℕ
+  number_of_event = object_number plan.given plan.numbering
 
   -- these are the objects of a planned file
   abbrev pub AreObjectsOf : (ℕ → Object) → Type 0
-  AreObjectsOf objects = Describes (events_in plan.given) number_in objects
+  AreObjectsOf objects = Describes (events_in plan.given) number_of_event objects
 
   -- the file of the tree with these events is planned; it has less than 2^64 bytes
   pub record IsFilePlan : Type 0 where
@@ -66,7 +66,7 @@ module _ (plan : FilePlan) where
   -- the references to a half of the children of the collection that begins at an index
   abbrev pub references_of : Half → (index : ℕ) → List ℕ
   references_of half index =
-      table_form plan.width (map number_in (half_of (events_in plan.given) half index))
+      table_form plan.width (map number_of_event (half_of (events_in plan.given) half index))
 
   -- the bytes of a collection: its length, and the references to its keys and to its items or values
   abbrev pub collection_form : CountedKind → (index : ℕ) → List ℕ
@@ -79,12 +79,12 @@ module _ (plan : FilePlan) where
   pub record PushesReferences (old new : FixedBuffer × List ℕ) : Type 0 where
     pub front : List ℕ
     pub left : old.1 ≡ front ++ new.1
-    pub pushed : buffered new.0 ≡ buffered old.0 ++ table_form plan.width (map number_in front)
+    pub pushed : buffered new.0 ≡ buffered old.0 ++ table_form plan.width (map number_of_event front)
     pub fewer : room new.0 + plan.width * length front ≡ room old.0
 
   -- the object of the event at this index has an offset
   abbrev pub HasPlace : (places : List ℕ) → (index : ℕ) → Type 0
-  HasPlace places index = slice_index places (number_in index) ≢ 0
+  HasPlace places index = slice_index places (number_of_event index) ≢ 0
 
   -- each object that had an offset has one
   abbrev pub KeepsPlaces : (old new : List ℕ) → Type 0

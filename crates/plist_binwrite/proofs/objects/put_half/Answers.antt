@@ -4,13 +4,13 @@ use Rattle.plist_base.proofs.SinkSteps.{puts_as, puts_pending, puts_refused, put
 use Rattle.plist_buffer.proofs.ChildIndices.{are_items}
 use Rattle.plist_binwrite.specs.Forms.{table_form}
 use Rattle.plist_binwrite.specs.declared.plan.FilePlan.{FilePlan}
-use Rattle.plist_binwrite.specs.inner.Layout.{number_in}
+use Rattle.plist_binwrite.specs.inner.Layout.{number_of_event}
 use Rattle.plist_binwrite.proofs.NumberLists.{all_behind, references_split, whole_front}
 use Rattle.plist_binwrite.proofs.objects.put_half.Goals as goal
 
 -- the references to the events at these indices
 abbrev table : FilePlan → List ℕ → List ℕ
-table plan indices = table_form plan.width (map (number_in plan) indices)
+table plan indices = table_form plan.width (map (number_of_event plan) indices)
 
 pub loop-sink-init : goal.loop-sink-init
 loop-sink-init g c = record {

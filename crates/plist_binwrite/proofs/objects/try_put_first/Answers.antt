@@ -1,11 +1,11 @@
 use Rattle.std.proofs.Common.{◌≡◌, ◌<◌, ◌^◌, ℕ, Ok, ap, arith, get_or, sym, ◌∙◌}
 use Rattle.plist_base.specs.Sinks.{HasPut}
-use Rattle.plist_binwrite.specs.inner.Layout.{number_in}
+use Rattle.plist_binwrite.specs.inner.Layout.{number_of_event}
 use Rattle.plist_binwrite.proofs.ObjectOffsets.{number_told, puts_first}
 use Rattle.plist_binwrite.proofs.objects.try_put_first.Goals as goal
 use Rattle.plist_binwrite.proofs.objects.try_put_first.Goals.{After-try_put_object as Tried}
 
-free : (g : _) (c : Tried g) → get_or c.args.places.now (number_in c.args.plan.now c.args.index) 0 ≡ 0
+free : (g : _) (c : Tried g) → get_or c.args.places.now (number_of_event c.args.plan.now c.args.index) 0 ≡ 0
 free g c =
     let zero : get_or c.args.places.now c.number-number.result 0 ≡ 0 = omega arith in
     ap (λ k. get_or c.args.places.now k 0) (sym c.number-number.ensures) ∙ zero
