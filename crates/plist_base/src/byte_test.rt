@@ -124,7 +124,8 @@ fn copy_eight<T: ByteTest>(bytes: &[u8], target: &mut [u8], at: usize) -> bool
 fn copy_many<T: ByteTest>(bytes: &[u8], target: &mut [u8]) -> bool
     requires many { 16 ≤ length bytes.now }
     requires same { length target.old ≡ length bytes.now }
-    ensures copied { result ≡ true → CopiesPassing T.passes (length bytes.now) bytes.now target.new }
+    ensures copied { result ≡ true
+        → CopiesPassing T.passes (length bytes.now) bytes.now target.new }
     ensures size { length target.new ≡ length target.old }
 {
     let last = bytes.len() - 16;
@@ -144,7 +145,8 @@ fn copy_many<T: ByteTest>(bytes: &[u8], target: &mut [u8]) -> bool
 fn copy_some<T: ByteTest>(bytes: &[u8], target: &mut [u8]) -> bool
     requires some { (8 ≤ length bytes.now) × (length bytes.now ≤ 16) }
     requires same { length target.old ≡ length bytes.now }
-    ensures copied { result ≡ true → CopiesPassing T.passes (length bytes.now) bytes.now target.new }
+    ensures copied { result ≡ true
+        → CopiesPassing T.passes (length bytes.now) bytes.now target.new }
     ensures size { length target.new ≡ length target.old }
 {
     if !copy_eight::<T>(bytes, target, 0) {
@@ -157,7 +159,8 @@ fn copy_some<T: ByteTest>(bytes: &[u8], target: &mut [u8]) -> bool
 #[inline(always)]
 fn copy_few<T: ByteTest>(bytes: &[u8], target: &mut [u8]) -> bool
     requires { length target.old ≡ length bytes.now }
-    ensures copied { result ≡ true → CopiesPassing T.passes (length bytes.now) bytes.now target.new }
+    ensures copied { result ≡ true
+        → CopiesPassing T.passes (length bytes.now) bytes.now target.new }
     ensures size { length target.new ≡ length target.old }
 {
     for index in 0..bytes.len() {

@@ -142,8 +142,8 @@ impl FixedBuffer {
         self.used = end;
     }
 
-    /// Appends `before`, `bytes` and `after` if all of `bytes` pass a test, and returns whether they
-    /// do. All three must fit into the room.
+    /// Appends `before`, `bytes` and `after` if all of `bytes` pass a test, and returns whether
+    /// they do. All three must fit into the room.
     #[inline(always)]
     pub fn push_passing<T: ByteTest, const BEFORE: usize, const AFTER: usize>(
         &mut self,

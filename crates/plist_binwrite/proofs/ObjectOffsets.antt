@@ -395,7 +395,7 @@ module _ {plan : FilePlan} (r : IsFilePlan plan) {W : Type 0} {contents : W → 
 
   module _ {places : List ℕ} {sink : Sink W} (a : ArePut plan contents start places (Ok tt) sink)
       (none : HasPut start 0) where
-    -- so many bytes were put
+    -- this number of bytes was put
     pub position_is : (v : ℕ) → ((n : ℕ) → HasPut sink n → n < 2 ^ 64 → v ≡ n)
         → v ≡ length (laid_out plan.width a.objects a.order)
     position_is v is =

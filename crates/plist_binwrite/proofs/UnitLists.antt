@@ -1,4 +1,4 @@
--- The UTF-16 units of a text that are pushed one after another.
+-- The UTF-16 units of a string that are pushed one after another.
 use Rattle.std.proofs.Common.{◌≡◌, ◌+◌, ◌*◌, ◌≤◌, ℕ, inl, inr, List, [], ◌++◌, length, ap, sym, ◌∙◌, arith, append-nil, append_assoc, length-append}
 use Rattle.std.specs.Char.Escape.{encode_utf16}
 use Rattle.std.specs.Char.{encode_utf8}

@@ -23,8 +23,9 @@ use plist_buffer::children::{Children, Half};
 use plist_buffer::event_table::EventTable;
 use std::io::Write;
 
-// Pushes references to the children that an iterator still has to yield, as long as there is room for
-// eight bytes, and returns whether all are pushed. There must be room for eight bytes.
+// Pushes references to the children that an iterator still has to yield. If less than eight bytes
+// of room are left after one, returns `false`, even if it is the last one. Otherwise returns `true`
+// once all are pushed. There must be room for eight bytes, since a push copies that many.
 #[inline(always)]
 fn push_references(
     buffer: &mut FixedBuffer,
@@ -32,7 +33,8 @@ fn push_references(
     children: &mut Children<'_, '_>,
 ) -> bool
     requires plan { IsFilePlan plan.now }
-    requires items { AllByRecursion (HasItem (events_in plan.now.given)) (indices_left children.old) }
+    requires items { AllByRecursion (HasItem (events_in plan.now.given))
+        (indices_left children.old) }
     requires room { 8 ≤ room buffer.old }
     ensures pushed { PushesReferences plan.now (buffer.old, indices_left children.old)
         (buffer.new, indices_left children.new) }
@@ -106,7 +108,8 @@ fn try_put_collection<W: Write>(
 {
     let events = plan.given.events;
     let count = count_children(events, index, Half::Values);
-    // There are as many keys as values, if any, and a reference has at most eight bytes.
+    // A reference has at most eight bytes, and there are as many keys as values, if any. The first
+    // test keeps the product small.
     if count > 2048 || sink.room() < 32 + 16 * count {
         return false;
     }
@@ -116,8 +119,8 @@ fn try_put_collection<W: Write>(
     push_references(sink.buffer, plan, &mut keys) && push_references(sink.buffer, plan, &mut values)
 }
 
-// Puts the object of the scalar at an index, if it surely fits into the buffer, and returns whether it
-// was put. If no scalar is at the index, nothing is put.
+// Puts the object of the scalar at an index, if it surely fits into the buffer, and returns whether
+// it was put. If no scalar is at the index, nothing is put.
 #[inline(always)]
 fn try_put_scalar<W: Write>(sink: &mut Sink<'_, W>, events: &EventTable<'_>, index: usize) -> bool
     requires { index < length (plain_events events.now) }
@@ -134,8 +137,8 @@ fn try_put_scalar<W: Write>(sink: &mut Sink<'_, W>, events: &EventTable<'_>, ind
     }
 }
 
-// Puts the object of the tree that begins at an index, if it surely fits into the buffer, and returns
-// whether it was put. At an end, nothing is put.
+// Puts the object of the tree that begins at an index, if it surely fits into the buffer, and
+// returns whether it was put. At an end, nothing is put.
 #[inline(always)]
 fn try_put_object<W: Write>(sink: &mut Sink<'_, W>, plan: &FilePlan<'_, '_>, index: usize) -> bool
     requires plan { IsFilePlan plan.now }
@@ -234,8 +237,8 @@ fn put_first<W: Write>(
 }
 
 // Puts the object of the event at an index as `try_put_first` does, and returns whether it was put
-// now or before. An end has no object. For a dictionary, whose keys follow it, nothing is put, and the
-// result is `false`.
+// now or before. An end has no object. For a dictionary, whose keys follow it, nothing is put, and
+// the result is `false`.
 #[inline(always)]
 fn try_put_here<W: Write>(
     sink: &mut Sink<'_, W>,

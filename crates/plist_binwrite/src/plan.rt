@@ -22,7 +22,7 @@ use std::alloc::Global;
 pub struct FilePlan<'p, 'e> {
     /// The events with their classes.
     pub given: Classed<'p, 'e>,
-    /// The number of each class's object.
+    /// The number of each class's object, and the sizes of the objects.
     pub numbering: Numbering,
     /// The number of bytes in a reference.
     pub width: usize,

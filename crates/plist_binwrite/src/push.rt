@@ -171,6 +171,7 @@ fn push_wide_text(buffer: &mut FixedBuffer, text: &str) -> bool
     ensures unchanged { result ≡ false → buffer.new ≡ buffer.old }
 {
     let count = count_units(text);
+    // The first test keeps the product small.
     if count > 30_000 || buffer.room() < 32 + 2 * count {
         return false;
     }
@@ -214,8 +215,8 @@ fn push_data(buffer: &mut FixedBuffer, bytes: &[u8]) -> bool
 }
 
 /// Pushes the object of a scalar, and returns `true`. If the scalar is a string or data for which
-/// there may be no room, nothing is pushed, and the result is `false`. There must be room for 17 bytes. A loop calls this before `put_scalar`, because then no
-/// large `Result` is zeroed.
+/// there may be no room, pushes nothing and returns `false`. There must be room for 17 bytes. A
+/// loop calls this before `put_scalar`, because then no large `Result` is zeroed.
 #[inline(always)]
 pub fn push_scalar(buffer: &mut FixedBuffer, scalar: ScalarRef<'_>) -> bool
     requires { 17 ≤ room buffer.old }

@@ -63,7 +63,7 @@ fn send_plan<W: Write>(
 
 /// Plans the file of a whole property list's events, which has one object for each class, writes it
 /// and flushes the writer. All memory is allocated before the first byte is written: that of the
-/// plan, and a buffer of fixed size through which the bytes are written.
+/// plan, a list of offsets, and a buffer of fixed size through which the bytes are written.
 ///
 /// Trees of one class share an object. So they must be equal scalars, or collections of one kind
 /// whose children have the same classes in the same order. The class of an end isn't used.

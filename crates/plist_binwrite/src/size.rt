@@ -134,7 +134,8 @@ pub fn count_children(events: &EventTable<'_>, index: usize, half: Half) -> usiz
     Children::new(events, index, half).count()
 }
 
-/// The size of objects in bytes, if the width of a reference isn't known yet.
+/// The total size of some objects: their bytes without references, and the number of references,
+/// whose width isn't known yet.
 #[derive(Clone, Copy)]
 pub struct ObjectSizes {
     /// The bytes of markers, lengths and contents, or `None` if they are 2^64 or more.

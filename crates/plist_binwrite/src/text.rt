@@ -32,9 +32,10 @@ fn push_char(buffer: &mut FixedBuffer, c: char)
     push_number(buffer, 2, 0xdc00 + above % 0x400);
 }
 
-/// Pushes the UTF-16 units of the characters that an iterator still has to yield, as long as there
-/// is room for sixteen bytes, and returns whether all are pushed. There must be room for sixteen
-/// bytes.
+/// Pushes the UTF-16 units of the characters that an iterator still has to yield. If less than
+/// sixteen bytes of room are left after one, returns `false`, even if it is the last one. Otherwise
+/// returns `true` once all are pushed. There must be room for sixteen bytes, since a character may
+/// have two units, and a push copies eight bytes.
 #[inline(always)]
 pub fn push_units(buffer: &mut FixedBuffer, chars: &mut Chars<'_>) -> bool
     requires utf8 { IsUtf8 (chars_rest chars.old) }
@@ -56,6 +57,7 @@ pub fn push_units(buffer: &mut FixedBuffer, chars: &mut Chars<'_>) -> bool
     true
 }
 
+// Puts the UTF-16 units of a string, each in two bytes.
 fn put_units<W: Write>(sink: &mut Sink<'_, W>, text: &str) -> Result<(), Error>
     ensures { Puts W.contents sink.old (table_form 2 (units_of text.now)) result sink.new }
 {

@@ -54,7 +54,7 @@ impl<'a> ArchiveWalk<'a> {
         Ok(())
     }
 
-    // Settles a Uid, to whose object no items are left. If the object is a Uid, both have the same
+    // Settles a Uid whose object has no items left. If the object is a Uid, both have the same
     // end.
     fn settle(&mut self, uid: u64) -> Result<(), WalkError>
         requires { IsIn uid (settled_in self.old.ends) → ⊥ }

@@ -115,8 +115,8 @@ pub fn push_text(line: &mut FixedBuffer, text: &[u8])
     }
 }
 
-// Pushes the line of a string byte by byte. It isn't inlined, so that the variables of the loop stay
-// in registers.
+// Pushes the line of a string byte by byte. It isn't inlined, so that the variables of the loop
+// stay in registers.
 #[inline(never)]
 fn push_escaped_line(line: &mut FixedBuffer, text: &[u8])
     requires { 4 * length text.now + 64 ≤ room line.old }

@@ -17,9 +17,9 @@ fn expect_few_calls(rt: &(impl Abort + AllocGlobal), bytes: &[u8], length: usize
         words_of(rt.alloc(), Reader::new(rt.alloc(), Seeking::new(&mut disk))),
     );
     let text = found.trim_matches('\'');
-    same(rt, "text.len()", &text.len(), &length);
+    same(rt, "the length", &text.len(), &length);
     assert!(rt; text.bytes().all(|byte| byte == b'a'));
-    that(rt, "few calls, and not", disk.calls, disk.calls <= 20);
+    that(rt, "at most 20 calls, of", disk.calls, disk.calls <= 20);
 }
 
 #[test]

@@ -33,8 +33,8 @@ pub record IsOrder (count : ℕ) (order places : List ℕ) : Type 0 where
   pub marked : (k : ℕ) → list_any (eqb k) order ≡ true → slice_index places k ≢ 0
   pub others : (k : ℕ) → list_any (eqb k) order ≡ false → slice_index places k ≡ 0
 
--- the UTF-16 units of the first characters of a text are pushed; `old` and `new` are the buffer and
--- the text that is left
+-- the UTF-16 units of the first characters of a string are pushed; `old` and `new` are the buffer
+-- and the rest of the string
 pub record PushesUnits (old new : FixedBuffer × List ℕ) : Type 0 where
   pub front : List ℕ
   pub left : units_of old.1 ≡ front ++ units_of new.1
@@ -68,7 +68,7 @@ module _ (plan : FilePlan) where
   references_of half index =
       table_form plan.width (map number_of_event (half_of (events_in plan.given) half index))
 
-  -- the bytes of a collection: its length, and the references to its keys and to its items or values
+  -- the bytes of a collection: its length, and the references to its keys and its items or values
   abbrev pub collection_form : CountedKind → (index : ℕ) → List ℕ
   collection_form kind index =
       length_form (high_half kind) (length (half_of (events_in plan.given) Values index))
@@ -114,8 +114,8 @@ module _ (plan : FilePlan) where
       pub all : (k : ℕ) → k < plan.numbering.count → list_any (eqb k) order ≡ true
       pub put : PutsBytes contents start (file_with plan.width objects places order) answer sink
 
-  -- the object of the event at an index, if any, is put unless it was put before; `old` and `new` are
-  -- the offsets and the sink before and after
+  -- more objects may be put, and then that of the event at an index has an offset, unless the event
+  -- is an end; `old` and `new` are the offsets and the sink before and after
   pub record PutsAt {W : Type 0} (contents : W → Option (List ℕ)) (index : ℕ) (old : List ℕ × Sink W)
       (answer : Answer) (new : List ℕ × Sink W) : Type 0 where
     pub long : length new.0 ≡ length old.0

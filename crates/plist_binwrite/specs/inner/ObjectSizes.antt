@@ -1,4 +1,5 @@
--- The sizes of the objects of events, if the width of a reference isn't known yet.
+-- The sizes of the objects of events: their bytes without references, and the number of references,
+-- whose width isn't known yet.
 use Rattle.std.specs.Prelude.{◌≡◌, ℕ, zero, suc, ◌+◌, ◌*◌, ◌<◌, List, length}
 use Rattle.plist_base.specs.Events.{PlainEvent, ScalarEvent, StartArray, StartDictionary, EndCollection}
 use Rattle.plist_base.specs.Sinks.{IsSizeOrNone}

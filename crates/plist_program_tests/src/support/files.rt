@@ -41,5 +41,5 @@ pub(crate) fn expect_holds(
 // Checks that the file isn't there.
 pub(crate) fn expect_missing(rt: &(impl Abort + AllocGlobal + Env + Files), name: &str) {
     let is_there = must(rt, fs::exists(rt, path_of(rt, name).as_str()));
-    same(rt, name, &is_there, &false);
+    assert!(rt; !is_there, "{name} is there");
 }
