@@ -86,7 +86,7 @@ fn put_collection<W: Write>(
     requires index { index < length (events_in plan.now.given) }
     ensures { Puts W.contents sink.old (collection_form plan.now kind index) result sink.new }
 {
-    let count = count_children(plan.given.events, index, Half::Values);
+    let count = count_children(plan.given.events, index);
     put_length(sink, kind, count as u64)?;
     put_half(sink, plan, index, Half::Keys)?;
     put_half(sink, plan, index, Half::Values)
@@ -107,7 +107,7 @@ fn try_put_collection<W: Write>(
     ensures unchanged { result ≡ false → PutsNothing sink.old sink.new }
 {
     let events = plan.given.events;
-    let count = count_children(events, index, Half::Values);
+    let count = count_children(events, index);
     // A reference has at most eight bytes, and there are as many keys as values, if any. The first
     // test keeps the product small.
     if count > 2048 || sink.room() < 32 + 16 * count {

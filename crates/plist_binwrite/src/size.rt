@@ -6,6 +6,7 @@ ghost use Rattle.plist_base.specs.Events.{ScalarEvent};
 ghost use Rattle.plist_base.specs.Trees as trees;
 ghost use Rattle.plist_base.specs.Trees.{Scalar};
 ghost use Rattle.plist_buffer.specs.Children.{half_of};
+ghost use Rattle.plist_buffer.specs.declared.children.Half.TheVariants.{Values};
 ghost use Rattle.plist_buffer.specs.EventTable.{plain_events, table_event};
 ghost use Rattle.plist_binwrite.specs.Forms.{IsWritableScalar, unsigned_form, length_form, scalar_form};
 ghost use Rattle.plist_base.specs.Sinks.{IsSizeOrNone};
@@ -126,12 +127,12 @@ fn length_of_scalar(scalar: ScalarRef<'_>) -> Option<u64>
     }
 }
 
-/// Returns the number of children in one half of the collection that begins at an index.
-pub fn count_children(events: &EventTable<'_>, index: usize, half: Half) -> usize
+/// Returns the number of items or pairs in the collection that begins at an index.
+pub fn count_children(events: &EventTable<'_>, index: usize) -> usize
     requires { index < length (plain_events events.now) }
-    ensures { result ≡ length (half_of (plain_events events.now) half index) }
+    ensures { result ≡ length (half_of (plain_events events.now) Values index) }
 {
-    Children::new(events, index, half).count()
+    Children::new(events, index, Half::Values).count()
 }
 
 /// The total size of some objects: their bytes without references, and the number of references,
@@ -184,11 +185,11 @@ impl ObjectSizes {
     {
         match events.kind_at(index) {
             EventShape::StartArray => {
-                let count = count_children(events, index, Half::Values) as u64;
+                let count = count_children(events, index) as u64;
                 self.add(Some(length_of_count(count)), count);
             }
             EventShape::StartDictionary => {
-                let count = count_children(events, index, Half::Values) as u64;
+                let count = count_children(events, index) as u64;
                 self.add(Some(length_of_count(count)), 2 * count);
             }
             EventShape::Scalar | EventShape::EndCollection => {

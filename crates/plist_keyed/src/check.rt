@@ -16,7 +16,7 @@ use crate::state::{ArchiveWalk, uid_of};
 use indexmap::IndexSet;
 use plist::stream::Event;
 
-// Returns the number of the Uid that an event is, or `None` for any other event.
+// Returns what `uid_of` returns, and drops the event.
 fn take_uid(event: Event<'_>) -> Option<u64>
     ensures { result ≡ uid_of_event (event_of event.entry) }
 {

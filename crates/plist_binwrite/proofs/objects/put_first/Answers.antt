@@ -2,7 +2,7 @@ use Rattle.std.proofs.Common.{◌≡◌, ◌<◌, ◌^◌, ℕ, ap, arith, get_o
 use Rattle.plist_base.specs.Sinks.{HasPut}
 use Rattle.plist_base.specs.Writing.{answer_of}
 use Rattle.plist_binwrite.specs.inner.Layout.{number_of_event}
-use Rattle.plist_binwrite.proofs.ObjectOffsets.{number_told, puts_first}
+use Rattle.plist_binwrite.proofs.PuttingObjects.{number_told, puts_first}
 use Rattle.plist_binwrite.proofs.objects.put_first.Goals as goal
 use Rattle.plist_binwrite.proofs.objects.put_first.Goals.{After-unwrap_or as Placed}
 

@@ -6,7 +6,7 @@ use Rattle.plist_binwrite.specs.EventClasses.{events_in}
 use Rattle.plist_buffer.specs.EventTable.{HasItem}
 use Rattle.plist_buffer.specs.declared.children.Half.TheVariants.{Keys}
 use Rattle.plist_buffer.proofs.ChildIndices.{are_items}
-use Rattle.plist_binwrite.proofs.ObjectOffsets.{puts_at_after, puts_both}
+use Rattle.plist_binwrite.proofs.PuttingObjects.{puts_at_after, puts_both}
 use Rattle.plist_binwrite.proofs.objects.put_here.Goals as goal
 use Rattle.plist_binwrite.specs.inner.Layout.{PutsAt}
 use Rattle.plist_binwrite.proofs.objects.put_here.Goals.{After-into_iter-key-iterator as Begun, Joined-not-try_put_first as Joined, then-not-try_put_first+in_ok-put_first-in-StartDictionary, else-not-try_put_first}

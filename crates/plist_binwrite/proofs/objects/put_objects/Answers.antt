@@ -2,7 +2,7 @@ use Rattle.std.proofs.Common.{◌≢◌, Ok, arith, below_more, get_or, subst, �
 use Rattle.std.proofs.lemmas.Result.{err_from_is_err_and}
 use Rattle.plist_binwrite.proofs.NumberingSteps.{known_number}
 use Rattle.plist_binwrite.specs.inner.Layout.{PutsAt}
-use Rattle.plist_binwrite.proofs.ObjectOffsets.{puts_at_after}
+use Rattle.plist_binwrite.proofs.PuttingObjects.{puts_at_after}
 use Rattle.plist_binwrite.proofs.objects.put_objects.Goals as goal
 use Rattle.plist_binwrite.proofs.objects.put_objects.Goals.{Joined-not-try_put_here as Joined, then-not-try_put_here+in_ok-put_here, else-not-try_put_here}
 

@@ -1,7 +1,7 @@
 use Rattle.std.proofs.Common.{◌≡◌, ◌<◌, ◌^◌, ℕ, Ok, ap, arith, get_or, sym, ◌∙◌}
 use Rattle.plist_base.specs.Sinks.{HasPut}
 use Rattle.plist_binwrite.specs.inner.Layout.{number_of_event}
-use Rattle.plist_binwrite.proofs.ObjectOffsets.{number_told, puts_first}
+use Rattle.plist_binwrite.proofs.PuttingObjects.{number_told, puts_first}
 use Rattle.plist_binwrite.proofs.objects.try_put_first.Goals as goal
 use Rattle.plist_binwrite.proofs.objects.try_put_first.Goals.{After-try_put_object as Tried}
 

@@ -2,7 +2,7 @@ use Rattle.std.proofs.Common.{Ok}
 use Rattle.std.proofs.lemmas.Result.{err_from_is_err_and}
 use Rattle.plist_base.specs.Writing.{answer_of}
 use Rattle.plist_binwrite.specs.inner.Layout.{ArePut}
-use Rattle.plist_binwrite.proofs.ObjectOffsets.{all_put, number_told, part_put, start_put}
+use Rattle.plist_binwrite.proofs.PuttingObjects.{all_put, number_told, part_put, start_put}
 use Rattle.plist_binwrite.proofs.send_file.put_file.Goals as goal
 use Rattle.plist_binwrite.proofs.send_file.put_file.Goals.{In_ok-put as Begun}
 
