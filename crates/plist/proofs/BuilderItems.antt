@@ -7,7 +7,7 @@ use Rattle.plist_base.specs.Faults.{FaultKind, Fault, UnexpectedEndOfEventStream
 use Rattle.plist_base.specs.Trees.{Tree}
 use Rattle.plist_base.specs.Bracketing.{without_length, AreAlike}
 use Rattle.std.proofs.lemmas.List.{map-append}
-use Rattle.plist_base.proofs.Grammar.{alike_with}
+use Rattle.plist_base.proofs.Lengths.{alike_with}
 use Rattle.plist.specs.LastWins.{with_pair, last_wins}
 use Rattle.plist.specs.Building.{Unfinished, NotBegun, Within, Complete, Built, IsNested, nothing_built, complete_tree, events_so_far, last_wins_so_far, refusal_at, IsUnfinishedFor, IsUnfinished}
 use Rattle.plist.specs.inner.BuilderSteps.{and_pair, and_event}

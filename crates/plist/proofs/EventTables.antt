@@ -7,8 +7,8 @@ use Rattle.plist_base.specs.Events.{PlainEvent, event_of}
 use Rattle.plist_base.specs.Faults.{FaultKind, Fault, Io, OutOfMemory, PlistTooLarge, fault_without_offset, fault_of}
 use Rattle.plist_base.specs.Trees.{Tree}
 use Rattle.plist_base.specs.Writing.{Answer, answer_of}
-use Rattle.plist_base.proofs.Grammar.{alike_without_length}
-use Rattle.plist_base.proofs.Stacks.{lengthless-is}
+use Rattle.plist_base.proofs.Lengths.{alike_without_length}
+use Rattle.plist_base.proofs.Lengths.{lengthless-is}
 use Rattle.plist.specs.declared.stream.events.Events.{Events}
 use Rattle.plist.specs.Events.{GivesEvent, remaining_events}
 use Rattle.plist.specs.SendingValues.{StopsSending, SendsTree}

@@ -5,17 +5,18 @@ use Rattle.plist_base.specs.Events.{PlainEvent, StartArray, StartDictionary, End
 use Rattle.plist_base.specs.Faults.{FaultKind}
 use Rattle.plist_base.specs.Trees.{Tree, Leaf, Array, Dictionary, trees_of, members_of, String}
 use Rattle.plist_base.specs.Bracketing.{bracketing, bracketing_of_items, bracketing_of_pairs, without_length, AreAlike, CanContinue, ContinueAlike}
-use Rattle.plist_base.proofs.Grammar.{alike_behind, all_taken, can_continue, continue_alike, continues, none_is, steps_snoc, wanted_alike}
+use Rattle.plist_base.proofs.Lengths.{alike_behind, continue_alike}
+use Rattle.plist_buffer.proofs.Grammar.{all_taken, can_continue, continues, none_is, steps_snoc, wanted_alike}
 use Rattle.plist.specs.LastWins.{TreePairs}
 use Rattle.plist.specs.Building.{OpenCollection, InArray, InDictionary, AfterKey, Unfinished, NotBegun, Within, Complete, events_within, events_around, events_so_far, expected_within, if_refused, refusal_of, refusal_at, AllTakeValue, IsNested, TakesValue, last_wins_within, last_wins_so_far, complete_tree}
 use Rattle.plist.specs.inner.BuilderSteps.{and_pair, and_tree, at_value, in_array, in_dictionary, and_event}
-use Rattle.plist_base.specs.declared.expects.Expect.{Expect}
-use Rattle.plist_base.specs.declared.expects.Expect.TheVariants.{OneValue, Items, Pairs}
-use Rattle.plist_base.specs.declared.expects.Transition.{Transition}
-use Rattle.plist_base.specs.declared.expects.Transition.TheVariants.{Refused}
-use Rattle.plist_base.specs.Expects.{transition_of, changed, step, steps, expected_after}
+use Rattle.plist_buffer.specs.declared.expects.Expect.{Expect}
+use Rattle.plist_buffer.specs.declared.expects.Expect.TheVariants.{OneValue, Items, Pairs}
+use Rattle.plist_buffer.specs.declared.expects.Transition.{Transition}
+use Rattle.plist_buffer.specs.declared.expects.Transition.TheVariants.{Refused}
+use Rattle.plist_buffer.specs.Expects.{transition_of, changed, step, steps, expected_after}
 use Rattle.plist_base.proofs.OneTree.{one_tree}
-use Rattle.plist_base.proofs.Stacks.{Stack, steps_items, steps_pairs}
+use Rattle.plist_buffer.proofs.Stacks.{Stack, steps_items, steps_pairs}
 
 -- one more item adds its events at the end
 items-append : (ts : List Tree) (t : Tree)

@@ -1,6 +1,6 @@
 -- The contents of open collections after one is changed or closed.
 use Rattle.std.proofs.Common.{◌≡◌, ◌<◌, List, [], ◌∷◌, length, Some, String, Global, sym, ap, subst, arith, string_bytes}
-use Rattle.plist_base.specs.declared.expects.Expect.TheVariants as expect
+use Rattle.plist_buffer.specs.declared.expects.Expect.TheVariants as expect
 use Rattle.plist.specs.declared.open_collections.Level.{Level}
 use Rattle.plist.specs.declared.open_collections.Level.TheVariants as level
 use Rattle.plist.specs.declared.open_collections.OpenDictionary.{OpenDictionary}

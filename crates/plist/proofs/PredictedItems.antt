@@ -16,7 +16,7 @@ use Rattle.plist.specs.ValueOfItems.{AreItemsOfTree, IsValueOf, IsReadIfKnown, I
 use Rattle.plist_base.specs.FirstItems.{GivesFirst, GivesFirstIfKnown}
 use Rattle.plist.specs.LastWins.{last_wins}
 use Rattle.plist_base.proofs.OneTree.{one_tree}
-use Rattle.plist_base.proofs.Grammar.{alike_with}
+use Rattle.plist_base.proofs.Lengths.{alike_with}
 use Rattle.plist_base.proofs.Refusals.{MatchFault-weaker, MatchFault-all, MatchFault-at}
 
 pub event-more : (events : List PlainEvent) (e : PlainEvent) (after : List Item)

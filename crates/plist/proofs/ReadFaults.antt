@@ -8,11 +8,11 @@ use Rattle.plist_base.specs.declared.byte_budget.ByteBudget.{ByteBudget}
 use Rattle.plist_base.specs.declared.limited_items.LimitedItems.{LimitedItems}
 use Rattle.plist_base.specs.declared.limits.LimitCounter.{LimitCounter}
 use Rattle.plist_base.specs.declared.source.Source.{Ghosts}
-use Rattle.plist_base.specs.declared.expects.Transition.{Transition}
-use Rattle.plist_base.specs.declared.expects.Transition.TheVariants.{Refused}
-use Rattle.plist_base.specs.declared.expects.Expect.TheVariants.{OneValue}
+use Rattle.plist_buffer.specs.declared.expects.Transition.{Transition}
+use Rattle.plist_buffer.specs.declared.expects.Transition.TheVariants.{Refused}
+use Rattle.plist_buffer.specs.declared.expects.Expect.TheVariants.{OneValue}
 use Rattle.plist_base.specs.Events.{Item, PlainEvent, event_of}
-use Rattle.plist_base.specs.Expects.{transition_of}
+use Rattle.plist_buffer.specs.Expects.{transition_of}
 use Rattle.plist_base.specs.Faults.{FaultKind, Fault, LimitReached, fault_of}
 use Rattle.plist_base.specs.Allowances.{GivesAllowed, PassesNext}
 use Rattle.plist_base.specs.Budgets.{GivesWithinBudget, IsBudgetUsedUp, within_budget}

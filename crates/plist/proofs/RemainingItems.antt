@@ -14,7 +14,7 @@ use Rattle.plist_base.specs.declared.source.Source.{Ghosts}
 use Rattle.plist_binread.specs.declared.reader.BinaryReader.{BinaryReader}
 use Rattle.plist_format.specs.Unfolding.{items_of_file}
 use Rattle.plist_reader.specs.Reader.{items_of_dialect}
-use Rattle.plist_reader.specs.Formats.{input_front, format_of}
+use Rattle.plist_decode.specs.Formats.{input_front, format_of}
 use Rattle.plist_reader.proofs.AsciiItems.{ascii-goes}
 use Rattle.plist.specs.declared.stream.events.Events.{Events}
 use Rattle.plist.specs.ValueOfItems.{IsValueOf, IsReadIfKnown}
@@ -33,7 +33,7 @@ use Rattle.plist.proofs.PredictedItems.{back}
 use Rattle.plist.proofs.ValueLastWins.{itself}
 use Rattle.plist_ascii.specs.AsciiReader as ascii
 use Rattle.plist_binread.specs.BinaryReader as binary
-use Rattle.plist_reader.specs.declared.format.Format.TheVariants as format
+use Rattle.plist_decode.specs.declared.format.Format.TheVariants as format
 
 abbrev Given : Type 0
 Given = Option (Result Event Error)

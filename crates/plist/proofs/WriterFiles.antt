@@ -7,7 +7,7 @@ use Rattle.plist_base.specs.Bracketing.{bracketing, without_length, AreAlike, Ca
 use Rattle.plist_base.specs.Events.{PlainEvent}
 use Rattle.plist_base.specs.Trees.{Tree, Leaf, Array, Dictionary}
 use Rattle.plist_base.specs.Writing.{Answer}
-use Rattle.plist_base.proofs.Grammar.{alike_last, alike_with}
+use Rattle.plist_base.proofs.Lengths.{alike_last, alike_with}
 use Rattle.plist_binwrite.specs.declared.sharing.Sharing.{Ghosts as SharingGhosts}
 use Rattle.plist_binwrite.specs.declared.writer.FileWriter.{FileWriter}
 use Rattle.plist_binwrite.specs.FileWriter.{Completes, Holds, IsWriterStep, TakesEvent, open_events, failed_of, sink_of}

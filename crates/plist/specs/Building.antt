@@ -3,11 +3,11 @@ use Rattle.std.specs.Prelude.{◌≡◌, ℕ, Bool, true, false, List, [], ◌�
 use mathlib.Core.HLevel.{×_prop, Unit-prop, ⊥_prop}
 use Rattle.plist_base.specs.declared.error.EventKind.{EventKind}
 use Rattle.plist_base.specs.declared.error.EventKind.TheVariants as event_kind
-use Rattle.plist_base.specs.declared.expects.Expect.{Expect}
-use Rattle.plist_base.specs.declared.expects.Expect.TheVariants.{OneValue, Items, Pairs}
-use Rattle.plist_base.specs.declared.expects.Transition.{Transition}
-use Rattle.plist_base.specs.declared.expects.Transition.TheVariants.{Refused}
-use Rattle.plist_base.specs.Expects.{transition_of}
+use Rattle.plist_buffer.specs.declared.expects.Expect.{Expect}
+use Rattle.plist_buffer.specs.declared.expects.Expect.TheVariants.{OneValue, Items, Pairs}
+use Rattle.plist_buffer.specs.declared.expects.Transition.{Transition}
+use Rattle.plist_buffer.specs.declared.expects.Transition.TheVariants.{Refused}
+use Rattle.plist_buffer.specs.Expects.{transition_of}
 use Rattle.plist_base.specs.Events.{PlainEvent, StartArray, StartDictionary, ScalarEvent, kind_of_event}
 use Rattle.plist_base.specs.Faults.{FaultKind, Fault, UnexpectedEventType, ExpectedEndOfEventStream, UnexpectedEndOfEventStream, OutOfMemory, WriterFailed}
 use Rattle.plist_base.specs.Trees.{Tree, String, trees_of, members_of}

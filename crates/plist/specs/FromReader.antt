@@ -17,7 +17,7 @@ use Rattle.plist_ascii.specs.AsciiReader as ascii
 use Rattle.plist_ascii.specs.AsciiReader.{untaken_bytes, dialect_of, device_of, peeked_byte, place_of, readable}
 use Rattle.plist_ascii.specs.declared.reader.AsciiReader.{AsciiReader}
 use Rattle.plist_ascii.specs.declared.dialect.Dialect.{Dialect}
-use Rattle.plist_reader.specs.Formats.{input_front}
+use Rattle.plist_decode.specs.Formats.{input_front}
 use Rattle.plist_reader.specs.declared.reader.Reader.{Reader}
 use Rattle.plist_reader.specs.Reader.{Gives, IsNewReader, IsReaderFault, IsUnread, limited_input}
 use Rattle.plist.specs.Collecting.{Collects}

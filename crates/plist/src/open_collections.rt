@@ -10,7 +10,7 @@ ghost use Rattle.plist.specs.inner.CollectionSteps.{AddsKey, AddsPair, CannotEnd
 
 use crate::open_arrays::OpenArrays;
 use crate::{Dictionary, Value};
-use plist_base::Expect;
+use plist_buffer::Expect;
 use std::alloc::{AllocError, Global};
 use std::marker::Model;
 

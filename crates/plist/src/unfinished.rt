@@ -13,7 +13,8 @@ ghost use Rattle.plist.specs.ValueTrees.{tree_of};
 
 use crate::Value;
 use crate::open_collections::OpenCollections;
-use plist_base::{ErrorKind, Event, EventKind, Expect, Transition};
+use plist_base::{ErrorKind, Event, EventKind};
+use plist_buffer::{Expect, Transition};
 use std::alloc::{AllocError, Global};
 
 /// The open collections, and the root once it is complete. The values may be deep, and are dropped

@@ -3,7 +3,7 @@ use Rattle.std.proofs.Common.{◌≡◌, List, [], ◌∷◌, ◌++◌, refl, sy
 use Rattle.plist_base.specs.Events.{PlainEvent, EndCollection}
 use Rattle.plist_base.specs.Trees.{Tree, Leaf, Array, Dictionary, Trees, NoTrees, TreeAnd, Members, NoMembers, MemberAnd}
 use Rattle.plist_base.specs.Bracketing.{bracketing, lengthless, lengthless_items, lengthless_pairs, AreAlike}
-use Rattle.plist_base.proofs.Stacks.{lengthless-is}
+use Rattle.plist_base.proofs.Lengths.{lengthless-is}
 
 same_tail : (d e : PlainEvent) (ls rs : List PlainEvent) → d ∷ ls ≡ e ∷ rs → ls ≡ rs
 same_tail d e ls rs p = cc

@@ -7,7 +7,7 @@ use Rattle.plist_base.specs.Bracketing.{without_length, AreAlike, CanContinue}
 use Rattle.plist_base.specs.Events.{PlainEvent}
 use Rattle.plist_base.specs.Faults.{FaultKind, Fault, Io, OutOfMemory, PlistTooLarge}
 use Rattle.plist_base.specs.Writing.{Answer, MatchKind}
-use Rattle.plist_base.proofs.Grammar.{alike_last}
+use Rattle.plist_base.proofs.Lengths.{alike_last}
 use Rattle.plist_binwrite.specs.SendingAs.{FileKind, SendsAs, FailsAs}
 use Rattle.plist_buffer.specs.declared.event_buffer.EventBuffer.{EventBuffer}
 use Rattle.plist_buffer.specs.EventBuffers.{is_whole, misplaced_fault}

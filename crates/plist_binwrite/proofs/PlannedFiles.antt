@@ -46,7 +46,7 @@ use Rattle.plist_base.specs.Faults.{Fault}
 use Rattle.plist_base.specs.Outcomes.{OnlyDevice}
 use Rattle.plist_base.specs.declared.error.Error.{Error}
 use Rattle.plist_base.specs.Writing.{Answer, answer_of}
-use Rattle.plist_base.proofs.Grammar.{complete_of_whole}
+use Rattle.plist_buffer.proofs.Grammar.{complete_of_whole}
 use Rattle.std.specs.Io.KnownBytes.{Appends}
 use Rattle.plist_base.specs.declared.sink.Sink.{Sink}
 use Rattle.plist_base.specs.Prefixes.{AppendsPrefix}

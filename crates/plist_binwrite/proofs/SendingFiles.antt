@@ -6,7 +6,8 @@ use Rattle.plist_base.specs.Events.{PlainEvent}
 use Rattle.plist_base.specs.Faults.{FaultKind, Fault, Io, OutOfMemory, PlistTooLarge, fault_without_offset}
 use Rattle.plist_base.specs.Trees.{Tree}
 use Rattle.plist_base.specs.Writing.{Answer}
-use Rattle.plist_base.proofs.Grammar.{complete_of_whole, whole_alike}
+use Rattle.plist_base.proofs.Lengths.{whole_alike}
+use Rattle.plist_buffer.proofs.Grammar.{complete_of_whole}
 use Rattle.plist_binwrite.specs.Classes.{IsFileBy, files_by, size_by}
 use Rattle.plist_binwrite.specs.EventClasses.{class_in, events_in}
 use Rattle.plist_binwrite.specs.declared.classes.Classed.{Classed}

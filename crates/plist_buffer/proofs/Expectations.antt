@@ -4,13 +4,14 @@ use Rattle.std.specs.Option.{is_none}
 use Rattle.plist_base.specs.Bracketing.{without_length, CanContinue}
 use Rattle.plist_base.specs.Events.{PlainEvent, StartArray, StartDictionary, EndCollection, ScalarEvent}
 use Rattle.plist_base.specs.Trees.{String}
-use Rattle.plist_base.specs.Expects.{transition_of, changed, step, expected_after}
-use Rattle.plist_base.specs.declared.expects.Expect.{Expect}
-use Rattle.plist_base.specs.declared.expects.Expect.TheVariants.{OneValue, Items, Pairs}
-use Rattle.plist_base.specs.declared.expects.Transition.{Transition}
-use Rattle.plist_base.specs.declared.expects.Transition.TheVariants.{Refused}
-use Rattle.plist_base.specs.declared.expects.Transition.TheVariants as change
-use Rattle.plist_base.proofs.Grammar.{none_is, wanted_alike, can_continue, continues, bracketed, all_taken, complete_of_whole, alike_last, steps_snoc}
+use Rattle.plist_buffer.specs.Expects.{transition_of, changed, step, expected_after}
+use Rattle.plist_buffer.specs.declared.expects.Expect.{Expect}
+use Rattle.plist_buffer.specs.declared.expects.Expect.TheVariants.{OneValue, Items, Pairs}
+use Rattle.plist_buffer.specs.declared.expects.Transition.{Transition}
+use Rattle.plist_buffer.specs.declared.expects.Transition.TheVariants.{Refused}
+use Rattle.plist_buffer.specs.declared.expects.Transition.TheVariants as change
+use Rattle.plist_base.proofs.Lengths.{alike_last}
+use Rattle.plist_buffer.proofs.Grammar.{none_is, wanted_alike, can_continue, continues, bracketed, all_taken, complete_of_whole, steps_snoc}
 use Rattle.plist_buffer.specs.declared.event_buffer.EventBuffer.{EventBuffer}
 use Rattle.plist_buffer.specs.EventBuffers.{buffered_events, is_whole, TestsWhole}
 use Rattle.plist_buffer.specs.inner.Expected.{OpenKind, OpenArray, OpenDictionary, open_after_event, open_after, expects_in, expected_inside, innermost, all_expected, ExpectsNext, change_on, next_expected}

@@ -1,8 +1,8 @@
 -- The innermost open start decides what is expected in its collection.
 use Rattle.std.proofs.Common.{◌≡◌, ◌⊎◌, inl, inr, ℕ, ◌<◌, true, List, [], ◌∷◌, ◌++◌, length, reverse, drop, map, Option, None, Some, refl, sym, ap, ◌∙◌}
 use Rattle.plist_base.specs.Events.{PlainEvent, StartArray, StartDictionary, EndCollection, ScalarEvent, shape_of}
-use Rattle.plist_base.specs.declared.expects.Expect.{Expect}
-use Rattle.plist_base.specs.declared.expects.Expect.TheVariants.{Items, Pairs}
+use Rattle.plist_buffer.specs.declared.expects.Expect.{Expect}
+use Rattle.plist_buffer.specs.declared.expects.Expect.TheVariants.{Items, Pairs}
 use Rattle.plist_buffer.specs.declared.event_table.EventTable.{EventTable}
 use Rattle.plist_base.specs.declared.event.EventShape.{EventShape}
 use Rattle.plist_base.specs.declared.event.EventShape.TheVariants as shape

@@ -3,7 +3,7 @@ use Rattle.std.proofs.Common.{◌≡◌, List, [], ◌∷◌, map, refl, sym, �
 use Rattle.plist_base.specs.Bracketing.{bracketing, lengthless, without_length, AreAlike, AreTreeEvents}
 use Rattle.plist_base.specs.Events.{PlainEvent}
 use Rattle.plist_base.specs.Trees.{Tree}
-use Rattle.plist_base.proofs.Stacks.{lengthless-is, without_length-twice}
+use Rattle.plist_base.proofs.Lengths.{lengthless-is, without_length-twice}
 use Rattle.plist_buffer.specs.declared.entries.EventEntry.{EventEntry}
 use Rattle.plist_buffer.specs.declared.entries.EventEntry.TheVariants as entry
 use Rattle.plist_buffer.specs.declared.event_table.EventTable.{EventTable}

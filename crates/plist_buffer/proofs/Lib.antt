@@ -7,6 +7,8 @@ pub mod EntryEvents
 pub mod KeyStamps
 pub mod TreePositions
 pub mod Lengthless
+pub mod Stacks
+pub mod Grammar
 pub mod SameScalars
 pub mod Expectations
 pub mod Uniques

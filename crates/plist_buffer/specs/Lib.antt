@@ -1,3 +1,4 @@
+pub mod Expects
 pub mod Occurrences
 pub mod StoredScalars
 pub mod EventTable

@@ -7,7 +7,8 @@ ghost use Rattle.plist_buffer.specs.EventTable.{plain_events};
 ghost use Rattle.plist_buffer.specs.inner.Expected.{ExpectsNext, change_on, expected_inside, innermost, next_expected};
 
 use crate::event_table::EventTable;
-use plist_base::{Event, EventKind, Expect, Transition};
+use crate::expects::{Expect, Transition};
+use plist_base::{Event, EventKind};
 use std::alloc::{AllocError, Global};
 
 /// The reason why an event wasn't buffered. The type is small because the memory of a result is

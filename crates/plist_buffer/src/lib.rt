@@ -11,8 +11,10 @@ pub mod compact_numbers;
 mod entries;
 pub mod event_buffer;
 pub mod event_table;
+pub mod expects;
 pub mod repeated_keys;
 mod short;
 pub mod stored_scalar;
 
 pub use event_table::EventTable;
+pub use expects::{Expect, Transition};

@@ -4,11 +4,11 @@ use Rattle.std.specs.Iterator.{Yields}
 use Rattle.plist_base.specs.declared.error.Error.{Error}
 use Rattle.plist_base.specs.declared.event.Event.{Event}
 use Rattle.plist_base.specs.declared.source.Source.{Ghosts}
-use Rattle.plist_base.specs.declared.expects.Transition.{Transition}
-use Rattle.plist_base.specs.declared.expects.Transition.TheVariants.{Refused}
-use Rattle.plist_base.specs.declared.expects.Expect.TheVariants.{OneValue}
+use Rattle.plist_buffer.specs.declared.expects.Transition.{Transition}
+use Rattle.plist_buffer.specs.declared.expects.Transition.TheVariants.{Refused}
+use Rattle.plist_buffer.specs.declared.expects.Expect.TheVariants.{OneValue}
 use Rattle.plist_base.specs.Events.{PlainEvent, event_of}
-use Rattle.plist_base.specs.Expects.{transition_of}
+use Rattle.plist_buffer.specs.Expects.{transition_of}
 use Rattle.plist_base.specs.Faults.{FaultKind, Fault, Io, MatchFault, error_kind_of, fault_of, kind_of}
 use Rattle.plist_base.specs.Sources.{Rises}
 use Rattle.plist_reader.specs.declared.reader.Reader.{Reader}

@@ -8,15 +8,16 @@ use Rattle.plist_base.specs.Visits.{PlainItem}
 use Rattle.plist_base.specs.declared.error.Error.{Error}
 use Rattle.plist_base.specs.Faults.{fault_of}
 use Rattle.plist_base.specs.Trees.{Tree, Leaf, Array, Dictionary}
-use Rattle.plist_base.proofs.Grammar.{alike_last, alike_with, complete_of_whole, continue_alike, whole_alike}
+use Rattle.plist_base.proofs.Lengths.{alike_last, alike_with, continue_alike, whole_alike}
+use Rattle.plist_buffer.proofs.Grammar.{complete_of_whole}
 use Rattle.plist_base.specs.Writing.{Answer}
 use Rattle.plist_format.specs.Unfolding.{items_of_file}
 use Rattle.plist_buffer.specs.RepeatedKeys.{HasKeysOnce}
 use Rattle.plist_buffer.specs.EventBuffers.{TestsWhole}
 use Rattle.plist_binwrite.specs.SendingAs.{SendsAs}
 use Rattle.plist_binwrite.specs.Files.{least_files}
-use Rattle.plist_reader.specs.declared.format.Format.TheVariants as format
-use Rattle.plist_reader.specs.Formats.{format_of}
+use Rattle.plist_decode.specs.declared.format.Format.TheVariants as format
+use Rattle.plist_decode.specs.Formats.{format_of}
 use Rattle.plist_reader.proofs.BinaryItems.{binary-input}
 use Rattle.plist_reader.specs.Reader.{items_of_input}
 use Rattle.plist.specs.Building.{Unfinished, NotBegun, IsNested, events_so_far}

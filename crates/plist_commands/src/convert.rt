@@ -7,7 +7,7 @@ ghost use Rattle.plist_base.specs.Faults.{offset_of};
 ghost use Rattle.plist_binwrite.specs.Files.{least_files};
 ghost use Rattle.plist_binwrite.specs.SendingAs.{SendsAs};
 ghost use Rattle.plist_buffer.specs.EventBuffers.{buffered_events};
-ghost use Rattle.plist_reader.specs.Formats.{format_of};
+ghost use Rattle.plist_decode.specs.Formats.{format_of};
 ghost use Rattle.plist_reader.specs.Reader.{items_of_input};
 ghost use Rattle.plist_commands.specs.Converting.{CollectsItems, Converts, ConvertsSource, HoldsBinary, HoldsOther, HoldsTree, IfOkIs, ReadsSource};
 ghost use Rattle.plist_commands.specs.CollectorSteps.{IsEmpty, collected, is_complete};

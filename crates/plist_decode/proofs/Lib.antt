@@ -11,3 +11,5 @@ pub mod Markers
 pub mod UnknownBytes
 pub mod PackedScalars
 pub mod Utf16Chars
+pub mod Fronts
+mod FormatsOfInputs

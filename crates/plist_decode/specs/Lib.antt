@@ -1,3 +1,4 @@
+pub mod Formats
 pub mod Reading
 pub mod Decoding
 pub mod FaultOffsets

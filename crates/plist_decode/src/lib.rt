@@ -1,4 +1,5 @@
-//! Decodes the objects of binary property lists, and reads the head of a file.
+//! Determines the format of a property list, reads the head of a binary file, and decodes its
+//! objects.
 //!
 //! The main contracts are those of [`object::decode_front`], which decodes an object from its first
 //! bytes, whatever follows them, and of [`head::Head::read`], which returns the head of the file or
@@ -11,6 +12,7 @@ pub mod decoded;
 pub mod decoder;
 pub mod fault_slot;
 mod fixed_content;
+pub mod format;
 pub mod head;
 pub mod long_content;
 pub mod numbers;

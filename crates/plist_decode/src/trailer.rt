@@ -11,7 +11,7 @@ ghost use Rattle.plist_base.specs.Outcomes.{DecodesBy, IfFault, IfRead, IfRefuse
 use crate::numbers::number_from;
 use plist_base::{Error, ErrorKind, Source, read_exact_at};
 
-const MAGIC: &[u8; 8] = b"bplist00";
+pub(crate) const MAGIC: &[u8; 8] = b"bplist00";
 
 /// The contents of the trailer.
 #[derive(Clone, Copy)]

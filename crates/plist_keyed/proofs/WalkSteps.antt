@@ -20,7 +20,7 @@ use Rattle.plist_base.proofs.Paths.{path_none}
 use Rattle.plist_keyed.specs.Archives.{resolved_tree}
 use Rattle.plist_keyed.proofs.Replaced.{events_in}
 use Rattle.plist_keyed.proofs.Settled.{IsEndOf, from-top, named-append, settled-end, settled-same}
-use Rattle.plist_keyed.proofs.Checks.{reverse-snoc}
+use Rattle.plist_keyed.proofs.StoredChecks.{reverse-snoc}
 
 module _ (objects : List Tree) where
   pub plain-first : (e : PlainEvent) (es : List PlainEvent) → uid_of_event e ≡ None

@@ -29,8 +29,8 @@ use Rattle.plist_ascii.specs.Texts.{ends_bare}
 use Rattle.plist_reader.specs.declared.reader.State.{State}
 use Rattle.plist_reader.specs.declared.reader.State.TheVariants as state
 use Rattle.plist_reader.specs.Reader.{AsciiReaderOf, AsciiGives, state_items, stream_bytes_left, stream_source, buffered_bytes, items_in_format, items_of_dialect, ascii_items_to_come, StopsIfKnown, EndsAfter, IsReaderFault, StateGives}
-use Rattle.plist_reader.specs.declared.format.Format.TheVariants as format
-use Rattle.plist_reader.specs.Formats.{format_of, input_front}
+use Rattle.plist_decode.specs.declared.format.Format.TheVariants as format
+use Rattle.plist_decode.specs.Formats.{format_of, input_front}
 use Rattle.plist_reader.proofs.ReaderItems.{Given, IsReaderItem, chosen-gives, input_within, one-remain}
 
 -- ---- `OutOfMemory` is yielded only if something remains

@@ -18,8 +18,8 @@ use Rattle.plist_ascii.specs.declared.dialect.Dialect.{Dialect}
 use Rattle.plist_reader.specs.declared.reader.State.{State}
 use Rattle.plist_reader.specs.declared.reader.State.TheVariants as state
 use Rattle.plist_reader.specs.Reader.{BeginsInside, state_items, is_limited_in, items_in_format, items_of_dialect, items_within, StopsIfKnown, IsReaderFault, StateGives, HoldsSource, source_in}
-use Rattle.plist_reader.specs.declared.format.Format.TheVariants as format
-use Rattle.plist_reader.specs.Formats.{format_of}
+use Rattle.plist_decode.specs.declared.format.Format.TheVariants as format
+use Rattle.plist_decode.specs.Formats.{format_of}
 
 abbrev pub Given : Type 0
 Given = Option (Result Event Error)

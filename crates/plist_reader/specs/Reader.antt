@@ -29,12 +29,12 @@ use Rattle.plist_reader.specs.declared.bytes.BufferedSource.{BufferedSource}
 use Rattle.plist_ascii.specs.Texts.{ends_bare}
 use Rattle.plist_ascii.specs.declared.dialect.Dialect.{Dialect}
 use Rattle.plist_ascii.specs.declared.dialect.Dialect.TheVariants.{Lax}
-use Rattle.plist_reader.specs.declared.format.Format.{Format}
-use Rattle.plist_reader.specs.declared.format.Format.TheVariants as format
+use Rattle.plist_decode.specs.declared.format.Format.{Format}
+use Rattle.plist_decode.specs.declared.format.Format.TheVariants as format
 use Rattle.plist_reader.specs.declared.reader.Reader.{Reader}
 use Rattle.plist_reader.specs.declared.reader.State.{State}
 use Rattle.plist_reader.specs.declared.reader.State.TheVariants as state
-use Rattle.plist_reader.specs.Formats.{input_front, format_of}
+use Rattle.plist_decode.specs.Formats.{input_front, format_of}
 
 -- the items of some bytes in this format, and in this dialect if it is ASCII
 abbrev pub items_in_format : Dialect → Format → List ℕ → List Item

@@ -8,24 +8,6 @@ use plist_ascii::ByteReader;
 use plist_base::Source;
 use std::io;
 
-/// Reads the byte at an offset, or returns `None` if the source ends before it.
-///
-/// # Errors
-///
-/// The I/O error of the read. Known bytes don't change.
-pub fn read_byte<S: Source>(source: &mut S, place: u64) -> Result<Option<u8>, io::Error>
-    ensures byte { DecodesBy result (S.known source.old) (λ bytes. slice_get bytes place) }
-    ensures unchanged { S.known source.new ≡ S.known source.old }
-    ensures failures { CountsFailure result (S.failures source.old) (S.failures source.new) }
-{
-    let mut buffer = [0u8; 1];
-    let count = source.read_at(place, &mut buffer)?;
-    if count == 0 {
-        return Ok(None);
-    }
-    Ok(Some(buffer[0]))
-}
-
 // The number of bytes that one read of the source requests.
 const WINDOW: usize = 512;
 

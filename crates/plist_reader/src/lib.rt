@@ -6,8 +6,7 @@
 #![tactic(auto)]
 
 mod bytes;
-mod format;
 mod reader;
 
-pub use format::{Format, format_of};
+pub use plist_decode::format::{Format, format_of};
 pub use reader::Reader;

@@ -4,16 +4,16 @@ ghost use Rattle.std.specs.Prelude.{◌≡◌, ◌<◌, IfSome, Some, true};
 ghost use Rattle.std.specs.Option.{is_some};
 ghost use Rattle.plist_binread.specs.BinaryReader.{WillGive, has_limits as is_limited_file, is_new, binary_source as source_of_file};
 ghost use Rattle.plist_format.specs.Unfolding.{items_of_file};
-ghost use Rattle.plist_reader.specs.Formats.{format_of};
+ghost use Rattle.plist_decode.specs.Formats.{format_of};
 ghost use Rattle.plist_reader.specs.Reader.{StateGives, all_steps, items_within, steps_in_state};
 
 use crate::bytes::BufferedSource;
-use crate::format::{Format, format_of};
 use plist_ascii::{AsciiReader, Dialect};
 use plist_base::{
     Error, ErrorKind, EventSource, EventVisitor, LimitedItems, Limits, OwnedEvent, Source, Visited,
 };
 use plist_binread::{BinaryReader, Relay};
+use plist_decode::format::{Format, format_of};
 use std::alloc::Global;
 use std::mem;
 use std::ops::ControlFlow;

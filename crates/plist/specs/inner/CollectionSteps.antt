@@ -2,7 +2,7 @@
 use Rattle.std.specs.Prelude.{◌≡◌, ℕ, List, [], ◌∷◌, ◌++◌, Option, Some, None, String, string_bytes, ⊤}
 use Rattle.std.specs.declared.alloc.Global.{Global}
 use Rattle.plist_base.specs.Events.{ScalarEvent}
-use Rattle.plist_base.specs.declared.expects.Expect.{Expect}
+use Rattle.plist_buffer.specs.declared.expects.Expect.{Expect}
 use Rattle.plist_base.specs.Trees.{Tree, Array, trees_of, members_of}
 use Rattle.plist_base.specs.Trees as tree
 use Rattle.plist.specs.declared.dictionary.Dictionary.{Dictionary}

@@ -6,7 +6,7 @@ use Rattle.plist_base.specs.Events.{PlainEvent}
 use Rattle.plist_base.specs.Faults.{FaultKind, fault_without_offset, UnexpectedEventType, ExpectedEndOfEventStream, Io, OutOfMemory, WriterFailed, PlistTooLarge}
 use Rattle.plist_base.specs.Writing.{Answer, MatchKind, AnswersByOrder, IsHeldAfter}
 use Rattle.std.proofs.lemmas.Bool.{true≢false, false≢true}
-use Rattle.plist_base.proofs.Grammar.{alike_last, continue_alike}
+use Rattle.plist_base.proofs.Lengths.{alike_last, continue_alike}
 use Rattle.plist_binwrite.specs.declared.sharing.Sharing.{Ghosts as SharingGhosts}
 use Rattle.plist_binwrite.specs.declared.writer.FileWriter.{FileWriter}
 use Rattle.plist_binwrite.specs.FileWriter.{IsWriterStep, TakesEvent, Completes, Holds, open_events, failed_of}

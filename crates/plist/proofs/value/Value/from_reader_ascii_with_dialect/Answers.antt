@@ -1,7 +1,7 @@
 use Rattle.plist_ascii.specs.AsciiReader.{untaken_bytes, dialect_of, place_of}
 use Rattle.plist_ascii.specs.Texts.{ends_bare}
 use Rattle.plist_ascii.specs.Ascii.{items_of_ascii}
-use Rattle.plist_reader.specs.Formats.{input_front}
+use Rattle.plist_decode.specs.Formats.{input_front}
 use Rattle.plist.specs.Collecting.{built_tree}
 use Rattle.plist.proofs.RemainingItems.{of-items, ascii-start, ascii-shows, ascii_coming}
 use Rattle.plist.proofs.value.Value.from_reader_ascii_with_dialect.Goals as goal

@@ -6,7 +6,7 @@ use Rattle.plist.specs.Events.{GivesEvent}
 use Rattle.plist.specs.ValueTrees.{tree_of}
 use Rattle.plist_keyed.specs.declared.state.ArchiveWalk.{ArchiveWalk}
 use Rattle.plist_keyed.specs.Archives.{IsFaultOf, error_of_walk, resolved_tree}
-use Rattle.plist_keyed.proofs.Checks.{Checks, begins, distance_in, first-refused, follows, later-refused, levels_of, popped, popped-distance, settles, skips}
+use Rattle.plist_keyed.proofs.StoredChecks.{Checks, begins, distance_in, first-refused, follows, later-refused, levels_of, popped, popped-distance, settles, skips}
 use Rattle.plist_keyed.proofs.state.ArchiveWalk.check.Goals as goal
 
 pub returns-in_err-follow-clause-refused : goal.returns-in_err-follow-clause-refused

@@ -1,5 +1,5 @@
 use Rattle.std.proofs.Common.{◌≡◌, reverse}
-use Rattle.plist_keyed.proofs.Checks.{Checks, distance_in, levels_of}
+use Rattle.plist_keyed.proofs.StoredChecks.{Checks, distance_in, levels_of}
 use Rattle.plist_keyed.proofs.state.ArchiveWalk.check.Given as goal
 
 abbrev pub invariant-loop-left : goal.invariant-loop-left

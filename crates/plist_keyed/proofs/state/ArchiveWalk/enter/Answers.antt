@@ -5,7 +5,7 @@ use Rattle.plist_base.specs.Bracketing.{bracketing}
 use Rattle.plist.specs.Events.{remaining_events}
 use Rattle.plist.specs.ValueTrees.{tree_of}
 use Rattle.plist_keyed.specs.inner.Walks.{NameOnly, events_at, events_left, events_in_levels, objects_in, replaced_events, settled_in, uid_of_tree}
-use Rattle.plist_keyed.proofs.Checks.{seen_at}
+use Rattle.plist_keyed.proofs.StoredChecks.{seen_at}
 use Rattle.plist_keyed.proofs.WalkSteps.{end-of, enters, seen-within}
 use Rattle.plist_keyed.proofs.state.ArchiveWalk.enter.Goals as goal
 

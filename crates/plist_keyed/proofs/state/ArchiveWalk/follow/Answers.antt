@@ -2,7 +2,7 @@ use Rattle.std.proofs.Common.{◌∙◌, ap, inl, inr, refl, sym, None, Some}
 use Rattle.std.specs.Option.{option_copied}
 use Rattle.plist.specs.ValueTrees.{tree_of}
 use Rattle.plist_keyed.specs.inner.Walks.{objects_in}
-use Rattle.plist_keyed.proofs.Checks.{added, found-closed, found-missing, found-open, member, no-member, seen_at}
+use Rattle.plist_keyed.proofs.StoredChecks.{added, found-closed, found-missing, found-open, member, no-member, seen_at}
 use Rattle.plist_keyed.proofs.state.ArchiveWalk.follow.Goals as goal
 
 pub returns-then-contains_key-clause-followed : goal.returns-then-contains_key-clause-followed

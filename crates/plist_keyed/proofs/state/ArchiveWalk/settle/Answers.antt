@@ -1,4 +1,4 @@
-use Rattle.plist_keyed.proofs.Checks.{inserts}
+use Rattle.plist_keyed.proofs.StoredChecks.{inserts}
 use Rattle.plist_keyed.proofs.state.ArchiveWalk.settle.Goals as goal
 
 pub returns-clause-settled : goal.returns-clause-settled

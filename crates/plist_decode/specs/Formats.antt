@@ -3,8 +3,8 @@ use Rattle.std.specs.Prelude.{ℕ, ◌+◌, ◌-◌, ◌^◌, Bool, if◌then◌
 use Rattle.std.specs.Option.{option_map_or}
 use Rattle.std.specs.List.{list_any, prefix_len, starts_with}
 use Rattle.plist_format.specs.Container.{magic}
-use Rattle.plist_reader.specs.declared.format.Format.{Format}
-use Rattle.plist_reader.specs.declared.format.Format.TheVariants.{Binary, Xml, Ascii}
+use Rattle.plist_decode.specs.declared.format.Format.{Format}
+use Rattle.plist_decode.specs.declared.format.Format.TheVariants.{Binary, Xml, Ascii}
 
 -- the bytes that can be read, which are at most the first 2^64 - 1
 abbrev pub input_front : List ℕ → List ℕ

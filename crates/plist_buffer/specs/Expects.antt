@@ -4,10 +4,10 @@ use Rattle.plist_base.specs.Events.{PlainEvent, EndCollection, ScalarEvent, shap
 use Rattle.plist_base.specs.Trees.{String}
 use Rattle.plist_base.specs.declared.event.EventShape.{EventShape}
 use Rattle.plist_base.specs.declared.event.EventShape.TheVariants as shape
-use Rattle.plist_base.specs.declared.expects.Expect.{Expect}
-use Rattle.plist_base.specs.declared.expects.Expect.TheVariants.{OneValue, Items, Pairs}
-use Rattle.plist_base.specs.declared.expects.Transition.{Transition}
-use Rattle.plist_base.specs.declared.expects.Transition.TheVariants.{Refused, Closed, Kept, Pushed, Replaced}
+use Rattle.plist_buffer.specs.declared.expects.Expect.{Expect}
+use Rattle.plist_buffer.specs.declared.expects.Expect.TheVariants.{OneValue, Items, Pairs}
+use Rattle.plist_buffer.specs.declared.expects.Transition.{Transition}
+use Rattle.plist_buffer.specs.declared.expects.Transition.TheVariants.{Refused, Closed, Kept, Pushed, Replaced}
 
 -- how an event of this shape changes the expectation of a value
 abbrev pub transition_of_value : EventShape → Transition

@@ -1,14 +1,14 @@
 -- The stack of expectations accepts an event exactly if the events of some tree begin with the
 -- events so far and this one.
 use Rattle.std.proofs.Common.{◌≡◌, List, [], ◌∷◌, ◌++◌, Option, Some, None, map, refl, sym, ap, ◌∙◌, append_assoc, append-nil, option_and_then, rules}
-use Rattle.std.proofs.lemmas.List.{map-append}
 use Rattle.std.proofs.lemmas.Option.{option_and_then_some}
 use Rattle.plist_base.specs.Events.{PlainEvent}
 use Rattle.plist_base.specs.Trees.{Tree}
-use Rattle.plist_base.specs.Bracketing.{bracketing, without_length, AreAlike, AreTreeEvents, AreComplete, CanContinue, ContinueAlike}
-use Rattle.plist_base.specs.declared.expects.Expect.TheVariants.{OneValue}
-use Rattle.plist_base.specs.Expects.{step, steps, expected_after}
-use Rattle.plist_base.proofs.Stacks.{Fills, Stack, all-without_length-twice, filling, run_back, lengthless-is, steps_tree}
+use Rattle.plist_base.specs.Bracketing.{bracketing, without_length, AreAlike, AreTreeEvents, AreComplete, CanContinue}
+use Rattle.plist_buffer.specs.declared.expects.Expect.TheVariants.{OneValue}
+use Rattle.plist_buffer.specs.Expects.{step, steps, expected_after}
+use Rattle.plist_base.proofs.Lengths.{lengthless-is}
+use Rattle.plist_buffer.proofs.Stacks.{Fills, Stack, filling, run_back, steps_tree}
 
 -- lengths don't matter to the stack
 step_without_length : (s : Stack) (e : PlainEvent) → step s (without_length e) ≡ step s e
@@ -92,35 +92,3 @@ none_behind events (t, alike) e c =
 
 pub complete_of_whole : (events : List PlainEvent) → AreTreeEvents events → AreComplete events
 complete_of_whole events whole = (whole, none_behind _ whole)
-
--- ---- lengths decide nothing
-
--- alike events stay alike when the same events follow them
-pub alike_with : (left right more : List PlainEvent) → AreAlike left right
-    → AreAlike (left ++ more) (right ++ more)
-alike_with left right more p =
-    rw (map-append, map-append, p) refl
-
-pub alike_behind : (front left right : List PlainEvent) → AreAlike left right
-    → AreAlike (front ++ left) (front ++ right)
-alike_behind front left right p =
-    rw (map-append, map-append, p) refl
-
-pub whole_alike : (left right : List PlainEvent) → AreAlike left right → AreTreeEvents left
-    → AreTreeEvents right
-whole_alike left right p (t, alike) = (t, sym p ∙ alike)
-
-continue_with : (left right : List PlainEvent) → AreAlike left right → (e : PlainEvent)
-    → CanContinue left e → CanContinue right e
-continue_with left right p e (more, t, alike) =
-    (more, t, sym (alike_with _ _ _ p) ∙ alike)
-
-pub continue_alike : (left right : List PlainEvent) → AreAlike left right → ContinueAlike left right
-continue_alike left right p e = (continue_with _ _ p e, continue_with _ _ (sym p) e)
-
-pub alike_without_length : (events : List PlainEvent) → AreAlike (map without_length events) events
-alike_without_length events = all-without_length-twice _
-
-pub alike_last : (events : List PlainEvent) (e : PlainEvent)
-    → AreAlike (events ++ without_length e ∷ []) (events ++ e ∷ [])
-alike_last events e = alike_behind events _ _ (all-without_length-twice (e ∷ []))

@@ -1,46 +1,15 @@
 -- Which events fill a stack of expectations.
-use Rattle.std.proofs.Common.{◌≡◌, ℕ, true, List, [], ◌∷◌, ◌++◌, Option, Some, None, map, refl, ap, ◌∙◌, append_assoc, subst, option_and_then, rules}
-use Rattle.std.proofs.lemmas.List.{map-append}
+use Rattle.std.proofs.Common.{◌≡◌, ℕ, true, List, [], ◌∷◌, ◌++◌, Option, Some, None, map, refl, ap, ◌∙◌, append_assoc, subst, option_and_then}
 use Rattle.plist_base.specs.Events.{PlainEvent, StartArray, StartDictionary, EndCollection, ScalarEvent}
 use Rattle.plist_base.specs.Trees as trees
 use Rattle.plist_base.specs.Trees.{Tree, Leaf, Array, Dictionary, Trees, NoTrees, TreeAnd, Members, NoMembers, MemberAnd}
 use Rattle.plist_base.specs.Bracketing.{lengthless, lengthless_items, lengthless_pairs, bracketing, bracketing_of_items, bracketing_of_pairs, without_length}
-use Rattle.plist_base.specs.declared.expects.Expect.{Expect}
-use Rattle.plist_base.specs.declared.expects.Expect.TheVariants.{OneValue, Items, Pairs}
-use Rattle.plist_base.specs.Expects.{step, steps}
+use Rattle.plist_buffer.specs.declared.expects.Expect.{Expect}
+use Rattle.plist_buffer.specs.declared.expects.Expect.TheVariants.{OneValue, Items, Pairs}
+use Rattle.plist_buffer.specs.Expects.{step, steps}
 
 abbrev pub Stack : Type 0
 Stack = List Expect
-
-pub without_length-twice : (e : PlainEvent) → without_length (without_length e) ≡ without_length e
-without_length-twice e = search rules
-
-pub all-without_length-twice : (es : List PlainEvent) → map without_length (map without_length es)
-    ≡ map without_length es
-all-without_length-twice [] = refl
-all-without_length-twice (e ∷ es) = rw (without_length-twice e, all-without_length-twice es) refl
-
-mutual
-  -- a tree's events without their lengths are those of `lengthless`
-  pub lengthless-is : (t : Tree) → map without_length (bracketing t) ≡ lengthless t
-  lengthless-is (Leaf s) = refl
-  lengthless-is (Array ts) = rw (map-append without_length, lengthless-of-items-is ts) refl
-  lengthless-is (Dictionary ms) = rw (map-append without_length, lengthless-of-pairs-is ms) refl
-
-  pub lengthless-of-items-is : (ts : Trees) → map without_length (bracketing_of_items ts)
-      ≡ lengthless_items ts
-  lengthless-of-items-is NoTrees = refl
-  lengthless-of-items-is (TreeAnd t ts) = rw (
-    map-append without_length,
-    lengthless-is t,
-    lengthless-of-items-is ts,
-  ) refl
-
-  pub lengthless-of-pairs-is : (ms : Members) → map without_length (bracketing_of_pairs ms)
-      ≡ lengthless_pairs ms
-  lengthless-of-pairs-is NoMembers = refl
-  lengthless-of-pairs-is (MemberAnd k t ms) = rw
-      (map-append without_length, lengthless-is t, lengthless-of-pairs-is ms) refl
 
 -- the events are what is expected, and nothing more
 abbrev pub Fills : Stack → List PlainEvent → Type 0

@@ -2,9 +2,9 @@
 
 ghost use Rattle.std.specs.Prelude.{◌≡◌};
 ghost use Rattle.plist_base.specs.Events.{event_of};
-ghost use Rattle.plist_base.specs.Expects.{transition_of, transition_of_value, transition_of_items, transition_of_pairs};
+ghost use Rattle.plist_buffer.specs.Expects.{transition_of, transition_of_value, transition_of_items, transition_of_pairs};
 
-use crate::{Event, EventShape};
+use plist_base::{Event, EventShape};
 
 /// What the next events must be.
 #[derive(Clone, Copy, Drop)]

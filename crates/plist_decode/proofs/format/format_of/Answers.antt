@@ -1,7 +1,7 @@
 use Rattle.std.proofs.Common.{Some, None}
 use Rattle.std.proofs.lemmas.Option.{IfSome_then}
-use Rattle.plist_reader.proofs.Fronts.{binary-is, text-is}
-use Rattle.plist_reader.proofs.format.format_of.Goals as goal
+use Rattle.plist_decode.proofs.Fronts.{binary-is, text-is}
+use Rattle.plist_decode.proofs.format.format_of.Goals as goal
 
 pub returns-then-branch-clause-format : goal.returns-then-branch-clause-format
 returns-then-branch-clause-format g c =

@@ -10,8 +10,8 @@ use Rattle.std.proofs.lemmas.Option.{slice_get_within, slice_get-get_or, get_or_
 use Rattle.plist_base.specs.Sources.{IsOffsetWithin}
 use Rattle.plist_format.specs.Container.{magic}
 use Rattle.plist_decode.specs.FaultOffsets.{HasOffset}
-use Rattle.plist_reader.specs.declared.format.Format.TheVariants.{Binary, Xml, Ascii}
-use Rattle.plist_reader.specs.Formats.{input_front, is_white, byte_order_mark_length, past_white, xml_place, format_of}
+use Rattle.plist_decode.specs.declared.format.Format.TheVariants.{Binary, Xml, Ascii}
+use Rattle.plist_decode.specs.Formats.{input_front, is_white, byte_order_mark_length, past_white, xml_place, format_of}
 
 -- two facts that are true of known bytes can be used together
 pub both_known : {A : Type 0} (o : Option A) {P Q R : A → Type 0} → IfSome o P → IfSome o Q

@@ -1,7 +1,7 @@
 -- Worked examples: the formats that some first bytes indicate.
 use Rattle.std.specs.Prelude.{◌≡◌, [], ◌∷◌, codes, refl}
-use Rattle.plist_reader.specs.declared.format.Format.TheVariants.{Binary, Xml, Ascii}
-use Rattle.plist_reader.specs.Formats.{format_of}
+use Rattle.plist_decode.specs.declared.format.Format.TheVariants.{Binary, Xml, Ascii}
+use Rattle.plist_decode.specs.Formats.{format_of}
 
 example_binary : format_of (codes "bplist00") ≡ Binary
 unfolding format_of

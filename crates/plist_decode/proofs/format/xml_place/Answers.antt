@@ -1,8 +1,8 @@
 use Rattle.std.proofs.Common.{◌^◌, ◌-◌, sym, ◌∙◌}
 use Rattle.std.proofs.lemmas.Option.{IfSome_then}
-use Rattle.plist_reader.specs.Formats.{input_front}
-use Rattle.plist_reader.proofs.Fronts.{both_known, white-on, xml-here, xml-none, xml-end, moved, then_some-cond}
-use Rattle.plist_reader.proofs.format.xml_place.Goals as goal
+use Rattle.plist_decode.specs.Formats.{input_front}
+use Rattle.plist_decode.proofs.Fronts.{both_known, white-on, xml-here, xml-none, xml-end, moved, then_some-cond}
+use Rattle.plist_decode.proofs.format.xml_place.Goals as goal
 
 pub returns-then-not-is_white-clause-value : goal.returns-then-not-is_white-clause-value
 returns-then-not-is_white-clause-value g c =

@@ -1,6 +1,6 @@
 use Rattle.std.proofs.Common.{◌-◌, ◌≡◌, IfSome}
-use Rattle.plist_reader.specs.Formats.{input_front, past_white}
-use Rattle.plist_reader.proofs.format.xml_place.Given as goal
+use Rattle.plist_decode.specs.Formats.{input_front, past_white}
+use Rattle.plist_decode.proofs.format.xml_place.Given as goal
 
 abbrev pub invariant-white : goal.invariant-white
 invariant-white g l = record {

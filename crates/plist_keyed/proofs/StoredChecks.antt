@@ -1,0 +1,288 @@
+-- The walk that finds the first fault, as the code stores its state.
+use Rattle.std.proofs.Common.{◌≡◌, ℕ, zero, suc, ◌+◌, ◌-◌, ◌*◌, ◌<◌, ◌≤◌, Bool, true, false, nat_eq, inl, inr, List, [], ◌∷◌, ◌++◌, length, drop, reverse, ◌||◌, Option, Some, None, Result, Ok, Err, refl, ap, sym, ◌∙◌, append_assoc, append-nil, arith, subst, true≢false, cond, is_some, map}
+use Rattle.std.specs.Prelude.{slice_get, ◌⊎◌, ⊤, if◌then◌else◌, option_map}
+use Rattle.std.specs.List.{list_any}
+use Rattle.std.specs.Option.{option_and_then, option_map_or}
+use Rattle.std.specs.Map.{keys_of, lookup}
+use Rattle.indexmap.specs.IndexMap.{IndexMap, get, insert_entry}
+use Rattle.indexmap.specs.IndexSet.{insert_key}
+use Rattle.indexmap.proofs.CallerLemmas.{insert_entry-new}
+use Rattle.std.proofs.lemmas.Bool.{false_from_ne_true}
+use Rattle.std.proofs.lemmas.Bool.Decides.{eqb_tells}
+use Rattle.std.proofs.lemmas.List.{reverse-append, map-append}
+use Rattle.std.proofs.lemmas.List.Folds.{list_any-append}
+use Rattle.std.proofs.lemmas.Option.{none-some, same_Some, slice_get-map, slice_get_within}
+use Rattle.plist_base.specs.Bracketing.{bracketing}
+use Rattle.plist_base.specs.Events.{PlainEvent, ScalarEvent}
+use Rattle.plist_base.specs.Trees.{Tree, Uid}
+use Rattle.plist_base.specs.inner.Paths.{IsPath}
+use Rattle.plist_base.proofs.Paths.{path_fuel, path_none, path_push}
+use Rattle.plist.specs.declared.stream.events.Events.{Events}
+use Rattle.plist.specs.declared.value.Value.{Value}
+use Rattle.plist.specs.Events.{remaining_events}
+use Rattle.plist.specs.ValueTrees.{tree_of}
+use Rattle.plist_keyed.specs.declared.error.WalkError.{WalkError}
+use Rattle.plist_keyed.specs.declared.error.WalkError.TheVariants as walk_error
+use Rattle.plist_keyed.specs.declared.state.ArchiveWalk.{ArchiveWalk}
+use Rattle.plist_keyed.specs.Archives.{ArchiveFault, IsFaultOf, UidOutOfRange, RecursiveUid, error_of_walk, resolved_tree}
+use Rattle.plist_keyed.specs.inner.Walks.{AreSettled, FollowsUid, IsIn, NameOnly, end_in, events_at, objects_in, settled_in, uid_of_event, uid_of_tree}
+use Rattle.plist_keyed.proofs.Replaced.{Outcome, collected, events_in, join, join-assoc, join-nil, join-none, outcome}
+use Rattle.plist_keyed.proofs.Settled.{AreApart, first-in, found_in, found-parts, from-top, later-in, named-append, named-more, named-outcome, opened_in, refused_in, resolved_in, settled-same, uid-events}
+use Rattle.plist_keyed.proofs.Checks.{IsCheck, distance, leaves, opens, opens-nearer, outcome_of, passes, passes-nearer, read-passed, refuses, takes}
+
+or_comm : (a b : Bool) → a || (b || false) ≡ b || a
+or_comm true true = refl
+or_comm true false = refl
+or_comm false true = refl
+or_comm false false = refl
+
+pub any_reversed : (p : ℕ → Bool) (xs : List ℕ) → list_any p (reverse xs) ≡ list_any p xs
+any_reversed p [] = refl
+any_reversed p (x ∷ xs) =
+    rw (reverse-append (x ∷ []) xs, list_any-append p (reverse xs) (x ∷ []), any_reversed p xs)
+    (or_comm (list_any p xs) (p x))
+
+pub reverse-snoc : {A : Type 0} → (xs : List A) (x : A) → reverse (xs ++ x ∷ []) ≡ x ∷ reverse xs
+reverse-snoc xs x = reverse-append xs (x ∷ [])
+
+-- a new key is inserted as the last one
+pub added : (keys new : List ℕ) (uid : ℕ) → new ≡ insert_key nat_eq keys uid
+    → list_any (nat_eq uid) keys ≡ false → new ≡ keys ++ uid ∷ []
+added keys new uid is absent = is ∙ ap (λ b. if b then keys else keys ++ uid ∷ []) absent
+
+-- a map has an entry for a key if and only if the key is among its keys
+found-key : (entries : List (ℕ × ℕ)) (uid : ℕ)
+    → is_some (lookup (nat_eq uid) entries) ≡ list_any (nat_eq uid) (keys_of entries)
+found-key [] uid = refl
+found-key (e ∷ entries) uid = by (nat_eq uid e.0) (found-key entries uid)
+  where
+    by : (b : Bool)
+        → is_some (lookup (nat_eq uid) entries) ≡ list_any (nat_eq uid) (keys_of entries)
+        → is_some (cond b (Some e.1) (lookup (nat_eq uid) entries))
+        ≡ b || list_any (nat_eq uid) (keys_of entries)
+    by true h = refl
+    by false h = h
+
+-- a Uid that is a key of the map is settled
+pub member : {S : Type 0} (ends : IndexMap ℕ ℕ S) (uid : ℕ)
+    → is_some (get nat_eq ends uid) ≡ true → IsIn uid (settled_in ends)
+member ends uid has =
+    any_reversed (nat_eq uid) (keys_of ends.entries) ∙ sym (found-key ends.entries uid) ∙ has
+
+pub no-member : {S : Type 0} (ends : IndexMap ℕ ℕ S) (uid : ℕ)
+    → is_some (get nat_eq ends uid) ≡ false → IsIn uid (settled_in ends) → ⊥
+no-member ends uid has h =
+    true≢false (sym h ∙ any_reversed (nat_eq uid) (keys_of ends.entries)
+    ∙ sym (found-key ends.entries uid) ∙ has)
+
+not-in : {S : Type 0} (ends : IndexMap ℕ ℕ S) (uid : ℕ) → ends.entries ≡ []
+    → IsIn uid (settled_in ends) → ⊥
+not-in ends uid none h =
+    let k : IsIn uid [] = subst (λ es. IsIn uid (reverse (keys_of es))) none h in absurd (cc)
+
+-- the Uid that is inserted is the last one settled
+pub inserts : {S : Type 0} (ends new : IndexMap ℕ ℕ S) (uid end : ℕ)
+    → (IsIn uid (settled_in ends) → ⊥) → new.entries ≡ insert_entry nat_eq ends.entries uid end
+    → settled_in new ≡ uid ∷ settled_in ends
+inserts ends new uid end out is =
+    ap (λ es. reverse (keys_of es)) (is ∙ insert_entry-new nat_eq ends uid end (by _ refl))
+    ∙ ap reverse (map-append (λ e. e.0) ends.entries ((uid, end) ∷ []))
+    ∙ reverse-snoc (keys_of ends.entries) uid
+  where
+    by : (found : Option ℕ) → get nat_eq ends uid ≡ found → get nat_eq ends uid ≡ None
+    by None p = p
+    by (Some e) p = absurd (out (member ends uid (ap is_some p)))
+
+-- the tree of an object that was looked up is that of the index
+pub seen_at : (objects : List Value) (uid : ℕ) (answer found : Option Value)
+    → answer ≡ slice_get objects uid → answer ≡ found
+    → slice_get (map tree_of objects) uid ≡ option_map tree_of found
+seen_at objects uid answer found is same =
+    slice_get-map tree_of objects uid ∙ ap (option_map tree_of) (sym is ∙ same)
+
+-- ---- following a Uid
+
+pub found-missing : (objects : List Tree) (path : List ℕ) (uid : ℕ)
+    → slice_get objects uid ≡ None → found_in objects path uid ≡ Err (UidOutOfRange uid)
+found-missing objects path uid at = rw at refl
+
+pub found-open : (objects : List Tree) (path : List ℕ) (uid : ℕ) (object : Tree)
+    → slice_get objects uid ≡ Some object → list_any (nat_eq uid) path ≡ true
+    → found_in objects path uid ≡ Err (RecursiveUid uid)
+found-open objects path uid object at on = rw (at, on) refl
+
+pub found-closed : (objects : List Tree) (path : List ℕ) (uid : ℕ) (object : Tree)
+    → slice_get objects uid ≡ Some object → list_any (nat_eq uid) path ≡ false
+    → found_in objects path uid ≡ Ok object
+found-closed objects path uid object at off = rw (at, off) refl
+
+-- ---- the steps of the walk
+
+-- the remaining events of each level, innermost first
+abbrev pub levels_of : List Events → List (List PlainEvent)
+levels_of levels = map remaining_events (reverse levels)
+
+pub levels-snoc : (below : List Events) (level : Events)
+    → levels_of (below ++ level ∷ []) ≡ remaining_events level ∷ levels_of below
+levels-snoc below level = ap (map remaining_events) (reverse-snoc below level)
+
+-- the state is consistent, and the walk began with this Uid
+abbrev pub Checks : (start : ℕ) → ArchiveWalk → (levels : List (List PlainEvent)) → (path : List ℕ)
+    → Type 0
+Checks start walk levels path =
+    IsCheck (objects_in walk) start (end_in walk.ends) (settled_in walk.ends) levels path
+
+abbrev pub distance_in : ArchiveWalk → (levels : List (List PlainEvent)) → (path : List ℕ) → ℕ
+distance_in walk levels path = distance (objects_in walk) (settled_in walk.ends) levels path
+
+-- the first Uid is followed
+pub begins : (before after : ArchiveWalk) (path longer : List ℕ) (start : ℕ) → path ≡ []
+    → before.levels.items ≡ [] → before.ends.entries ≡ [] → after.objects ≡ before.objects
+    → after.ends ≡ before.ends → FollowsUid before path start after longer
+    → Checks start after (levels_of after.levels.items) (reverse longer)
+begins before after path longer start none levels ends objects same (inl (has, kept, is)) =
+    absurd (not-in before.ends start ends has)
+begins before after path longer start none levels ends objects same
+    (inr r) =
+    let trees = objects_in before in
+    rw (objects, same, ends, r.is_last, none, r.levels, levels, r.events)
+    (opens trees start (λ u. u) [] (ScalarEvent (Uid start)) [] [] [] start r.object tt tt
+    (λ p. absurd (cc))
+    (sym (join-nil _ ∙ join-none _ ∙ ap (events_in bracketing) (from-top trees start))) refl
+    (rw none at r.found) (inr (first-in start [])))
+
+-- an event that isn't a Uid is taken
+pub skips : (walk : ArchiveWalk) (path : List ℕ) (start : ℕ) (e : PlainEvent)
+    (below items : List Events)
+    (rest : Events) → items ≡ below ++ rest ∷ []
+    → Checks start walk ((e ∷ remaining_events rest) ∷ levels_of below) path
+    → uid_of_event e ≡ None → Checks start walk (levels_of items) path
+skips walk path start e below items rest is o plain =
+    rw (is, levels-snoc below rest) (passes (objects_in walk) start (end_in walk.ends)
+    (settled_in walk.ends) e (remaining_events rest) (levels_of below) path
+    ((λ u p. absurd (none-some u (sym plain ∙ p))), tt) o)
+
+-- an event that is a Uid is followed
+pub follows : (walk after : ArchiveWalk) (path longer : List ℕ) (start : ℕ) (e : PlainEvent)
+    (below : List Events) (rest : Events) (n : ℕ) → walk.levels.items ≡ below ++ rest ∷ []
+    → Checks start walk ((e ∷ remaining_events rest) ∷ levels_of below) (reverse path)
+    → after.objects ≡ walk.objects → after.ends ≡ walk.ends → uid_of_event e ≡ Some n
+    → FollowsUid walk path n after longer
+    → Checks start after (levels_of after.levels.items) (reverse longer)
+    × (distance_in after (levels_of after.levels.items) (reverse longer)
+    < distance_in walk ((e ∷ remaining_events rest) ∷ levels_of below) (reverse path))
+follows walk after path longer start e below rest n items o objects ends is
+    (inl (has, kept, longer_is)) =
+    let trees = objects_in walk in
+    let end = end_in walk.ends in
+    let uids = settled_in walk.ends in
+    rw (objects, ends, kept, longer_is, items, levels-snoc below rest) (
+      passes trees start end uids e (remaining_events rest) (levels_of below) (reverse path)
+          ((λ u p. subst (λ m. IsIn m uids) (same_Some n u (sym is ∙ p)) has), tt) o,
+      passes-nearer trees start end uids e (remaining_events rest) (levels_of below) (reverse path),
+    )
+follows walk after path longer start e below rest n items o objects ends is
+    (inr r) =
+    let trees = objects_in walk in
+    let end = end_in walk.ends in
+    let uids = settled_in walk.ends in
+    let others = remaining_events rest ∷ levels_of below in
+    let found_too : found_in trees (reverse path) n ≡ Ok r.object =
+    rw (any_reversed (nat_eq n) path) r.found in
+    let parts = found-parts (slice_get trees n) _ n r.object found_too in
+    let off : IsIn n (reverse path) → ⊥ = (λ p. true≢false (sym p ∙ parts.1)) in
+    let check : IsCheck trees start end uids (bracketing r.object ∷ others) (n ∷ reverse path) =
+    opens trees start end uids e others (reverse path) o.done n r.object o.settled
+    (read-passed trees uids e n (remaining_events rest) (levels_of below) (reverse path) is off
+    o.read) r.is_new (o.given ∙ ap (join (Ok o.done)) (takes trees start end uids e
+    (remaining_events rest) (levels_of below) (reverse path))) is found_too (elim o.reached [
+      | inl p ↦ inl p
+      | inr p ↦ inr (later-in start n (reverse path) p)
+    ]) in
+    rw (
+      objects,
+      ends,
+      r.levels,
+      levels-snoc walk.levels.items r.level,
+      r.events,
+      items,
+      levels-snoc below rest,
+      r.is_last,
+      reverse-snoc path n,
+    ) (
+      check,
+      opens-nearer trees start end uids e (remaining_events rest) (levels_of below) (reverse path) n
+          r.object check parts.0,
+    )
+
+-- a Uid is refused
+refused-by : (walk : ArchiveWalk) (path : List ℕ) (start : ℕ) (e : PlainEvent)
+    (levels : List (List PlainEvent)) (done : List PlainEvent) (n : ℕ) (error : WalkError)
+    → events_in bracketing (resolved_tree (objects_in walk) start)
+    ≡ join (Ok done) (join (outcome (resolved_in (objects_in walk) (reverse path)) e)
+    (outcome_of (objects_in walk) levels (reverse path)))
+    → uid_of_event e ≡ Some n
+    → IsFaultOf (found_in (objects_in walk) path n) (error_of_walk error)
+    → IsFaultOf (resolved_tree (objects_in walk) start) (error_of_walk error)
+refused-by walk path start e levels done n (walk_error.MissingObject uid) given is found =
+    refuses (objects_in walk) start (λ u. u) [] e levels (reverse path) done n _ given is
+    (rw (any_reversed (nat_eq n) path) found)
+refused-by walk path start e levels done n (walk_error.OpenObject uid) given is found =
+    refuses (objects_in walk) start (λ u. u) [] e levels (reverse path) done n _ given is
+    (rw (any_reversed (nat_eq n) path) found)
+refused-by walk path start e levels done n walk_error.OutOfMemory given is h = tt
+
+-- the innermost Uid, whose object has no events left, is settled
+pub settles : (walk after : ArchiveWalk) (path shorter : List ℕ) (start uid : ℕ) (left : Events)
+    (below : List Events) → path ≡ shorter ++ uid ∷ [] → remaining_events left ≡ []
+    → Checks start walk (remaining_events left ∷ levels_of below) (reverse path)
+    → after.objects ≡ walk.objects
+    → settled_in after.ends ≡ uid ∷ settled_in walk.ends
+    → end_in after.ends uid ≡ option_map_or (end_in walk.ends)
+    (option_and_then uid_of_tree (slice_get (objects_in walk) uid)) uid
+    → ((other : ℕ) → IsIn other (settled_in walk.ends)
+    → end_in after.ends other ≡ end_in walk.ends other)
+    → Checks start after (levels_of below) (reverse shorter)
+settles walk after path shorter start uid left below is none o objects settled own kept =
+    let check = (rw (is, reverse-snoc shorter uid, none) at o) in
+    rw (objects, settled) (leaves (objects_in walk) start (end_in walk.ends)
+    (settled_in walk.ends) (end_in after.ends) uid (levels_of below) (reverse shorter) own kept
+    check)
+
+-- ---- the loop
+
+-- the innermost level is removed
+pub popped : (start : ℕ) (walk : ArchiveWalk) (path : List ℕ) (below : List Events) (left : Events)
+    → walk.levels.items ≡ below ++ left ∷ [] → Checks start walk (levels_of walk.levels.items) path
+    → Checks start walk (remaining_events left ∷ levels_of below) path
+popped start walk path below left is o =
+    subst (λ levels. Checks start walk levels path) (ap levels_of is ∙ levels-snoc below left) o
+
+pub popped-distance : (walk : ArchiveWalk) (path : List ℕ) (below : List Events) (left : Events)
+    → walk.levels.items ≡ below ++ left ∷ []
+    → distance_in walk (levels_of walk.levels.items) path
+    ≡ distance_in walk (remaining_events left ∷ levels_of below) path
+popped-distance walk path below left is =
+    ap (λ levels. distance_in walk levels path) (ap levels_of is ∙ levels-snoc below left)
+
+-- the first Uid is refused
+pub first-refused : (walk : ArchiveWalk) (path : List ℕ) (start : ℕ) (error : WalkError) → path ≡ []
+    → IsFaultOf (found_in (objects_in walk) path start) (error_of_walk error)
+    → IsFaultOf (resolved_tree (objects_in walk) start) (error_of_walk error)
+first-refused walk path start error none h =
+    refused-by walk path start (ScalarEvent (Uid start)) [] [] start error (rw none
+    (sym (join-nil _ ∙ join-none _ ∙ ap (events_in bracketing) (from-top (objects_in walk) start))))
+    refl h
+
+-- a later Uid is refused
+pub later-refused : (walk : ArchiveWalk) (path : List ℕ) (start : ℕ) (e : PlainEvent)
+    (below : List Events) (rest : Events) (n : ℕ) (error : WalkError)
+    → Checks start walk ((e ∷ remaining_events rest) ∷ levels_of below) (reverse path)
+    → uid_of_event e ≡ Some n
+    → IsFaultOf (found_in (objects_in walk) path n) (error_of_walk error)
+    → IsFaultOf (resolved_tree (objects_in walk) start) (error_of_walk error)
+later-refused walk path start e below rest n error o is h =
+    let trees = objects_in walk in
+    refused-by walk path start e (remaining_events rest ∷ levels_of below) o.done n error
+    (o.given ∙ ap (join (Ok o.done)) (takes trees start (end_in walk.ends) (settled_in walk.ends) e
+    (remaining_events rest) (levels_of below) (reverse path))) is h
