@@ -14,13 +14,12 @@ use Rattle.plist_format.specs.Unfolding.{TableEntry, table_of, unfolding_of, unt
 use Rattle.plist_format.specs.Visits.{visits_of, visits_with, visits}
 use Rattle.plist_format.proofs.Tables.{length-table_of}
 use Rattle.plist_binwrite.specs.Classes.{IsFileBy, count_by, objects_by, size_by, files_by}
-use Rattle.plist_base.specs.Sinks.{IsSizeOrNone}
 use Rattle.plist_binwrite.specs.Sizes.{collections_in, size_with}
 use Rattle.plist_binwrite.specs.Forms.{form, table_form, AllFit, reference_width, least_width}
 use Rattle.plist_binwrite.specs.Numberings.{Describes}
 use Rattle.plist_binwrite.specs.EventClasses.{class_in, events_in}
 use Rattle.plist_binwrite.specs.inner.Layout.{IsFilePlan, PutsFile}
-use Rattle.plist_binwrite.specs.inner.ObjectSizes.{AreSizes, fixed_at, references_at, total_below}
+use Rattle.plist_binwrite.specs.inner.ObjectSizes.{AreSizes, IsCapped, fixed_at, references_at, total_below}
 use Rattle.plist_binwrite.specs.declared.numbering.Numbering.{Numbering}
 use Rattle.plist_binwrite.specs.Forms.{IsWritable}
 use Rattle.plist_binwrite.specs.Numberings.{object_of}
@@ -219,9 +218,9 @@ module _ {given : Classed} {numbering : Numbering} (n : IsNumberingOfEvents give
         ∙ total_below_sum _ _ w numbering.count
 
 module _ {given : Classed} {numbering : Numbering} (n : IsNumberingOfEvents given numbering)
-    (size : Option ℕ)
+    (size : ℕ)
     (is : (fixed references : ℕ) → AreSizes numbering.sizes fixed references
-    → IsSizeOrNone size (fixed + references * reference_width numbering.count)) where
+    → IsCapped size (fixed + references * reference_width numbering.count)) where
   abbrev number : ℕ → ℕ
   number = object_number given numbering
 
@@ -234,7 +233,7 @@ module _ {given : Classed} {numbering : Numbering} (n : IsNumberingOfEvents give
 
   -- the size is that of all objects
   size_is : (objects : ℕ → Object) → Describes (events_in given) number objects
-      → IsSizeOrNone size (bytes_of objects)
+      → IsCapped size (bytes_of objects)
   size_is objects d =
       rw (size_told n objects d (reference_width numbering.count)) (is _ _ n.sizes.sums)
 
@@ -249,7 +248,7 @@ module _ {given : Classed} {numbering : Numbering} (n : IsNumberingOfEvents give
 
   -- the file has 2^64 bytes or more
   pub oversized : AreTreeEvents (events_in given)
-      → ((objects : ℕ) → IsSizeOrNone size objects → 2 ^ 64 ≤ size_with numbering.count objects)
+      → ((objects : ℕ) → IsCapped size objects → 2 ^ 64 ≤ size_with numbering.count objects)
       → IsOfTree (events_in given) (λ tree. 2 ^ 64 ≤ size_by (class_in given) tree)
   oversized tree exceeds = (
     complete_of_whole (events_in given) tree,
@@ -260,7 +259,7 @@ module _ {given : Classed} {numbering : Numbering} (n : IsNumberingOfEvents give
   -- the numbering is the plan of a file
   pub plan_made : (width : ℕ) → width ≡ reference_width numbering.count → width ≤ 8
       → numbering.count ≤ 256 ^ width → length (events_in given) < 2 ^ 64
-      → ((objects : ℕ) → IsSizeOrNone size objects → size_with numbering.count objects < 2 ^ 64)
+      → ((objects : ℕ) → IsCapped size objects → size_with numbering.count objects < 2 ^ 64)
       → IsFilePlan (record { given = given; numbering = numbering; width = width })
   plan_made width wide narrow fit few fits = record {
     numbered = n;

@@ -11,9 +11,8 @@ use Rattle.plist_binwrite.specs.Numberings.{object_of}
 use Rattle.plist_binwrite.specs.Forms.{length_form, units_of, is_ascii_text, scalar_form, form, key_numbers, value_numbers, IsWritable, IsWritableScalar, AllFit}
 use Rattle.std.specs.Int.{bytes_high_first}
 use Rattle.plist_buffer.specs.EventTable.{is_end, event_at, item_indices, key_indices, value_indices, IsBracketed}
-use Rattle.plist_base.specs.Sinks.{IsSizeOrNone}
 use Rattle.plist_binwrite.specs.Sizes.{object_size}
-use Rattle.plist_binwrite.specs.inner.ObjectSizes.{AreSizes, fixed_at, fixed_of, references_at, references_of_event}
+use Rattle.plist_binwrite.specs.inner.ObjectSizes.{AreSizes, IsCapped, fixed_at, fixed_of, references_at, references_of_event}
 use Rattle.plist_buffer.specs.Children.{half_of}
 use Rattle.plist_buffer.specs.declared.children.Half.TheVariants.{Values}
 use Rattle.plist_format.specs.declared.marker.CountedKind.TheVariants as counted
@@ -207,11 +206,15 @@ dictionary_sizes (StartArray hint) count is = cc
 dictionary_sizes EndCollection count is = cc
 dictionary_sizes (ScalarEvent x) count is = cc
 
+-- a small size is below the cap
+pub capped_small : {number size : ℕ} → number ≡ size → number ≤ 17 → IsCapped number size
+capped_small is small = omega (arith, is, small)
+
 -- the size of one more object is added
-pub sizes_with : (es : List PlainEvent) (index : ℕ) {old new : ObjectSizes} (fixed : Option ℕ)
-    (size references : ℕ) → IsSizeOrNone fixed size → size ≡ fixed_at es index
+pub sizes_with : (es : List PlainEvent) (index : ℕ) {old new : ObjectSizes} (fixed size references : ℕ)
+    → IsCapped fixed size → size ≡ fixed_at es index
     → references ≡ references_at es index
-    → ((a b c : ℕ) → AreSizes old a b → IsSizeOrNone fixed c → AreSizes new (c + a) (references + b))
+    → ((a b c : ℕ) → AreSizes old a b → IsCapped fixed c → AreSizes new (c + a) (references + b))
     → (a b : ℕ) → AreSizes old a b
     → AreSizes new (fixed_at es index + a) (references_at es index + b)
 sizes_with all index {new = new} fixed size count is e f added a b s =
@@ -224,11 +227,6 @@ pub size_split : {es : List PlainEvent} {p : ℕ} (w : ℕ) (t : Tree) → Occur
 size_split w (Leaf x) s = rw (stands_single s) (omega arith)
 size_split w (Array ts) s = rw (count_items s, starts_array s) refl
 size_split w (Dictionary ms) s = rw (count_pairs s, starts_dictionary s) (grind arith)
-
-pub told_if : (given : Option ℕ) (event_count : ℕ) → SomeIff given (event_count < 2 ^ 64) event_count
-    → IsSizeOrNone given event_count
-told_if None event_count h = elim (cases_lt _ _) [ inl l ↦ absurd (h l) | inr l ↦ l ]
-told_if (Some x) event_count h = h.1
 
 pub wide_length : (text : List ℕ) → is_ascii_text text ≡ false
     → length (length_form 0x6 (length (units_of text))) + length (units_of text) * 2

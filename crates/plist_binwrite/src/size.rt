@@ -1,5 +1,5 @@
 //! Computes the lengths of objects and of the file in bytes, before any byte is written. A length
-//! of 2^64 or more is `None`.
+//! of 2^64 or more is 2^64 - 1: no file is that long, so it isn't mistaken for a length.
 
 ghost use Rattle.std.specs.Prelude.{◌≡◌, ◌+◌, ◌*◌, ◌≤◌, ◌<◌, ◌^◌, ℕ, length, true, false};
 ghost use Rattle.plist_base.specs.Events.{ScalarEvent};
@@ -11,7 +11,7 @@ ghost use Rattle.plist_buffer.specs.EventTable.{plain_events, table_event};
 ghost use Rattle.plist_binwrite.specs.Forms.{IsWritableScalar, unsigned_form, length_form, scalar_form};
 ghost use Rattle.plist_base.specs.Sinks.{IsSizeOrNone};
 ghost use Rattle.plist_binwrite.specs.Sizes.{size_with};
-ghost use Rattle.plist_binwrite.specs.inner.ObjectSizes.{AreSizes, fixed_at, references_at};
+ghost use Rattle.plist_binwrite.specs.inner.ObjectSizes.{AreSizes, IsCapped, fixed_at, references_at};
 ghost use Rattle.plist_buffer.specs.StoredScalars.{scalar_of_ref};
 
 use crate::text::{count_units, is_ascii_text};
@@ -21,23 +21,6 @@ use plist_buffer::children::{Children, Half};
 use plist_buffer::event_table::EventTable;
 use plist_buffer::stored_scalar::ScalarRef;
 use plist_format::LowHalf;
-
-/// Returns the sum of two lengths, or `None` if it is 2^64 or more, or if a length is `None`.
-pub fn add(length: Option<u64>, more: Option<u64>) -> Option<u64>
-    ensures sum { (a b : ℕ) → IsSizeOrNone length a → IsSizeOrNone more b
-        → IsSizeOrNone result (a + b) }
-{
-    length?.checked_add(more?)
-}
-
-// Returns the product of a length and a factor that isn't 0, or `None` if it is 2^64 or more, or if
-// the length is `None`.
-fn times(length: Option<u64>, factor: u64) -> Option<u64>
-    requires { 1 ≤ factor }
-    ensures { (size : ℕ) → IsSizeOrNone length size → IsSizeOrNone result (size * factor) }
-{
-    length?.checked_mul(factor)
-}
 
 // Returns the length of an unsigned integer with its marker, in bytes.
 fn length_of_unsigned(number: u64) -> u64
@@ -59,21 +42,23 @@ fn length_of_count(count: u64) -> u64
 }
 
 // Returns the length of a marker with this count and of the `count` bytes that follow it.
-fn length_of_bytes(count: u64) -> Option<u64>
-    ensures value { (high : ℕ) → IsSizeOrNone result (length (length_form high count) + count) }
+fn length_of_bytes(count: u64) -> u64
+    ensures value { (high : ℕ) → IsCapped result (length (length_form high count) + count) }
 {
-    count.checked_add(length_of_count(count))
+    count.saturating_add(length_of_count(count))
 }
 
-fn length_of_text(text: &str) -> Option<u64>
-    ensures value { IsSizeOrNone result (length (scalar_form (trees.String text.now))) }
+fn length_of_text(text: &str) -> u64
+    ensures value { IsCapped result (length (scalar_form (trees.String text.now))) }
     ensures writable { IsWritableScalar (trees.String text.now) }
 {
     if is_ascii_text(text) {
         return length_of_bytes(text.len() as u64);
     }
     let count = count_units(text) as u64;
-    add(Some(length_of_count(count)), count.checked_mul(2))
+    count
+        .saturating_mul(2)
+        .saturating_add(length_of_count(count))
 }
 
 fn length_of_date(date: Date) -> u64
@@ -111,19 +96,19 @@ fn length_of_uid(uid: Uid) -> u64
     1 + least_width(uid.get()) as u64
 }
 
-// Returns the length of a scalar's object in bytes, or `None` if it is 2^64 or more.
-fn length_of_scalar(scalar: ScalarRef<'_>) -> Option<u64>
-    ensures value { IsSizeOrNone result (length (scalar_form (scalar_of_ref scalar.entry))) }
+// Returns the length of a scalar's object in bytes.
+fn length_of_scalar(scalar: ScalarRef<'_>) -> u64
+    ensures value { IsCapped result (length (scalar_form (scalar_of_ref scalar.entry))) }
     ensures writable { IsWritableScalar (scalar_of_ref scalar.entry) }
 {
     match scalar {
-        ScalarRef::Boolean(_) => Some(1),
+        ScalarRef::Boolean(_) => 1,
         ScalarRef::Data(bytes) => length_of_bytes(bytes.len() as u64),
-        ScalarRef::Date(date) => Some(length_of_date(date)),
-        ScalarRef::Integer(value) => Some(length_of_integer(value)),
-        ScalarRef::Real(bits) => Some(length_of_real(bits)),
+        ScalarRef::Date(date) => length_of_date(date),
+        ScalarRef::Integer(value) => length_of_integer(value),
+        ScalarRef::Real(bits) => length_of_real(bits),
         ScalarRef::String(text) => length_of_text(text),
-        ScalarRef::Uid(uid) => Some(length_of_uid(uid)),
+        ScalarRef::Uid(uid) => length_of_uid(uid),
     }
 }
 
@@ -139,19 +124,18 @@ pub fn count_children(events: &EventTable<'_>, index: usize) -> usize
 /// whose width isn't known yet.
 #[derive(Clone, Copy)]
 pub struct ObjectSizes {
-    /// The bytes of markers, lengths and contents, or `None` if they are 2^64 or more.
-    pub fixed: Option<u64>,
-    /// The number of references, or `None` if it is 2^64 or more.
-    pub references: Option<u64>,
+    /// The bytes of markers, lengths and contents, or 2^64 - 1 if they are more.
+    pub fixed: u64,
+    /// The number of references, or 2^64 - 1 if it is greater.
+    pub references: u64,
 }
 
 impl ObjectSizes {
     ghost use Rattle.std.specs.Prelude.{◌≡◌, ◌+◌, ◌*◌, ◌≤◌, ◌<◌, ℕ, length};
     ghost use Rattle.plist_base.specs.Events.{ScalarEvent};
-    ghost use Rattle.plist_base.specs.Sinks.{IsSizeOrNone};
     ghost use Rattle.plist_base.specs.Trees.{Scalar};
     ghost use Rattle.plist_binwrite.specs.Forms.{IsWritableScalar};
-    ghost use Rattle.plist_binwrite.specs.inner.ObjectSizes.{AreSizes, fixed_at, references_at};
+    ghost use Rattle.plist_binwrite.specs.inner.ObjectSizes.{AreSizes, IsCapped, fixed_at, references_at};
     ghost use Rattle.plist_buffer.specs.EventTable.{plain_events, table_event};
 
     /// Returns the size of no objects.
@@ -159,19 +143,19 @@ impl ObjectSizes {
         ensures { AreSizes result 0 0 }
     {
         ObjectSizes {
-            fixed: Some(0),
-            references: Some(0),
+            fixed: 0,
+            references: 0,
         }
     }
 
     // Adds the size of one more object.
     #[inline(always)]
-    fn add(&mut self, fixed: Option<u64>, references: u64)
-        ensures { (a b c : ℕ) → AreSizes self.old a b → IsSizeOrNone fixed c
+    fn add(&mut self, fixed: u64, references: u64)
+        ensures { (a b c : ℕ) → AreSizes self.old a b → IsCapped fixed c
             → AreSizes self.new (c + a) (references + b) }
     {
-        self.fixed = add(fixed, self.fixed);
-        self.references = add(Some(references), self.references);
+        self.fixed = self.fixed.saturating_add(fixed);
+        self.references = self.references.saturating_add(references);
     }
 
     /// Adds the size of the object of the event at an index. An end has no object.
@@ -186,11 +170,11 @@ impl ObjectSizes {
         match events.kind_at(index) {
             EventShape::StartArray => {
                 let count = count_children(events, index) as u64;
-                self.add(Some(length_of_count(count)), count);
+                self.add(length_of_count(count), count);
             }
             EventShape::StartDictionary => {
                 let count = count_children(events, index) as u64;
-                self.add(Some(length_of_count(count)), 2 * count);
+                self.add(length_of_count(count), 2 * count);
             }
             EventShape::Scalar | EventShape::EndCollection => {
                 if let Some(scalar) = events.scalar_at(index) {
@@ -200,34 +184,35 @@ impl ObjectSizes {
         }
     }
 
-    /// Returns the number of bytes if a reference has `width` bytes, or `None` if it is 2^64 or
-    /// more.
-    pub fn with_width(self, width: usize) -> Option<u64>
+    /// Returns the number of bytes if a reference has `width` bytes, or 2^64 - 1 if it is greater.
+    pub fn with_width(self, width: usize) -> u64
         requires { 1 ≤ width }
         ensures { (fixed references : ℕ) → AreSizes self fixed references
-            → IsSizeOrNone result (fixed + references * width) }
+            → IsCapped result (fixed + references * width) }
     {
-        add(self.fixed, times(self.references, width as u64))
+        let links = self.references.saturating_mul(width as u64);
+        self.fixed.saturating_add(links)
     }
 }
 
-// Returns the size of a file with this many objects and its offset table at this offset.
+// Returns the size of a file with this many objects and its offset table at this offset, or `None`
+// if it is 2^64 or more.
 fn size_of_file(table: u64, count: u64) -> Option<u64>
     ensures { (objects : ℕ) → table ≡ 8 + objects → IsSizeOrNone result (size_with count objects) }
 {
-    let offsets = count.checked_mul(offset_width(table) as u64);
-    add(add(Some(table), offsets), Some(32))
+    let offsets = count.checked_mul(offset_width(table) as u64)?;
+    table.checked_add(offsets)?.checked_add(32)
 }
 
 /// Returns whether a file with `count` objects, which have `objects` bytes together, has less than
 /// 2^64 bytes. The call allocates no memory.
-pub fn has_size(objects: Option<u64>, count: u64) -> bool
-    ensures fits { result ≡ true → (size : ℕ) → IsSizeOrNone objects size
+pub fn has_size(objects: u64, count: u64) -> bool
+    ensures fits { result ≡ true → (size : ℕ) → IsCapped objects size
         → size_with count size < 2 ^ 64 }
-    ensures oversized { result ≡ false → (size : ℕ) → IsSizeOrNone objects size
+    ensures oversized { result ≡ false → (size : ℕ) → IsCapped objects size
         → 2 ^ 64 ≤ size_with count size }
 {
-    match add(objects, Some(8)) {
+    match objects.checked_add(8) {
         Some(table) => size_of_file(table, count).is_some(),
         None => false,
     }

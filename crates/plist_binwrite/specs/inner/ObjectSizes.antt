@@ -1,8 +1,7 @@
 -- The sizes of the objects of events: their bytes without references, and the number of references,
 -- whose width isn't known yet.
-use Rattle.std.specs.Prelude.{◌≡◌, ℕ, zero, suc, ◌+◌, ◌*◌, ◌<◌, List, length}
+use Rattle.std.specs.Prelude.{◌≡◌, ℕ, zero, suc, ◌+◌, ◌-◌, ◌*◌, ◌^◌, ◌<◌, List, length, min}
 use Rattle.plist_base.specs.Events.{PlainEvent, ScalarEvent, StartArray, StartDictionary, EndCollection}
-use Rattle.plist_base.specs.Sinks.{IsSizeOrNone}
 use Rattle.plist_base.specs.Trees.{Scalar}
 use Rattle.plist_buffer.specs.Children.{half_of}
 use Rattle.plist_buffer.specs.EventTable.{event_at}
@@ -38,10 +37,14 @@ abbrev pub total_below : (weight : ℕ → ℕ) → (count : ℕ) → ℕ
 total_below weight zero = 0
 total_below weight (suc count) = weight count + total_below weight count
 
+-- the number is a size, or 2^64 - 1 if the size is greater
+abbrev pub IsCapped : (number size : ℕ) → Type 0
+IsCapped number size = number ≡ min size (2 ^ 64 - 1)
+
 -- objects have this many bytes, without their references, and this many references
 pub record AreSizes (sizes : ObjectSizes) (fixed references : ℕ) : Type 0 where
-  pub bytes : IsSizeOrNone sizes.fixed fixed
-  pub links : IsSizeOrNone sizes.references references
+  pub bytes : IsCapped sizes.fixed fixed
+  pub links : IsCapped sizes.references references
 
 -- these are the sizes of `count` objects together, of which each begins at the event with index
 -- `first`, and each scalar among them can be written
