@@ -379,8 +379,12 @@ def still_scalars(calls):
     calls.still("Integer", "0x0x10", "16 16 Some(16) Some(16) false")
     calls.still("Integer", "x", " None None false")
     calls.still("Data", "00ff", "2 0707")
-    calls.still("Event", "'text' 'text'", "true (String, String)")
-    calls.still("Event", "'text' <74657874>", "false (String, Data)")
+    calls.still("Event", "'text' 'text'", "true true (String, String)")
+    calls.still("Event", "'text' 'test'", "false true (String, String)")
+    calls.still("Event", "'text' <74657874>", "false true (String, Data)")
+    calls.still("Event", "<00ff> <00ff>", "true true (Data, Data)")
+    calls.still("Event", "[ [0", "false true (StartArray, StartArray)")
+    calls.still("Event", "[ {", "false true (StartArray, StartDictionary)")
     others = "true false true"
     zone = f"Some((-3600, 978303600)) {others}"
     calls.still("Date", "2001-01-01T00:00:00+01:00", zone)

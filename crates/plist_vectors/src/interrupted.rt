@@ -4,7 +4,7 @@
 use crate::sources::sample;
 use crate::support::{must, same, same_at};
 use plist_base::{Seeking, Source, read_exact_at};
-use plist_support::{Device, Disk, expect_io};
+use plist_support::{Device, DeviceFault, Disk, expect_io};
 use std::io::ErrorKind;
 use std::process::Abort;
 
@@ -54,22 +54,12 @@ const KINDS: [ErrorKind; 7] = [
 fn tries_nothing_twice(rt: HostRuntime) {
     for kind in KINDS {
         for (call, asked) in [(0, 0), (1, 1), (2, 1), (3, 1), (4, 1), (5, 2), (6, 2)] {
-            let (found, calls) = failure_of_disk(&rt, call, kind);
-            same_at(
-                &rt,
-                "the failure at call",
-                call,
-                &found,
-                &Some((asked, kind)),
-            );
-            same(&rt, "calls", &calls, &call.saturating_add(1));
+            let found = failure_of_disk(&rt, call, kind);
+            let wanted = (Some((asked, kind)), call.saturating_add(1));
+            same_at(&rt, "the failure at call", call, &found, &wanted);
         }
-        same(
-            &rt,
-            "no failure",
-            &failure_of_disk(&rt, 7, kind),
-            &(None, 7),
-        );
+        let found = failure_of_disk(&rt, 7, kind);
+        same(&rt, "no failure", &found, &(None, 7));
     }
 }
 
@@ -77,13 +67,13 @@ fn tries_nothing_twice(rt: HostRuntime) {
 // offset of this read and the device's I/O error, and the read isn't tried again.
 #[test]
 fn a_failed_read_has_its_place(rt: HostRuntime) {
-    for call in 0..4 {
-        let mut device = Device::new(sample(&rt, 10), call);
-        let answer = read_exact_at(&mut device, 2, &mut [0; 4]);
-        must(
-            &rt,
-            expect_io(answer, ErrorKind::Interrupted, Some(call + 2)),
-        );
-        same(&rt, "device.calls", &device.calls, &(call + 1));
+    for kind in KINDS {
+        for call in 0..4u64 {
+            let fault = DeviceFault::Fails(kind);
+            let mut device = Device::with_fault(sample(&rt, 10), call, fault);
+            let answer = read_exact_at(&mut device, 2, &mut [0; 4]);
+            must(&rt, expect_io(answer, kind, Some(call + 2)));
+            same_at(&rt, "calls at call", call, &device.calls, &(call + 1));
+        }
     }
 }

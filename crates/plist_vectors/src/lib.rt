@@ -11,21 +11,15 @@ mod cut;
 #[cfg(test)]
 mod decode_counter;
 #[cfg(test)]
-mod entries;
-#[cfg(test)]
-mod events;
-#[cfg(test)]
-mod faults;
+mod dictionaries;
 #[cfg(test)]
 mod interrupted;
-#[cfg(test)]
-mod numbers;
 #[cfg(test)]
 mod reader_windows;
 #[cfg(test)]
 mod reading;
 #[cfg(test)]
-mod scalar_texts;
+mod scalars;
 #[cfg(test)]
 mod sharing;
 #[cfg(test)]

@@ -54,29 +54,14 @@ impl Source for Vast {
     }
 }
 
-// A reader ends at data for which there is no memory, even under limits that allow it.
+// A reader ends at data for which there is no memory, and no value is read, even under limits that
+// allow the data.
 #[test]
 fn ends_where_no_memory_is_found(rt: HostRuntime) {
     let limits = Limits { depth: 9, items: 9 };
     let limited = BinaryReader::with_limits(rt.alloc(), Vast, limits);
     let found = must(&rt, words_of(rt.alloc(), limited));
-    same(
-        &rt,
-        "the items under limits",
-        &found.as_str(),
-        &"OutOfMemory",
-    );
-    let found = must(
-        &rt,
-        words_of(rt.alloc(), BinaryReader::new(rt.alloc(), Vast)),
-    );
     same(&rt, "the items", &found.as_str(), &"OutOfMemory");
-}
-
-// Reading a value fails at data for which there is no memory.
-#[test]
-fn no_value_is_read(rt: HostRuntime) {
-    let limits = Limits { depth: 9, items: 9 };
     let found = Value::from_reader_within(rt.alloc(), Vast, limits, 1 << 20);
     expect_value(&rt, found, "OutOfMemory");
     expect_value(&rt, Value::from_reader(rt.alloc(), Vast), "OutOfMemory");

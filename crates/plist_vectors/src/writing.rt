@@ -11,36 +11,25 @@ fn expect_two_sent(rt: &(impl Abort + AllocGlobal), device: &Device) {
     let mut both = file_of_true(rt);
     let second = must(rt, file(rt.alloc(), "a20101 5161 080b", [1, 1], [2, 0, 13]));
     must(rt, both.extend_from_slice(second.as_slice()));
-    same(
-        rt,
-        "device.bytes",
-        &device.bytes.as_slice(),
-        &both.as_slice(),
-    );
-    same(rt, "device.flushed", &device.flushed, &both.len());
-    same(rt, "device.calls", &device.calls, &(42 + 1 + 47 + 1));
-    same(rt, "device.failures", &device.failures, &0);
+    same(rt, "device.bytes", &device.bytes, &both);
+    let found = (device.flushed as u64, device.calls, device.failures);
+    let wanted = (both.len() as u64, 42 + 1 + 47 + 1, 0);
+    same(rt, "flushed, calls, failures", &found, &wanted);
 }
 
 // No I/O error is returned unless a call of the device fails.
 #[test]
 fn io_without_failing_write(rt: HostRuntime) {
-    let device = Device::new(Vec::new(rt.alloc()), u64::MAX);
-    let mut writer = BinaryWriter::new(rt.alloc(), device);
-    expect_answers(
-        &rt,
-        &mut writer,
-        "true [2 'a' 'a' end",
-        "ok; ok; ok; ok; ok",
-    );
-    expect_two_sent(&rt, &writer.into_inner());
     let mut device = Device::new(Vec::new(rt.alloc()), u64::MAX);
-    send(&rt, "true", &mut device);
-    send(&rt, "[2 'a' 'a' end", &mut device);
+    let mut writer = BinaryWriter::new(rt.alloc(), &mut device);
+    let words = "true [2 'a' 'a' end";
+    expect_answers(&rt, &mut writer, words, "ok; ok; ok; ok; ok");
+    let _ = writer.into_inner();
     expect_two_sent(&rt, &device);
-}
-
-// Writes the value of these words to the device.
-fn send(rt: &(impl Abort + AllocGlobal), words: &str, device: &mut Device) {
-    must(rt, value_of(rt, words).to_writer_binary(rt.alloc(), device));
+    let mut device = Device::new(Vec::new(rt.alloc()), u64::MAX);
+    for words in ["true", "[2 'a' 'a' end"] {
+        let value = value_of(&rt, words);
+        must(&rt, value.to_writer_binary(rt.alloc(), &mut device));
+    }
+    expect_two_sent(&rt, &device);
 }
