@@ -1,8 +1,8 @@
 //! The files after `convert`, and what `convert_binary` writes.
 
 use crate::support::{
-    RECURSIVE, broken_file, expect_done, expect_fault, expect_holds, expect_missing, expect_taken,
-    failing, must, put, remove, sound,
+    RECURSIVE, broken_file, expect_fault, expect_holds, expect_missing, expect_run, expect_taken,
+    failing, must, put, remove, same, sound,
 };
 use plist_commands::{FastPath, convert_binary};
 use plist_support::{expect_io, front};
@@ -16,48 +16,6 @@ const SETTINGS: &[u8] = b"{ name = James, age = 42 }";
 const CONVERTED: &[u8] = b"bplist00\
     \xd2\x01\x02\x03\x04\x54name\x53age\x55James\x10\x2a\x08\x0d\x12\x16\x1c\
     \0\0\0\0\0\0\x01\x01\0\0\0\0\0\0\0\x05\0\0\0\0\0\0\0\0\0\0\0\0\0\0\0\x1e";
-
-#[test]
-fn converts_to_a_new_file(rt: HostRuntime) {
-    put(&rt, "new_in", SETTINGS);
-    remove(&rt, "new_out");
-    expect_done(&rt, "convert @new_in @new_out", b"");
-    expect_holds(&rt, "new_out", CONVERTED);
-    expect_holds(&rt, "new_in", SETTINGS);
-}
-
-// A longer file is truncated, and a binary file is read like one in ASCII.
-#[test]
-fn converts_a_file_to_itself(rt: HostRuntime) {
-    put(&rt, "same", SETTINGS);
-    expect_done(&rt, "convert @same @same", b"");
-    expect_holds(&rt, "same", CONVERTED);
-    expect_done(&rt, "convert @same @same", b"");
-    expect_holds(&rt, "same", CONVERTED);
-    put(&rt, "long", &[b' '; 100]);
-    expect_done(&rt, "convert @same @long", b"");
-    expect_holds(&rt, "long", CONVERTED);
-}
-
-#[test]
-fn a_fault_leaves_the_other_file(rt: HostRuntime) {
-    put(&rt, "faulty", RECURSIVE);
-    put(&rt, "stands", b"it stands");
-    let said = b"Error: RecursiveObject (offset 8)\n";
-    expect_fault(&rt, "convert @faulty @stands", said);
-    expect_holds(&rt, "stands", b"it stands");
-    expect_fault(&rt, "convert @faulty @faulty", said);
-    expect_holds(&rt, "faulty", RECURSIVE);
-}
-
-#[test]
-fn xml_is_refused(rt: HostRuntime) {
-    put(&rt, "xml", b" <plist/>");
-    remove(&rt, "of_xml");
-    let said = b"Error: XmlUnsupported (offset 1)\n";
-    expect_fault(&rt, "convert @xml @of_xml", said);
-    expect_missing(&rt, "of_xml");
-}
 
 // `{a = 1, b = 2, a = 3}`, and the file that is written for it: the key keeps its first position
 // and has its last value.
@@ -74,22 +32,90 @@ const EMPTY: &[u8] = b"bplist00\
     \xd0\x08\
     \0\0\0\0\0\0\x01\x01\0\0\0\0\0\0\0\x01\0\0\0\0\0\0\0\0\0\0\0\0\0\0\0\x09";
 
-// Checks the conversion to a new file, and to the file itself.
-fn expect_converted(rt: &(impl Abort + AllocGlobal + Env + Files), bytes: &[u8], wanted: &[u8]) {
-    put(rt, "binary_in", bytes);
-    remove(rt, "binary_out");
-    expect_done(rt, "convert @binary_in @binary_out", b"");
-    expect_holds(rt, "binary_out", wanted);
-    expect_done(rt, "convert @binary_in @binary_in", b"");
-    expect_holds(rt, "binary_in", wanted);
+// A dictionary whose only key is 1.
+const INTEGER_KEY: &[u8] = b"bplist00\
+    \xd1\x01\x02\x10\x01\x09\x08\x0b\x0d\
+    \0\0\0\0\0\0\x01\x01\0\0\0\0\0\0\0\x03\0\0\0\0\0\0\0\0\0\0\0\0\0\0\0\x0e";
+
+const NO_KEY: &[u8] =
+    b"Error: UnexpectedEventType { expected: DictionaryKeyOrEndCollection, found: Integer }\n";
+
+const RECURSIVE_SAID: &[u8] = b"Error: RecursiveObject (offset 8)\n";
+
+// A property list, the content of the other file before the conversion, if there is such a file,
+// and the file that is written or the error that is reported.
+#[derive(Clone, Copy)]
+struct Conversion<'a> {
+    bytes: &'a [u8],
+    older: Option<&'a [u8]>,
+    wanted: Result<&'a [u8], &'a [u8]>,
 }
 
+// Makes a conversion to a new file.
+fn to_new<'a>(bytes: &'a [u8], wanted: &'a [u8]) -> Conversion<'a> {
+    Conversion {
+        bytes,
+        older: None,
+        wanted: Ok(wanted),
+    }
+}
+
+// Makes a conversion that fails.
+fn to_none<'a>(bytes: &'a [u8], older: Option<&'a [u8]>, said: &'a [u8]) -> Conversion<'a> {
+    Conversion {
+        bytes,
+        older,
+        wanted: Err(said),
+    }
+}
+
+// Checks the conversion to another file, and to the file itself. An error leaves each of them as it
+// was.
+fn expect_converted(rt: &(impl Abort + AllocGlobal + Env + Files), conversion: Conversion<'_>) {
+    let Conversion {
+        bytes,
+        older,
+        wanted,
+    } = conversion;
+    put(rt, "in", bytes);
+    match older {
+        Some(bytes) => put(rt, "out", bytes),
+        None => remove(rt, "out"),
+    }
+    let (out, said, status) = match wanted {
+        Ok(file) => (Some(file), b"".as_slice(), 0),
+        Err(said) => (older, said, 1),
+    };
+    expect_run(rt, "convert @in @out", b"", said, status);
+    expect_holds(rt, "in", bytes);
+    match out {
+        Some(bytes) => expect_holds(rt, "out", bytes),
+        None => expect_missing(rt, "out"),
+    }
+    expect_run(rt, "convert @in @in", b"", said, status);
+    expect_holds(rt, "in", wanted.unwrap_or(bytes));
+}
+
+// A binary file is read like one in ASCII, and a longer file is truncated.
 #[test]
-fn converts_binary_files(rt: HostRuntime) {
-    expect_converted(&rt, REPEATED, LAST_VALUES);
-    expect_converted(&rt, LAST_VALUES, LAST_VALUES);
-    expect_converted(&rt, EMPTY, EMPTY);
-    expect_converted(&rt, CONVERTED, CONVERTED);
+fn converts_files(rt: HostRuntime) {
+    for conversion in [
+        to_new(SETTINGS, CONVERTED),
+        to_new(CONVERTED, CONVERTED),
+        to_new(REPEATED, LAST_VALUES),
+        to_new(LAST_VALUES, LAST_VALUES),
+        to_new(EMPTY, EMPTY),
+        Conversion {
+            older: Some(&[b' '; 100]),
+            ..to_new(SETTINGS, CONVERTED)
+        },
+        to_none(RECURSIVE, Some(b"it stands"), RECURSIVE_SAID),
+        to_none(b" <plist/>", None, b"Error: XmlUnsupported (offset 1)\n"),
+        to_none(INTEGER_KEY, None, NO_KEY),
+        to_none(INTEGER_KEY, Some(&[b'x'; 2048]), NO_KEY),
+    ] {
+        expect_converted(&rt, conversion);
+    }
 }
 
 // Appends data of 100,000 bytes.
@@ -110,51 +136,33 @@ fn converts_large_files(rt: HostRuntime) {
     add_data(&rt, &mut file, 0);
     add_data(&rt, &mut file, 100);
     must(&rt, file.extend_from_slice(TABLE_OF_TWO));
-    expect_converted(&rt, file.as_slice(), file.as_slice());
+    expect_converted(&rt, to_new(file.as_slice(), file.as_slice()));
 }
 
-// A dictionary whose only key is 1.
-#[test]
-fn an_integer_is_no_key(rt: HostRuntime) {
-    let bytes = b"bplist00\
-        \xd1\x01\x02\x10\x01\x09\x08\x0b\x0d\
-        \0\0\0\0\0\0\x01\x01\0\0\0\0\0\0\0\x03\0\0\0\0\0\0\0\0\0\0\0\0\0\0\0\x0e";
-    let said: &[u8] =
-        b"Error: UnexpectedEventType { expected: DictionaryKeyOrEndCollection, found: Integer }\n";
-    put(&rt, "integer_key", bytes);
-    remove(&rt, "of_integer_key");
-    expect_fault(&rt, "convert @integer_key @of_integer_key", said);
-    expect_missing(&rt, "of_integer_key");
-    // An older file is unchanged.
-    put(&rt, "of_integer_key", &[b'x'; 2048]);
-    expect_fault(&rt, "convert @integer_key @of_integer_key", said);
-    expect_holds(&rt, "of_integer_key", &[b'x'; 2048]);
-}
-
-// Checks that `convert_binary` makes no value of these bytes, and writes and flushes `wanted`.
-fn expect_sent(rt: &(impl Abort + AllocGlobal), bytes: &[u8], wanted: &[u8]) {
+// Checks that `convert_binary` writes and flushes a file without making a value or, if it has to
+// make one, leaves the writer unchanged.
+fn expect_way(rt: &(impl Abort + AllocGlobal), bytes: &[u8], wanted: Option<&[u8]>) {
     let mut writer = sound(rt);
     let done = must(rt, convert_binary(rt.alloc(), bytes, &mut writer));
-    assert!(rt; matches!(done, FastPath::Sent));
-    expect_taken(rt, &writer, wanted, wanted.len() as u64 + 1, wanted.len());
-}
-
-// Checks that bytes that need a value leave the writer unchanged.
-fn expect_left(rt: &(impl Abort + AllocGlobal), bytes: &[u8]) {
-    let mut writer = sound(rt);
-    let done = must(rt, convert_binary(rt.alloc(), bytes, &mut writer));
-    assert!(rt; matches!(done, FastPath::NotApplicable));
-    expect_taken(rt, &writer, b"", 0, 0);
+    let is_sent = matches!(done, FastPath::Sent);
+    same(rt, "whether it is sent", &is_sent, &wanted.is_some());
+    let file = wanted.unwrap_or(b"");
+    let calls = file.len() as u64 + u64::from(is_sent);
+    expect_taken(rt, &writer, file, calls, file.len());
 }
 
 #[test]
 fn tells_how_it_was_converted(rt: HostRuntime) {
-    expect_sent(&rt, CONVERTED, CONVERTED);
-    expect_sent(&rt, EMPTY, EMPTY);
-    expect_sent(&rt, SETTINGS, CONVERTED);
-    expect_left(&rt, REPEATED);
-    expect_left(&rt, b"{ a = 1; a = 2; }");
-    expect_left(&rt, b"( a");
+    for (bytes, wanted) in [
+        (CONVERTED, Some(CONVERTED)),
+        (EMPTY, Some(EMPTY)),
+        (SETTINGS, Some(CONVERTED)),
+        (REPEATED, None),
+        (b"{ a = 1; a = 2; }", None),
+        (b"( a", None),
+    ] {
+        expect_way(&rt, bytes, wanted);
+    }
 }
 
 #[test]

@@ -1,151 +1,100 @@
 //! Values of a hundred thousand levels. No call uses more of the call stack for them than for
 //! others.
 
-use crate::support::must;
-use plist::{Dictionary, Value, write_value};
+use crate::support::{add_times, must, value_of};
+use plist::{Value, write_value};
 use plist_base::Uid;
-use plist_keyed::{Archive, KeyedError};
+use plist_keyed::Archive;
 use plist_share::SharingWriter;
 use std::process::Abort;
 
 const LEVELS: u32 = 100_000;
 
-fn text(rt: &(impl Abort + AllocGlobal), text: &str) -> String {
-    must(rt, String::from_str(rt.alloc(), text))
-}
-
-// Returns an array of these two.
-fn two(rt: &(impl Abort + AllocGlobal), first: Value, second: Value) -> Value {
-    let mut items = must(rt, Vec::with_capacity(rt.alloc(), 2));
-    must(rt, items.push(first));
-    must(rt, items.push(second));
-    Value::Array(items)
-}
-
-// Returns a dictionary of this one pair.
-fn pair(rt: &(impl Abort + AllocGlobal), key: &str, value: Value) -> Value {
-    let mut pairs = Dictionary::new(rt.alloc());
-    must(rt, pairs.insert(text(rt, key), value));
-    Value::Dictionary(pairs)
-}
-
-// Returns the value inside this many arrays. In each of them a number precedes what is nested.
-fn in_arrays(rt: &(impl Abort + AllocGlobal), value: Value, levels: u32) -> Value {
-    let mut whole = value;
-    for level in 0..levels {
-        whole = two(rt, Value::from(level), whole);
-    }
-    whole
-}
-
-// Returns a number that is nested in arrays and dictionaries. Of every hundred levels, one is a
+// Returns a value of this word inside arrays and dictionaries. Of every hundred levels, one is a
 // dictionary, and one is an array in which a string follows the nested value. In the other arrays a
 // number precedes it.
-fn nested(rt: &(impl Abort + AllocGlobal), number: u32) -> Value {
-    let mut value = Value::from(number);
-    for _ in 0..LEVELS / 100 {
-        value = pair(rt, "k", value);
-        value = two(rt, value, Value::from(text(rt, "x")));
-        value = in_arrays(rt, value, 98);
-    }
-    value
+fn nested(rt: &(impl Abort + AllocGlobal), word: &str) -> Value {
+    let (mut starts, mut ends) = (String::new(rt.alloc()), String::new(rt.alloc()));
+    add_times(rt, &mut starts, "[ 5 ", 98);
+    must(rt, starts.push_str("[ { 'k' "));
+    must(rt, ends.push_str(" end 'x' end"));
+    add_times(rt, &mut ends, " end", 98);
+    let mut words = String::new(rt.alloc());
+    add_times(rt, &mut words, starts.as_str(), LEVELS / 100);
+    must(rt, words.push_str(word));
+    add_times(rt, &mut words, ends.as_str(), LEVELS / 100);
+    value_of(rt, words.as_str())
 }
 
-fn expect_same(rt: &(impl Abort + AllocGlobal), value: Value, other: &Value) {
-    assert!(rt; value == *other);
-    assert!(rt; *other == value);
+// Checks whether a value equals another one, in both orders.
+fn expect_equal(rt: &impl Abort, value: Value, other: &Value, wanted: bool) {
+    let (found, again) = (value == *other, *other == value);
     value.destroy();
-}
-
-fn expect_other(rt: &(impl Abort + AllocGlobal), value: Value, other: &Value) {
-    assert!(rt; value != *other);
-    value.destroy();
+    assert!(rt; found == wanted && again == wanted);
 }
 
 #[test]
 fn deep_values(rt: HostRuntime) {
-    let value = nested(&rt, 1);
-    expect_same(&rt, must(&rt, value.clone(rt.alloc())), &value);
-    expect_same(&rt, nested(&rt, 1), &value);
-    expect_other(&rt, nested(&rt, 2), &value);
+    let value = nested(&rt, "1");
+    expect_equal(&rt, must(&rt, value.clone(rt.alloc())), &value, true);
+    expect_equal(&rt, nested(&rt, "1"), &value, true);
+    expect_equal(&rt, nested(&rt, "2"), &value, false);
     value.destroy();
 }
 
 #[test]
 fn deep_files(rt: HostRuntime) {
-    let value = nested(&rt, 1);
+    let value = nested(&rt, "1");
     let mut file = Vec::new(rt.alloc());
     must(&rt, value.to_writer_binary(rt.alloc(), &mut file));
-    expect_same(
-        &rt,
-        must(&rt, Value::from_reader(rt.alloc(), file.as_slice())),
-        &value,
-    );
     let mut writer = SharingWriter::new(rt.alloc(), Vec::new(rt.alloc()));
     must(&rt, write_value(rt.alloc(), &value, &mut writer));
-    let shared = writer.into_inner();
-    expect_same(
-        &rt,
-        must(&rt, Value::from_reader(rt.alloc(), shared.as_slice())),
-        &value,
-    );
+    for bytes in [file, writer.into_inner()] {
+        let read = must(&rt, Value::from_reader(rt.alloc(), bytes.as_slice()));
+        expect_equal(&rt, read, &value, true);
+    }
+    value.destroy();
 }
 
-// Returns parentheses around a text.
-fn parentheses(rt: &(impl Abort + AllocGlobal), within: &str) -> String {
-    let mut whole = String::new(rt.alloc());
-    for _ in 0..LEVELS {
-        must(rt, whole.push('('));
-    }
-    must(rt, whole.push_str(within));
-    for _ in 0..LEVELS {
-        must(rt, whole.push(')'));
-    }
-    whole
-}
-
-fn value_of_ascii(rt: &(impl Abort + AllocGlobal), text: String) -> Value {
+// Returns the value of parentheses around a text.
+fn in_parentheses(rt: &(impl Abort + AllocGlobal), within: &str) -> Value {
+    let mut text = String::new(rt.alloc());
+    add_times(rt, &mut text, "(", LEVELS);
+    must(rt, text.push_str(within));
+    add_times(rt, &mut text, ")", LEVELS);
     must(rt, Value::from_reader_ascii(rt.alloc(), text.as_bytes()))
 }
 
 #[test]
 fn deep_texts(rt: HostRuntime) {
-    let value = value_of_ascii(&rt, parentheses(&rt, "a"));
-    expect_same(&rt, value_of_ascii(&rt, parentheses(&rt, "a")), &value);
-    expect_other(&rt, value_of_ascii(&rt, parentheses(&rt, "b")), &value);
+    let value = in_parentheses(&rt, "a");
+    expect_equal(&rt, in_parentheses(&rt, "a"), &value, true);
+    expect_equal(&rt, in_parentheses(&rt, "b"), &value, false);
     value.destroy();
-}
-
-// Returns the tree of the object of this number.
-fn tree(rt: &(impl Abort + AllocGlobal), root: &Value, number: u64) -> Result<Value, KeyedError> {
-    Archive::open(root)?.tree(rt.alloc(), Uid::new(number))
 }
 
 // Returns an archive in which each object but the last is an array that refers to the next one.
 fn chain(rt: &(impl Abort + AllocGlobal)) -> Value {
-    let mut objects = Vec::new(rt.alloc());
-    for number in 1..LEVELS {
-        let next = Value::Uid(Uid::new(number as u64));
-        must(rt, objects.push(two(rt, Value::from(true), next)));
+    let mut words = must(
+        rt,
+        String::from_str(rt.alloc(), "{ '$top' { end '$objects' ["),
+    );
+    for uid in 1..LEVELS {
+        let array = must(rt, format!(in rt.alloc(); " [ true uid:{uid} end"));
+        must(rt, words.push_str(array.as_str()));
     }
-    must(rt, objects.push(Value::from(true)));
-    let mut pairs = Dictionary::new(rt.alloc());
-    must(
-        rt,
-        pairs.insert(text(rt, "$objects"), Value::Array(objects)),
-    );
-    must(
-        rt,
-        pairs.insert(text(rt, "$top"), Value::from(Dictionary::new(rt.alloc()))),
-    );
-    Value::Dictionary(pairs)
+    must(rt, words.push_str(" true end end"));
+    value_of(rt, words.as_str())
 }
 
 #[test]
 fn deep_archives(rt: HostRuntime) {
     let root = chain(&rt);
-    let value = must(&rt, tree(&rt, &root, 0));
-    expect_same(&rt, must(&rt, tree(&rt, &root, 0)), &value);
-    expect_other(&rt, must(&rt, tree(&rt, &root, 1)), &value);
+    let archive = must(&rt, Archive::open(&root));
+    let value = must(&rt, archive.tree(rt.alloc(), Uid::new(0)));
+    for (uid, wanted) in [(0, true), (1, false)] {
+        let tree = must(&rt, archive.tree(rt.alloc(), Uid::new(uid)));
+        expect_equal(&rt, tree, &value, wanted);
+    }
     value.destroy();
 }

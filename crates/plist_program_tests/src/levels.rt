@@ -1,24 +1,17 @@
 //! Files of 600 levels, for each command. No command has a limit of its own.
 
-use crate::support::{expect_done, must, path_of, put, value_of};
+use crate::support::{add_times, expect_done, must, path_of, put, value_of};
 use std::env::Env;
 use std::process::Abort;
 use std::rt::Files;
 
-const LEVELS: usize = 600;
-
-// Appends a text once for each level.
-fn add_levels(rt: &impl Abort, all: &mut String, text: &str) {
-    for _ in 0..LEVELS {
-        must(rt, all.push_str(text));
-    }
-}
+const LEVELS: u32 = 600;
 
 // Returns a start for each level and then an end for each level, between two texts.
 fn nested(rt: &(impl Abort + AllocGlobal), around: [&str; 2], parts: [&str; 2]) -> String {
     let mut all = must(rt, String::from_str(rt.alloc(), around[0]));
-    add_levels(rt, &mut all, parts[0]);
-    add_levels(rt, &mut all, parts[1]);
+    add_times(rt, &mut all, parts[0], LEVELS);
+    add_times(rt, &mut all, parts[1], LEVELS);
     must(rt, all.push_str(around[1]));
     all
 }
@@ -26,8 +19,7 @@ fn nested(rt: &(impl Abort + AllocGlobal), around: [&str; 2], parts: [&str; 2]) 
 // Returns the lines of nested arrays, the innermost of which is empty.
 fn lines(rt: &(impl Abort + AllocGlobal), around: [&str; 2]) -> String {
     let all = nested(rt, around, ["StartArray 1\n", "EndCollection\n"]);
-    let innermost = must(rt, all.replace(rt.alloc(), "1\nEnd", "0\nEnd"));
-    innermost
+    must(rt, all.replace(rt.alloc(), "1\nEnd", "0\nEnd"))
 }
 
 // Checks what is printed for the file to which this text is converted, and for that file after it

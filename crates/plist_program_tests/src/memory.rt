@@ -19,6 +19,9 @@ const ASCII: &[u8] = b"'ab'";
 
 const LIMITS: Limits = Limits { depth: 9, items: 9 };
 
+// The name of a call, and whether memory ran out for it.
+type Call = (&'static str, bool);
+
 // Returns whether memory ran out.
 fn ran_out<T: Drop>(answer: Result<T, Error>) -> bool {
     match answer {
@@ -42,172 +45,156 @@ fn ran_out_writing<W: Writer + Drop>(mut writer: W, event: Event<'_>) -> bool {
     ran_out(writer.write(event))
 }
 
-// The calls for which memory ran out.
-#[derive(Drop)]
-struct Calls {
-    alloc: Global,
-    names: String,
+fn readers(alloc: Global) -> [Call; 5] {
+    let limited = BinaryReader::with_limits(alloc, BINARY, LIMITS);
+    [
+        (
+            "BinaryReader",
+            ran_out_at_first(BinaryReader::new(alloc, BINARY)),
+        ),
+        ("limited BinaryReader", ran_out_at_first(limited)),
+        (
+            "AsciiReader",
+            ran_out_at_first(AsciiReader::new(alloc, ASCII)),
+        ),
+        ("Reader", ran_out_at_first(Reader::new(alloc, BINARY))),
+        (
+            "Reader of ASCII",
+            ran_out_at_first(Reader::new(alloc, ASCII)),
+        ),
+    ]
 }
 
-impl Calls {
-    // Adds the call of this name if memory ran out for it.
-    fn add(&mut self, rt: &impl Abort, name: &str, has_run_out: bool) {
-        if has_run_out {
-            must(rt, self.names.push_str(name));
-            must(rt, self.names.push_str(" "));
-        }
-    }
-
-    fn add_readers(&mut self, rt: &impl Abort) {
-        let alloc = self.alloc;
-        let has_run_out = ran_out_at_first(BinaryReader::new(alloc, BINARY));
-        self.add(rt, "BinaryReader", has_run_out);
-        let has_run_out = ran_out_at_first(BinaryReader::with_limits(alloc, BINARY, LIMITS));
-        self.add(rt, "limited-BinaryReader", has_run_out);
-        let has_run_out = ran_out_at_first(AsciiReader::new(alloc, ASCII));
-        self.add(rt, "AsciiReader", has_run_out);
-        let has_run_out = ran_out_at_first(Reader::new(alloc, BINARY));
-        self.add(rt, "Reader", has_run_out);
-        let has_run_out = ran_out_at_first(Reader::new(alloc, ASCII));
-        self.add(rt, "Reader-of-ASCII", has_run_out);
-    }
-
-    fn add_read_values(&mut self, rt: &impl Abort) {
-        let alloc = self.alloc;
-        self.add(
-            rt,
-            "from_reader",
-            ran_out(Value::from_reader(alloc, BINARY)),
-        );
-        let answer = Value::from_reader_with_limits(alloc, BINARY, LIMITS);
-        self.add(rt, "from_reader_with_limits", ran_out(answer));
-        self.add(
-            rt,
+fn read_values(alloc: Global) -> [Call; 6] {
+    let limited = Value::from_reader_with_limits(alloc, BINARY, LIMITS);
+    let events = [Ok(Event::Boolean(true))];
+    [
+        ("from_reader", ran_out(Value::from_reader(alloc, BINARY))),
+        ("from_reader_with_limits", ran_out(limited)),
+        (
             "from_reader_ascii",
             ran_out(Value::from_reader_ascii(alloc, ASCII)),
-        );
-        let events = [Ok(Event::Boolean(true))];
-        self.add(
-            rt,
-            "from_events",
-            ran_out(Value::from_events(alloc, events)),
-        );
-        self.add(
-            rt,
-            "try_from_str",
-            ran_out(Value::try_from_str(alloc, "ab")),
-        );
-        let value = Value::Array(Vec::new(alloc));
-        self.add(rt, "clone", ran_out(value.clone(alloc)));
-    }
+        ),
+        ("from_events", ran_out(Value::from_events(alloc, events))),
+        ("try_from_str", ran_out(Value::try_from_str(alloc, "ab"))),
+        ("clone", ran_out(Value::Array(Vec::new(alloc)).clone(alloc))),
+    ]
+}
 
-    fn add_writers(&mut self, rt: &impl Abort) {
-        let alloc = self.alloc;
-        let has_run_out = ran_out_writing(Builder::new(alloc), Event::StartArray(None));
-        self.add(rt, "Builder", has_run_out);
-        let writer = BinaryWriter::new(alloc, Vec::new(alloc));
-        let has_run_out = ran_out_writing(writer, Event::Boolean(true));
-        self.add(rt, "BinaryWriter", has_run_out);
-        let writer = SharingWriter::new(alloc, Vec::new(alloc));
-        let has_run_out = ran_out_writing(writer, Event::Boolean(true));
-        self.add(rt, "SharingWriter", has_run_out);
-    }
+fn writers(alloc: Global) -> [Call; 3] {
+    let binary = BinaryWriter::new(alloc, Vec::new(alloc));
+    let sharing = SharingWriter::new(alloc, Vec::new(alloc));
+    [
+        (
+            "Builder",
+            ran_out_writing(Builder::new(alloc), Event::StartArray(None)),
+        ),
+        (
+            "BinaryWriter",
+            ran_out_writing(binary, Event::Boolean(true)),
+        ),
+        (
+            "SharingWriter",
+            ran_out_writing(sharing, Event::Boolean(true)),
+        ),
+    ]
+}
 
-    fn add_written_values(&mut self, rt: &impl Abort) {
-        let (alloc, value) = (self.alloc, Value::Array(Vec::new(self.alloc)));
-        let mut out = Vec::new(alloc);
-        let has_run_out = ran_out(value.to_writer_binary(alloc, &mut out));
-        self.add(rt, "to_writer_binary", has_run_out);
-        let mut builder = Builder::new(alloc);
-        let has_run_out = ran_out(write_value(alloc, &value, &mut builder));
-        self.add(rt, "write_value", has_run_out);
-    }
+fn written_values(alloc: Global) -> [Call; 3] {
+    let (value, mut out) = (Value::Array(Vec::new(alloc)), Vec::new(alloc));
+    let mut builder = Builder::new(alloc);
+    [
+        (
+            "to_writer_binary",
+            ran_out(value.to_writer_binary(alloc, &mut out)),
+        ),
+        (
+            "write_value",
+            ran_out(write_value(alloc, &value, &mut builder)),
+        ),
+        ("print_value", ran_out(print_value(alloc, &value, &mut out))),
+    ]
+}
 
-    fn add_dictionaries(&mut self, rt: &impl Abort) {
-        let alloc = self.alloc;
-        let mut pairs = Dictionary::new(alloc);
-        let key = must(rt, String::from_str(alloc, "a"));
-        self.add(
-            rt,
-            "insert",
-            pairs.insert(key, Value::Boolean(true)).is_err(),
-        );
-        let key = must(rt, String::from_str(alloc, "b"));
-        let is_err = pairs.entry(key).or_insert(Value::Boolean(true)).is_err();
-        self.add(rt, "or_insert", is_err);
-        let more = [(must(rt, String::from_str(alloc, "c")), Value::Boolean(true))];
-        self.add(rt, "extend", ran_out(pairs.extend(more)));
-        self.add(rt, "sort_keys", ran_out(pairs.sort_keys()));
-        self.add(rt, "clone-of-a-dictionary", ran_out(pairs.clone()));
-    }
+fn key(rt: &(impl Abort + AllocGlobal), key: &str) -> String {
+    must(rt, String::from_str(rt.alloc(), key))
+}
 
-    fn add_texts(&mut self, rt: &impl Abort) {
-        let alloc = self.alloc;
-        let data = Data::new(must(rt, Vec::from_slice(alloc, b"ab")));
-        self.add(rt, "text-of-data", ran_out(data.to_xml_format(alloc)));
-        self.add(rt, "clone-of-data", ran_out(data.clone()));
-        self.add(
-            rt,
-            "data-of-a-text",
-            Data::from_xml_format(alloc, "YWI=").is_err(),
-        );
-        match Date::from_plist_secs(0) {
-            Some(date) => self.add(rt, "text-of-a-date", ran_out(date.to_xml_format(alloc))),
-            None => panic!(rt; "it is a date"),
-        }
-    }
+fn dictionaries(rt: &(impl Abort + AllocGlobal)) -> [Call; 5] {
+    let (first, second, third) = (key(rt, "a"), key(rt, "b"), key(rt, "c"));
+    let mut pairs = Dictionary::new(rt.alloc());
+    let insert = pairs.insert(first, Value::Boolean(true)).is_err();
+    let or_insert = pairs.entry(second).or_insert(Value::Boolean(true)).is_err();
+    [
+        ("insert", insert),
+        ("or_insert", or_insert),
+        (
+            "extend",
+            ran_out(pairs.extend([(third, Value::Boolean(true))])),
+        ),
+        ("sort_keys", ran_out(pairs.sort_keys())),
+        ("clone of a dictionary", ran_out(pairs.clone())),
+    ]
+}
 
-    fn add_commands(&mut self, rt: &(impl Abort + Env)) {
-        let (alloc, mut out) = (self.alloc, Vec::new(self.alloc));
-        self.add(
-            rt,
+fn texts(rt: &(impl Abort + AllocGlobal)) -> [Call; 4] {
+    let date = must(rt, Date::from_plist_real([0; 8]));
+    let data = Data::new(must(rt, Vec::from_slice(rt.alloc(), b"ab")));
+    let read = Data::from_xml_format(rt.alloc(), "YWI=");
+    [
+        ("text of data", ran_out(data.to_xml_format(rt.alloc()))),
+        ("clone of data", ran_out(data.clone())),
+        ("data of a text", read.is_err()),
+        ("text of a date", ran_out(date.to_xml_format(rt.alloc()))),
+    ]
+}
+
+fn commands(rt: &(impl AllocGlobal + Env)) -> [Call; 3] {
+    let (alloc, mut out) = (rt.alloc(), Vec::new(rt.alloc()));
+    [
+        (
             "print_events",
             ran_out(print_events(alloc, BINARY, &mut out)),
-        );
-        let value = Value::Array(Vec::new(alloc));
-        self.add(
-            rt,
-            "print_value",
-            ran_out(print_value(alloc, &value, &mut out)),
-        );
-        self.add(
-            rt,
+        ),
+        (
             "convert_binary",
             ran_out(convert_binary(alloc, BINARY, &mut out)),
-        );
-        self.add(
-            rt,
-            "program_arguments",
-            ran_out(program_arguments(rt, alloc)),
-        );
-    }
+        ),
+        ("program_arguments", ran_out(program_arguments(rt, alloc))),
+    ]
+}
 
-    // Makes the tree of an array in an archive, and adds the call if memory ran out for it.
-    fn add_archive(&mut self, rt: &impl Abort) {
-        let text = b"{ '$objects' = ( '$null', () ); '$top' = { }; }".as_slice();
-        let root = must(rt, Value::from_reader_ascii(self.alloc, text));
-        let archive = must(rt, Archive::open(&root));
-        let answer = archive.tree(self.alloc, Uid::new(1));
-        self.add(rt, "tree", matches!(answer, Err(KeyedError::OutOfMemory)));
+// Makes the tree of an array in an archive.
+fn archives(rt: &(impl Abort + AllocGlobal)) -> [Call; 1] {
+    let text = b"{ '$objects' = ( '$null', () ); '$top' = { }; }".as_slice();
+    let root = must(rt, Value::from_reader_ascii(rt.alloc(), text));
+    let answer = must(rt, Archive::open(&root)).tree(rt.alloc(), Uid::new(1));
+    [("tree", matches!(answer, Err(KeyedError::OutOfMemory)))]
+}
+
+// Returns the name of the first call for which memory ran out, or an empty string if there is none.
+fn first_of(calls: &[Call]) -> &'static str {
+    for (name, has_run_out) in calls {
+        if *has_run_out {
+            return name;
+        }
     }
+    ""
 }
 
 // No call returns `OutOfMemory` while memory is available.
 #[test]
 fn always_out_of_memory(rt: HostRuntime) {
-    let mut calls = Calls {
-        alloc: rt.alloc(),
-        names: String::new(rt.alloc()),
-    };
-    calls.add_readers(&rt);
-    calls.add_read_values(&rt);
-    calls.add_writers(&rt);
-    calls.add_written_values(&rt);
-    calls.add_dictionaries(&rt);
-    calls.add_texts(&rt);
-    calls.add_commands(&rt);
-    if calls.names.is_empty() {
-        calls.add_archive(&rt);
-    }
-    same(&rt, "the calls", &calls.names.as_str(), &"");
+    let alloc = rt.alloc();
+    let found = [
+        first_of(&readers(alloc)),
+        first_of(&read_values(alloc)),
+        first_of(&writers(alloc)),
+        first_of(&written_values(alloc)),
+        first_of(&dictionaries(&rt)),
+        first_of(&texts(&rt)),
+        first_of(&commands(&rt)),
+        first_of(&archives(&rt)),
+    ];
+    same(&rt, "the calls", &found, &[""; 8]);
 }

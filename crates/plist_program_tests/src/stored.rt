@@ -137,33 +137,35 @@ struct Unread<'a> {
 }
 
 impl<'a> Unread<'a> {
-    // Checks that the result is the device's error.
-    fn expect<T: Drop>(&self, rt: &impl Abort, answer: Result<T, Error>) {
-        must(
-            rt,
-            expect_io(answer, ErrorKind::PermissionDenied, self.offset),
-        );
+    // Returns whether the result is the device's error.
+    fn is_in<T: Drop>(&self, answer: Result<T, Error>) -> bool {
+        expect_io(answer, ErrorKind::PermissionDenied, self.offset).is_ok()
     }
 
     // Checks that each call opens its file once, and returns the device's error.
     fn expect_of_calls<R: Files>(&self, rt: &(impl Abort + AllocGlobal), watched: &Watched<'_, R>) {
         let (alloc, path, other) = (rt.alloc(), self.path, "no_such_folder/out");
-        self.expect(rt, Value::from_file(watched, alloc, path));
         let limits = Limits { depth: 9, items: 9 };
-        self.expect(
-            rt,
-            Value::from_file_with_limits(watched, alloc, path, limits),
-        );
-        self.expect(rt, convert_file(watched, alloc, path, other));
-        let commands = [
+        let limited = Value::from_file_with_limits(watched, alloc, path, limits);
+        let found = [
+            self.is_in(limited),
+            self.is_in(Value::from_file(watched, alloc, path)),
+            self.is_in(convert_file(watched, alloc, path, other)),
+        ];
+        same(rt, "the device's errors", &found, &[true; 3]);
+        for command in [
             Command::Print(path),
             Command::Convert(path, other),
             Command::Keyed(path, "root"),
-        ];
-        for command in commands {
+        ] {
             let mut out = Vec::new(alloc);
-            self.expect(rt, error_of(watched.perform(alloc, command, &mut out)));
-            assert!(rt; out.is_empty());
+            let is_in = self.is_in(error_of(watched.perform(alloc, command, &mut out)));
+            same(
+                rt,
+                "the error, and what is printed",
+                &(is_in, out.len()),
+                &(true, 0),
+            );
         }
         same(rt, "the files that were opened", &watched.opened.get(), &6);
     }
@@ -210,11 +212,20 @@ fn an_output_makes_its_file_once(rt: HostRuntime) {
     };
     let path = path_of(&rt, "output");
     let mut output = LazyFile::new(&watched, path.as_str());
-    must(&rt, output.flush());
-    same(&rt, "no file is opened", &opened.get(), &0);
-    assert!(rt; output.write(b"a").is_err());
-    assert!(rt; output.write(b"a").is_err());
-    same(&rt, "one file is opened", &opened.get(), &1);
+    let (is_flushed, before) = (output.flush().is_ok(), opened.get());
+    let failed = [output.write(b"a").is_err(), output.write(b"a").is_err()];
+    same(
+        &rt,
+        "a flush, and two writes",
+        &(is_flushed, failed),
+        &(true, [true; 2]),
+    );
+    same(
+        &rt,
+        "the files that are opened",
+        &(before, opened.get()),
+        &(0, 1),
+    );
 }
 
 // A blank at the end of a name is a part of it.
@@ -223,28 +234,27 @@ fn a_name_may_end_in_a_blank(rt: HostRuntime) {
     remove(&rt, "blank");
     let path = path_of(&rt, "blank ");
     let path = path.as_str();
-    must(
-        &rt,
-        Value::Boolean(true).to_file_binary(&rt, rt.alloc(), path),
-    );
-    expect_holds(&rt, "blank ", TRUTH);
-    must(&rt, Value::from_file(&rt, rt.alloc(), path));
+    let (alloc, mut out) = (rt.alloc(), Vec::new(rt.alloc()));
     let limits = Limits { depth: 9, items: 9 };
-    must(
-        &rt,
-        Value::from_file_with_limits(&rt, rt.alloc(), path, limits),
-    );
-    must(&rt, convert_file(&rt, rt.alloc(), path, path));
-    expect_holds(&rt, "blank ", TRUTH);
-    let mut out = Vec::new(rt.alloc());
-    must(&rt, rt.perform(rt.alloc(), Command::Print(path), &mut out));
+    let found = [
+        Value::Boolean(true)
+            .to_file_binary(&rt, alloc, path)
+            .is_ok(),
+        Value::from_file(&rt, alloc, path).is_ok(),
+        Value::from_file_with_limits(&rt, alloc, path, limits).is_ok(),
+        convert_file(&rt, alloc, path, path).is_ok(),
+        rt.perform(alloc, Command::Print(path), &mut out).is_ok(),
+    ];
+    same(&rt, "the calls", &found, &[true; 5]);
+    let answer = rt.perform(alloc, Command::Keyed(path, "root"), &mut out);
+    let is_no_archive = matches!(answer, Err(Failure::Keyed(_)));
+    let wanted = (true, b"Boolean true\n".as_slice());
     same(
         &rt,
-        "what is printed",
-        &out.as_slice(),
-        &b"Boolean true\n".as_slice(),
+        "no archive, and the lines",
+        &(is_no_archive, out.as_slice()),
+        &wanted,
     );
-    let answer = rt.perform(rt.alloc(), Command::Keyed(path, "root"), &mut out);
-    assert!(rt; matches!(answer, Err(Failure::Keyed(_))));
+    expect_holds(&rt, "blank ", TRUTH);
     expect_missing(&rt, "blank");
 }

@@ -9,7 +9,7 @@ mod watched;
 pub(crate) use devices::{Stuck, broken_file, expect_taken, failing, sound};
 pub(crate) use files::{RECURSIVE, expect_holds, expect_missing, path_of, put, remove};
 use plist::{Builder, Value};
-use plist_support::{words_of_events, write_all};
+use plist_support::write_all;
 pub(crate) use runs::{expect_done, expect_fault, expect_given, expect_run, run};
 pub(crate) use same::same;
 use std::fmt::Debug;
@@ -31,7 +31,17 @@ pub(crate) fn value_of(rt: &(impl Abort + AllocGlobal), words: &str) -> Value {
     must(rt, builder.finish())
 }
 
-// Returns the words of a value's events.
-pub(crate) fn words_of_value(rt: &(impl Abort + AllocGlobal), value: &Value) -> String {
-    must(rt, words_of_events(rt.alloc(), value.events(rt.alloc())))
+// Returns the content of an option that must not be `None`.
+pub(crate) fn some<T>(rt: &impl Abort, what: &str, found: Option<T>) -> T {
+    match found {
+        Some(content) => content,
+        None => panic!(rt; "{what}: nothing is there"),
+    }
+}
+
+// Appends a text this often.
+pub(crate) fn add_times(rt: &impl Abort, all: &mut String, text: &str, times: u32) {
+    for _ in 0..times {
+        must(rt, all.push_str(text));
+    }
 }

@@ -6,15 +6,17 @@ use plist_commands::print_value;
 use plist_support::expect_io;
 use std::io::ErrorKind;
 
-// The flush is last, after the line was written.
+// The flush is last, after the line was written, and its failure is an error.
 #[test]
 fn prints_a_value(rt: HostRuntime) {
+    let value = Value::Boolean(true);
     let mut writer = sound(&rt);
-    must(
-        &rt,
-        print_value(rt.alloc(), &Value::Boolean(true), &mut writer),
-    );
+    must(&rt, print_value(rt.alloc(), &value, &mut writer));
     expect_taken(&rt, &writer, b"Boolean true\n", 14, 13);
+    let mut writer = failing(&rt, 13, ErrorKind::TimedOut);
+    let answer = print_value(rt.alloc(), &value, &mut writer);
+    must(&rt, expect_io(answer, ErrorKind::TimedOut, None));
+    expect_taken(&rt, &writer, b"Boolean true\n", 14, 0);
 }
 
 // The writer is flushed after the failed write. The error of the write is returned, and not that of
@@ -29,12 +31,4 @@ fn stops_where_the_writer_fails(rt: HostRuntime) {
     must(&rt, expect_io(answer, ErrorKind::PermissionDenied, None));
     expect_taken(&rt, &writer.device, b"Boolean", 8, 0);
     same(&rt, "flushes", &writer.flushes, &1);
-}
-
-#[test]
-fn a_failed_flush_is_an_error(rt: HostRuntime) {
-    let mut writer = failing(&rt, 13, ErrorKind::TimedOut);
-    let answer = print_value(rt.alloc(), &Value::Boolean(true), &mut writer);
-    must(&rt, expect_io(answer, ErrorKind::TimedOut, None));
-    expect_taken(&rt, &writer, b"Boolean true\n", 14, 0);
 }

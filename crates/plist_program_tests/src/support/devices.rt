@@ -26,9 +26,13 @@ pub(crate) fn expect_taken(
     calls: u64,
     flushed: usize,
 ) {
-    same(rt, "the bytes", &device.bytes.as_slice(), &bytes);
-    same(rt, "the calls", &device.calls, &calls);
-    same(rt, "the bytes before the flush", &device.flushed, &flushed);
+    let found = (device.bytes.as_slice(), device.calls, device.flushed);
+    same(
+        rt,
+        "bytes, calls, flushed",
+        &found,
+        &(bytes, calls, flushed),
+    );
 }
 
 // Makes a file of 64 bytes that fails at this call, counted from 0.

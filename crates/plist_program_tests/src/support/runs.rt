@@ -71,9 +71,8 @@ pub(crate) fn expect_given(
     let mut out = Vec::new(rt.alloc());
     let mut err = Vec::new(rt.alloc());
     let found = run_words(rt, rt.alloc(), given.as_slice(), &mut out, &mut err);
-    same(rt, "what is reported", &err.as_slice(), &said);
-    same(rt, "what is printed", &out.len(), &0);
-    same(rt, "the status", &found, &status);
+    let found = (err.as_slice(), out.len(), found);
+    same(rt, "reported, printed, status", &found, &(said, 0, status));
 }
 
 // Checks that a run of these words prints this, reports that on standard error, and ends with this
@@ -88,9 +87,8 @@ pub(crate) fn expect_run(
     let mut out = Vec::new(rt.alloc());
     let mut err = Vec::new(rt.alloc());
     let found = run(rt, line, &mut out, &mut err);
-    same(rt, line, &err.as_slice(), &said);
-    same(rt, line, &out.as_slice(), &printed);
-    same(rt, line, &found, &status);
+    let found = (err.as_slice(), out.as_slice(), found);
+    same(rt, line, &found, &(said, printed, status));
 }
 
 // Checks that a run prints this, and succeeds.
