@@ -6,8 +6,8 @@ use plist_base::{Date, Integer, RealBits, Uid, Writer};
 use std::borrow::{CowSlice, CowStr};
 use std::process::Abort;
 
-// Writes an array of a scalar of each kind and an empty dictionary, by the writer's own methods. What
-// is built shows whether they succeed.
+// Writes an array of a scalar of each kind and an empty dictionary, by the writer's own methods.
+// What is built shows whether they succeed.
 fn write_scalars<W: Writer>(writer: &mut W, date: Date) {
     let _ = writer.write_start_array(None);
     let _ = writer.write_boolean(true);

@@ -1,5 +1,6 @@
-//! Tests sequences of calls, and calls that fail. The tests use only public calls. Whatever can be
-//! tested in one line is in the tables of `plist_examples`.
+//! Tests sequences of calls, calls that fail, and calls that nothing else in this repository runs.
+//! The tests use only public calls. Whatever can be tested in one line is in the tables of
+//! `plist_examples`.
 #![tactic(auto)]
 
 #[cfg(test)]
