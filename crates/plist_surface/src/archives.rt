@@ -71,16 +71,18 @@ pub fn root_of(alloc: Global, root: &Value) -> Result<Option<Value>, KeyedError>
     }
 }
 
+// Prints the events of an archive's tree.
+fn print_tree<W: Write>(alloc: Global, out: &mut W, tree: &Value) -> Result<(), Error> {
+    let mut file = Vec::new(alloc);
+    tree.to_writer_binary(alloc, &mut file)?;
+    print_items(out, "archive", plist::Reader::new(alloc, file))
+}
+
 pub fn print<W: Write>(alloc: Global, out: &mut W) -> Result<(), Error> {
     let root = example(alloc)?;
-    match root_of(alloc, &root) {
-        Ok(Some(tree)) => {
-            let mut file = Vec::new(alloc);
-            tree.to_writer_binary(alloc, &mut file)?;
-            print_items(out, "archive", plist::Reader::new(alloc, file))?;
-        }
-        Ok(None) => writeln!(out, "archive: no root")?,
-        Err(error) => writeln!(out, "archive: {error}")?,
+    match &root_of(alloc, &root) {
+        Ok(Some(tree)) => print_tree(alloc, out, tree),
+        Ok(None) => Ok(writeln!(out, "archive: no root")?),
+        Err(error) => Ok(writeln!(out, "archive: {error}")?),
     }
-    Ok(())
 }

@@ -152,18 +152,26 @@ pub fn error_calls(kind: ErrorKind) -> Result<io::Error, Error> {
     error.into_io()
 }
 
-pub fn print<W: Write>(out: &mut W) -> Result<(), Error> {
-    for number in 1..=30_u8 {
-        if let Some(kind) = kind_at(number) {
-            let content = content_of(&kind);
-            let error: Error = kind.without_position();
-            writeln!(out, "{number} {error} holds {content}")?;
-        }
-    }
+fn print_kind<W: Write>(out: &mut W, number: u8, kind: ErrorKind) -> Result<(), Error> {
+    let content = content_of(&kind);
+    let error: Error = kind.without_position();
+    Ok(writeln!(out, "{number} {error} holds {content}")?)
+}
+
+fn print_event_kinds<W: Write>(out: &mut W) -> Result<(), Error> {
     for kind in event_kinds() {
         writeln!(out, "{kind:?}: {kind}")?;
     }
-    let error = ErrorKind::UnknownObjectType(136).with_byte_offset(8);
-    writeln!(out, "{error}")?;
     Ok(())
+}
+
+pub fn print<W: Write>(out: &mut W) -> Result<(), Error> {
+    for number in 1..=30_u8 {
+        if let Some(kind) = kind_at(number) {
+            print_kind(out, number, kind)?;
+        }
+    }
+    print_event_kinds(out)?;
+    let error = ErrorKind::UnknownObjectType(136).with_byte_offset(8);
+    Ok(writeln!(out, "{error}")?)
 }

@@ -6,6 +6,7 @@ use crate::traits::is_debug;
 use plist_base::{Date, Error, Event, EventKind, Integer, OwnedEvent, RealBits, Uid};
 use std::alloc::Global;
 use std::borrow::{CowSlice, CowStr};
+use std::fmt;
 use std::io::Write;
 
 // Returns the event at this index, of an array in which all ten kinds of events occur.
@@ -29,23 +30,39 @@ pub fn event_at(number: u8) -> Option<Event<'static>> {
     }
 }
 
+// Prints a blank, a mark and a content.
+fn print_word<W: Write, T: fmt::Display>(
+    out: &mut W,
+    mark: &str,
+    content: &T,
+) -> Result<(), Error> {
+    Ok(write!(out, " {mark}{content}")?)
+}
+
 // Prints an event after a blank.
 pub fn print_event<W: Write>(out: &mut W, event: &Event<'_>) -> Result<(), Error> {
-    let printed = match event {
-        Event::StartArray(Some(length)) => write!(out, " [{length}"),
-        Event::StartArray(None) => write!(out, " ["),
-        Event::StartDictionary(Some(length)) => write!(out, " {{{length}"),
-        Event::StartDictionary(None) => write!(out, " {{"),
-        Event::EndCollection => write!(out, " end"),
-        Event::Boolean(flag) => write!(out, " {flag}"),
-        Event::Data(bytes) => write!(out, " data:{}", bytes.as_slice().len()),
-        Event::Date(date) => write!(out, " date:{}", date.plist_secs()),
-        Event::Integer(number) => write!(out, " {number}"),
-        Event::Real(bits) => write!(out, " real:{}", bits.to_f64()),
-        Event::String(text) => write!(out, " {:?}", text.as_str()),
-        Event::Uid(uid) => write!(out, " uid:{}", uid.get()),
-    };
-    Ok(printed?)
+    match event {
+        Event::StartArray(Some(length)) => print_word(out, "[", length),
+        Event::StartArray(None) => print_word(out, "[", &""),
+        Event::StartDictionary(Some(length)) => print_word(out, "{", length),
+        Event::StartDictionary(None) => print_word(out, "{", &""),
+        Event::EndCollection => print_word(out, "end", &""),
+        Event::Boolean(flag) => print_word(out, "", flag),
+        Event::Data(bytes) => print_word(out, "data:", &bytes.as_slice().len()),
+        Event::Date(date) => print_word(out, "date:", &date.plist_secs()),
+        Event::Integer(number) => print_word(out, "", number),
+        Event::Real(bits) => print_word(out, "real:", &bits.to_f64()),
+        Event::String(text) => Ok(write!(out, " {:?}", text.as_str())?),
+        Event::Uid(uid) => print_word(out, "uid:", &uid.get()),
+    }
+}
+
+// Prints an event, or an error, after a blank.
+fn print_item<W: Write>(out: &mut W, item: &Result<OwnedEvent, Error>) -> Result<(), Error> {
+    match item {
+        Ok(event) => print_event(out, event),
+        Err(error) => print_word(out, "", error),
+    }
 }
 
 // Prints a line with a name and items.
@@ -60,9 +77,8 @@ pub fn print_items<W: Write, I: Iterator<Item = Result<OwnedEvent, Error>> + Dro
     write!(out, "{name}:")?;
     for _ in 0..20 {
         let item: Option<Result<OwnedEvent, Error>> = items.next();
-        match item {
-            Some(Ok(event)) => print_event(out, &event)?,
-            Some(Err(error)) => write!(out, " {error}")?,
+        match &item {
+            Some(item) => print_item(out, item)?,
             None => break,
         }
     }
@@ -70,11 +86,16 @@ pub fn print_items<W: Write, I: Iterator<Item = Result<OwnedEvent, Error>> + Dro
     Ok(())
 }
 
-pub fn event_calls(alloc: Global, event: Event<'_>) -> Result<OwnedEvent, Error> {
-    is_debug(&event);
-    let _kind: EventKind = EventKind::of_event(&event);
-    let copy: Result<OwnedEvent, Error> = event.clone(alloc);
-    let copy = copy?;
-    let _same: bool = copy == event;
+pub fn event_calls(event: &Event<'_>, other: &Event<'_>) -> bool {
+    is_debug(event);
+    let _kind: EventKind = EventKind::of_event(event);
+    *event == *other
+}
+
+pub fn event_copied(alloc: Global, event: &Event<'_>) -> Result<OwnedEvent, Error> {
+    event.clone(alloc)
+}
+
+pub fn event_owned(alloc: Global, event: Event<'_>) -> Result<OwnedEvent, Error> {
     event.into_owned(alloc)
 }

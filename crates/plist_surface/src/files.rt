@@ -17,6 +17,30 @@ pub fn loaded<R: Files>(rt: &R, alloc: Global, path: &str) -> Result<Value, Erro
     Value::from_file(rt, alloc, path)
 }
 
+fn print_file<R: Files + AllocGlobal, W: Write>(rt: &R, out: &mut W) -> Result<(), Error> {
+    let bytes = fs::read(rt, "written.plist")?;
+    print_bytes(out, "{k = k;}", bytes.as_slice())
+}
+
+// Prints whether the value of the file is this one.
+fn print_equality<R: Files, W: Write>(
+    rt: &R,
+    alloc: Global,
+    out: &mut W,
+    value: &Value,
+) -> Result<(), Error> {
+    let same = loaded(rt, alloc, "written.plist")? == *value;
+    Ok(writeln!(out, "read again: {same}")?)
+}
+
+// Prints the error for a missing file.
+fn print_missing<R: Files, W: Write>(rt: &R, alloc: Global, out: &mut W) -> Result<(), Error> {
+    match &loaded(rt, alloc, "missing.plist") {
+        Ok(_value) => Ok(()),
+        Err(error) => Ok(writeln!(out, "missing: {error}")?),
+    }
+}
+
 pub fn print<R: Files + AllocGlobal, W: Write>(
     rt: &R,
     alloc: Global,
@@ -25,12 +49,7 @@ pub fn print<R: Files + AllocGlobal, W: Write>(
     let text: &[u8] = b"{k = k;}";
     let value = read(alloc, text)?;
     stored(rt, alloc, &value, "written.plist")?;
-    let bytes = fs::read(rt, "written.plist")?;
-    print_bytes(out, "{k = k;}", bytes.as_slice())?;
-    let same = loaded(rt, alloc, "written.plist")? == value;
-    writeln!(out, "read again: {same}")?;
-    if let Err(error) = loaded(rt, alloc, "missing.plist") {
-        writeln!(out, "missing: {error}")?;
-    }
-    Ok(())
+    print_file(rt, out)?;
+    print_equality(rt, alloc, out, &value)?;
+    print_missing(rt, alloc, out)
 }

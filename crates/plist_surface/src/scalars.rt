@@ -6,6 +6,7 @@ use plist_base::{
     RealBits, Uid,
 };
 use std::alloc::Global;
+use std::fmt;
 use std::io::Write;
 
 const NUMBERS: [&str; 7] = [
@@ -155,25 +156,40 @@ pub fn zeros(alloc: Global, count: usize) -> Result<String, Error> {
     data.to_xml_format(alloc)
 }
 
-pub fn print<W: Write>(alloc: Global, out: &mut W) -> Result<(), Error> {
+// Prints the end of a line: what was found, or the error.
+pub fn print_answer<W: Write, T: fmt::Display, E: fmt::Display>(
+    out: &mut W,
+    answer: &Result<T, E>,
+) -> Result<(), Error> {
+    let printed = match answer {
+        Ok(found) => writeln!(out, ": {found}"),
+        Err(error) => writeln!(out, ": {error}"),
+    };
+    Ok(printed?)
+}
+
+fn print_integers<W: Write>(out: &mut W) -> Result<(), Error> {
     for text in NUMBERS {
-        match Integer::from_str(text) {
-            Ok(number) => writeln!(out, "integer {text:?}: {number}")?,
-            Err(error) => writeln!(out, "integer {text:?}: {error}")?,
-        }
+        write!(out, "integer {text:?}")?;
+        print_answer(out, &Integer::from_str(text))?;
     }
+    Ok(())
+}
+
+fn print_dates<W: Write>(alloc: Global, out: &mut W) -> Result<(), Error> {
     for text in DATES {
-        match date_again(alloc, text) {
-            Ok(date) => writeln!(out, "date {text}: {date}")?,
-            Err(error) => writeln!(out, "date {text}: {error}")?,
-        }
+        write!(out, "date {text}")?;
+        print_answer(out, &date_again(alloc, text))?;
     }
     for bytes in REALS {
-        match date_of_bytes(alloc, bytes) {
-            Ok(date) => writeln!(out, "date of bytes: {date}")?,
-            Err(error) => writeln!(out, "date of bytes: {error}")?,
-        }
+        write!(out, "date of bytes")?;
+        print_answer(out, &date_of_bytes(alloc, bytes))?;
     }
-    writeln!(out, "data:\n{}", zeros(alloc, 52)?)?;
     Ok(())
+}
+
+pub fn print<W: Write>(alloc: Global, out: &mut W) -> Result<(), Error> {
+    print_integers(out)?;
+    print_dates(alloc, out)?;
+    Ok(writeln!(out, "data:\n{}", zeros(alloc, 52)?)?)
 }

@@ -1,6 +1,7 @@
 //! Values: their nine kinds, the conversions into them, and how they are read and written.
 
 use crate::events::print_items;
+use crate::scalars::print_answer;
 use crate::traits::{is_debug, is_eq};
 use crate::writers::{built, print_bytes};
 use plist::{Dictionary, Events, Value, kind_of_value, write_value};
@@ -11,42 +12,42 @@ use std::alloc::Global;
 use std::io::{Read, Write};
 
 // Returns the kind of a value, by a match over all kinds.
-pub fn kind_of(value: Value) -> EventKind {
+pub fn kind_of(value: &Value) -> EventKind {
     match value {
         Value::Array(items) => {
-            let _items: Vec<Value> = items;
+            let _items: &Vec<Value> = items;
             EventKind::StartArray
         }
         Value::Dictionary(pairs) => {
-            let _pairs: Dictionary = pairs;
+            let _pairs: &Dictionary = pairs;
             EventKind::StartDictionary
         }
         Value::Boolean(flag) => {
-            let _flag: bool = flag;
+            let _flag: &bool = flag;
             EventKind::Boolean
         }
         Value::Data(bytes) => {
-            let _bytes: Vec<u8> = bytes;
+            let _bytes: &Vec<u8> = bytes;
             EventKind::Data
         }
         Value::Date(date) => {
-            let _date: Date = date;
+            let _date: &Date = date;
             EventKind::Date
         }
         Value::Real(bits) => {
-            let _bits: RealBits = bits;
+            let _bits: &RealBits = bits;
             EventKind::Real
         }
         Value::Integer(number) => {
-            let _number: Integer = number;
+            let _number: &Integer = number;
             EventKind::Integer
         }
         Value::String(text) => {
-            let _text: String = text;
+            let _text: &String = text;
             EventKind::String
         }
         Value::Uid(uid) => {
-            let _uid: Uid = uid;
+            let _uid: &Uid = uid;
             EventKind::Uid
         }
     }
@@ -193,25 +194,34 @@ pub fn of_text(alloc: Global, text: &str) -> Result<Value, Error> {
     Value::try_from_str(alloc, text)
 }
 
+fn described(_value: Value) -> &'static str {
+    "a value"
+}
+
 // Prints the result of reading an ASCII property list under limits.
 fn print_within<W: Write>(alloc: Global, out: &mut W, limits: Limits) -> Result<(), Error> {
     let text: &[u8] = b"((a))";
-    match Value::from_reader_with_limits(alloc, text, limits) {
-        Ok(_value) => writeln!(out, "((a)) within depth {}: a value", limits.depth)?,
-        Err(error) => writeln!(out, "((a)) within depth {}: {error}", limits.depth)?,
-    }
-    Ok(())
+    write!(out, "((a)) within depth {}", limits.depth)?;
+    let answer = Value::from_reader_with_limits(alloc, text, limits);
+    print_answer(out, &answer.map(described))
+}
+
+// Returns the file of a value.
+fn file_of(alloc: Global, value: &Value) -> Result<Vec<u8>, Error> {
+    let mut file = Vec::new(alloc);
+    written(alloc, value, &mut file)?;
+    Ok(file)
 }
 
 pub fn print<W: Write>(alloc: Global, out: &mut W) -> Result<(), Error> {
-    let value = built(alloc)?;
-    let mut bytes = Vec::new(alloc);
-    written(alloc, &value, &mut bytes)?;
-    print_items(out, "built", plist::Reader::new(alloc, bytes))?;
+    let file = file_of(alloc, &built(alloc)?)?;
+    print_items(out, "built", plist::Reader::new(alloc, file))?;
     let row: &[u8] = b"(a, a)";
-    let mut file = Vec::new(alloc);
-    written(alloc, &read(alloc, row)?, &mut file)?;
-    print_bytes(out, "(a, a)", file.as_slice())?;
+    print_bytes(
+        out,
+        "(a, a)",
+        file_of(alloc, &read(alloc, row)?)?.as_slice(),
+    )?;
     print_within(alloc, out, Limits { depth: 1, items: 9 })?;
     print_within(alloc, out, Limits { depth: 2, items: 5 })
 }

@@ -3,7 +3,7 @@
 use crate::events::event_at;
 use plist::Builder;
 use plist_base::{Date, Error, Event, Integer, RealBits, Sealed, Sink, Uid, Writer};
-use plist_binwrite::{BinaryWriter, forms};
+use plist_binwrite::{BinaryWriter, FileWriter, Sharing, forms};
 use plist_share::SharingWriter;
 use std::alloc::Global;
 use std::borrow::{CowSlice, CowStr};
@@ -55,16 +55,21 @@ fn array_of_arrays<W: Writer>(writer: &mut W) -> Result<(), Error> {
     writer.write(Event::EndCollection)
 }
 
+fn file_by<S: Sharing>(mut writer: FileWriter<Vec<u8>, S>) -> Result<Vec<u8>, Error> {
+    let done = array_of_arrays(&mut writer);
+    let file = writer.into_inner();
+    done?;
+    Ok(file)
+}
+
 pub fn binary(alloc: Global) -> Result<Vec<u8>, Error> {
-    let mut writer: BinaryWriter<Vec<u8>> = BinaryWriter::new(alloc, Vec::new(alloc));
-    array_of_arrays(&mut writer)?;
-    Ok(writer.into_inner())
+    let writer: BinaryWriter<Vec<u8>> = BinaryWriter::new(alloc, Vec::new(alloc));
+    file_by(writer)
 }
 
 pub fn shared(alloc: Global) -> Result<Vec<u8>, Error> {
-    let mut writer: SharingWriter<Vec<u8>> = SharingWriter::new(alloc, Vec::new(alloc));
-    array_of_arrays(&mut writer)?;
-    Ok(writer.into_inner())
+    let writer: SharingWriter<Vec<u8>> = SharingWriter::new(alloc, Vec::new(alloc));
+    file_by(writer)
 }
 
 // Writes the object of a Boolean by itself.
