@@ -2,7 +2,7 @@
 //! a file. `examples/idioms.rs` runs most of the idioms on the Rust crate `plist`, and says which
 //! lines of `crates/plist_settings/stdout` it prints.
 
-use crate::Failure;
+use crate::{Failure, Shown, open};
 use plist::stream::reading::format_of;
 use plist::stream::{BinaryWriter, Event, Reader, Seeking, Writer};
 use plist::{Date, Dialect, Dictionary, Error, Limits, RealBits, Value};
@@ -19,133 +19,167 @@ fn number_at(value: &Value, key: &str) -> Option<i64> {
     value.as_dictionary()?.get(key)?.as_signed_integer()
 }
 
-// Returns the version in the settings, as a string.
-fn version_of(alloc: Global, value: &Value) -> Result<String, Failure> {
-    let version = number_at(value, "Version").ok_or(Failure::NoSetting)?;
-    Ok(format!(in alloc; "{version}")?)
+// Returns the version of settings. Any other value is returned as it is.
+fn version_or_value(value: Value) -> Value {
+    match number_at(&value, "Version") {
+        Some(version) => Value::from(version),
+        None => value,
+    }
 }
 
-// Counts the events of the settings file, or returns its first error.
-fn count_of<R: Files + AllocGlobal>(rt: &R, alloc: Global) -> Result<u64, Failure> {
+// Counts the events of a reader, or returns its first error.
+fn count_events<R: Files>(reader: &mut Reader<Seeking<R::File>>) -> Result<u64, Error> {
     let mut count: u64 = 0;
-    for event in Reader::new(alloc, Seeking::with_windows(alloc, fs::open(rt, FILE)?)) {
+    while let Some(event) = reader.next() {
         let _event = event?;
         count = count.saturating_add(1);
     }
     Ok(count)
 }
 
-// Reads a value by one of the calls that open a file.
-fn opened<R: Files + AllocGlobal>(rt: &R, alloc: Global, name: &str) -> Result<Value, Failure> {
-    match name {
-        "from_file" => Ok(Value::from_file(rt, alloc, FILE)?),
-        "a value a line" => {
-            let dialect = Dialect::Tight;
-            Ok(Value::from_file_with_dialect(rt, alloc, "lines.plist", dialect)?)
-        }
-        "a missing file" => Ok(Value::from_file(rt, alloc, "missing.plist")?),
-        "an untrusted file" => {
-            let limits = Limits {
-                depth: 3,
-                items: 100,
-            };
-            Ok(Value::from_file_with_limits(rt, alloc, FILE, limits)?)
-        }
-        "a deep file" => {
-            let limits = Limits {
-                depth: 1,
-                items: 100,
-            };
-            Ok(Value::from_file_with_limits(rt, alloc, FILE, limits)?)
-        }
-        "from_reader of bytes" => {
-            let bytes = fs::read(rt, FILE)?;
-            Ok(Value::from_reader(alloc, bytes.as_slice())?)
-        }
-        "from_reader of a file" => {
-            let file = fs::open(rt, FILE)?;
-            Ok(Value::from_reader(alloc, Seeking::with_windows(alloc, file))?)
-        }
-        "to_file_binary" => {
-            Value::from_file(rt, alloc, FILE)?.to_file_binary(rt, alloc, "copy.plist")?;
-            Ok(Value::from_file(rt, alloc, "copy.plist")?)
-        }
-        _ => Err(Failure::NoSetting),
-    }
+// Counts the events of the settings file.
+fn count_of<R: Files + AllocGlobal>(rt: &R, alloc: Global) -> Result<u64, Error> {
+    let file = fs::open(rt, FILE)?;
+    count_events::<R>(&mut Reader::new(alloc, Seeking::with_windows(alloc, file)))
+}
+
+// Writes the settings to memory, and returns the length of the file.
+fn length_of<R: Files + AllocGlobal>(rt: &R, alloc: Global) -> Result<u64, Error> {
+    let settings = Value::from_file(rt, alloc, FILE)?;
+    let mut out = Vec::new(alloc);
+    settings.to_writer_binary(alloc, &mut out)?;
+    Ok(out.len() as u64)
 }
 
 // Writes a file of one string, and returns its length.
-fn written(alloc: Global) -> Result<usize, Error> {
+fn written(alloc: Global) -> Result<u64, Error> {
     let mut writer = BinaryWriter::new(alloc, Vec::new(alloc));
-    writer.write(Event::String(CowStr::Borrowed("text")))?;
-    Ok(writer.into_inner().len())
+    let done = writer.write(Event::String(CowStr::Borrowed("text")));
+    let length = writer.into_inner().len() as u64;
+    done.map(|()| length)
+}
+
+// Runs an idiom whose result is a number.
+fn measured<R: Files + AllocGlobal>(rt: &R, alloc: Global, name: &str) -> Result<u64, Error> {
+    match name {
+        "to_writer_binary" => length_of(rt, alloc),
+        "stream::Reader" => count_of(rt, alloc),
+        _ => written(alloc),
+    }
+}
+
+// Reads the settings file by its events.
+fn from_events<R: Files + AllocGlobal>(rt: &R, alloc: Global) -> Result<Value, Error> {
+    let bytes = fs::read(rt, FILE)?;
+    Value::from_events(alloc, Reader::new(alloc, bytes))
+}
+
+// Returns the name of the settings file's format.
+fn format_name<R: Files + AllocGlobal>(rt: &R, alloc: Global) -> Result<String, Error> {
+    let format = format_of(&mut fs::read(rt, FILE)?)?;
+    Ok(format!(in alloc; "{format:?}")?)
+}
+
+// Reads the settings file under limits.
+fn limited<R: Files + AllocGlobal>(rt: &R, alloc: Global, depth: u64) -> Result<Value, Error> {
+    let limits = Limits { depth, items: 100 };
+    Value::from_file_with_limits(rt, alloc, FILE, limits)
+}
+
+// Copies the settings file, and reads the copy.
+fn copied<R: Files + AllocGlobal>(rt: &R, alloc: Global) -> Result<Value, Error> {
+    Value::from_file(rt, alloc, FILE)?.to_file_binary(rt, alloc, "copy.plist")?;
+    Value::from_file(rt, alloc, "copy.plist")
+}
+
+// Reads the settings file from an open file.
+fn read_open<R: Files + AllocGlobal>(rt: &R, alloc: Global) -> Result<Value, Error> {
+    let file = fs::open(rt, FILE)?;
+    Value::from_reader(alloc, Seeking::with_windows(alloc, file))
 }
 
 // Runs an idiom of files and streams.
-fn streamed<R: Files + AllocGlobal>(rt: &R, alloc: Global, name: &str) -> Result<String, Failure> {
+fn streamed<R: Files + AllocGlobal>(rt: &R, alloc: Global, name: &str) -> Result<Value, Error> {
     match name {
-        "stream::Reader" => Ok(format!(in alloc; "{}", count_of(rt, alloc)?)?),
-        "to_writer_binary" => {
-            let mut out = Vec::new(alloc);
-            Value::from_file(rt, alloc, FILE)?.to_writer_binary(alloc, &mut out)?;
-            Ok(format!(in alloc; "{}", out.len())?)
+        "from_file" => Value::from_file(rt, alloc, FILE),
+        "a value a line" => {
+            Value::from_file_with_dialect(rt, alloc, "lines.plist", Dialect::Tight)
         }
-        "from_events" => {
-            let events = Reader::new(alloc, fs::read(rt, FILE)?);
-            version_of(alloc, &Value::from_events(alloc, events)?)
+        "an untrusted file" => limited(rt, alloc, 3),
+        "a deep file" => limited(rt, alloc, 1),
+        "from_reader of bytes" => Value::from_reader(alloc, fs::read(rt, FILE)?),
+        "from_reader of a file" => read_open(rt, alloc),
+        "to_file_binary" => copied(rt, alloc),
+        "from_events" => from_events(rt, alloc),
+        "to_writer_binary" | "stream::Reader" | "BinaryWriter" => {
+            measured(rt, alloc, name).map(Value::from)
         }
-        "BinaryWriter" => Ok(format!(in alloc; "{}", written(alloc)?)?),
-        "format_of" => {
-            let mut source = fs::read(rt, FILE)?;
-            Ok(format!(in alloc; "{:?}", format_of(&mut source)?)?)
-        }
-        _ => version_of(alloc, &opened(rt, alloc, name)?),
+        "format_of" => format_name(rt, alloc).map(Value::String),
+        _ => Value::from_file(rt, alloc, "missing.plist"),
+    }
+}
+
+// Returns the key of the setting that an idiom borrows.
+fn key_seen(name: &str) -> &'static str {
+    match name {
+        "as_boolean" => "Enabled",
+        "as_array" => "Offsets",
+        "as_data" => "Icon",
+        "as_real" => "Scale",
+        _ => "Name",
+    }
+}
+
+// Runs an idiom that borrows the content of a setting.
+fn content_seen(alloc: Global, setting: &Value, name: &str) -> Option<Value> {
+    match name {
+        "as_string" => Value::try_from_str(alloc, setting.as_string()?).ok(),
+        "as_boolean" => setting.as_boolean().map(Value::Boolean),
+        "as_array" => Some(Value::from(setting.as_array()?.len() as u64)),
+        "as_data" => Some(Value::from(setting.as_data()?.len() as u64)),
+        "as_real" => Some(Value::Real(RealBits::from_f64(setting.as_real()?.to_f64()))),
+        _ => match setting {
+            Value::String(text) => text.clone().ok().map(Value::String),
+            _ => None,
+        },
     }
 }
 
 // Runs an idiom that borrows from the settings.
-fn seen(alloc: Global, value: &Value, name: &str) -> Option<String> {
-    let settings = value.as_dictionary()?;
+fn seen(alloc: Global, settings: &Dictionary, name: &str) -> Option<Value> {
     match name {
-        "as_string" => settings.get("Name")?.as_string()?.to_string(alloc).ok(),
-        "as_boolean" => format!(in alloc; "{}", settings.get("Enabled")?.as_boolean()?).ok(),
-        "as_array" => format!(in alloc; "{}", settings.get("Offsets")?.as_array()?.len()).ok(),
-        "as_data" => format!(in alloc; "{}", settings.get("Icon")?.as_data()?.len()).ok(),
-        "as_real" => format!(in alloc; "{}", settings.get("Scale")?.as_real()?.to_f64()).ok(),
-        "match on a reference" => match settings.get("Name")? {
-            Value::String(text) => text.clone().ok(),
-            _ => None,
-        },
-        "contains_key" => format!(in alloc; "{}", settings.contains_key("Version")).ok(),
-        "len" => format!(in alloc; "{}", settings.len()).ok(),
-        _ => None,
+        "contains_key" => Some(Value::Boolean(settings.contains_key("Version"))),
+        "len" => Some(Value::from(settings.len() as u64)),
+        _ => content_seen(alloc, settings.get(key_seen(name))?, name),
     }
 }
 
+// Adds an item to an array of the settings, and returns the number of items.
+fn pushed(settings: &mut Dictionary) -> Option<u64> {
+    let items = settings.get_mut("Offsets")?.as_array_mut()?;
+    items.push(Value::from(7_i64)).ok()?;
+    Some(items.len() as u64)
+}
+
 // Runs an idiom that takes values out of the settings.
-fn taken(alloc: Global, value: Value, name: &str) -> Option<String> {
-    let mut settings = value.into_dictionary()?;
+fn taken(alloc: Global, settings: &mut Dictionary, name: &str) -> Option<Value> {
     match name {
         "match by value" => match settings.remove("Name")? {
-            Value::String(text) => Some(text),
+            Value::String(text) => Some(Value::String(text)),
             _ => None,
         },
-        "into_string" => settings.remove("Name")?.into_string(),
+        "into_string" => settings.remove("Name")?.into_string().map(Value::String),
         "into_array" => {
             let Some(Value::Array(items)) = settings.remove("Offsets") else {
                 return None;
             };
-            format!(in alloc; "{}", items.len()).ok()
+            Some(Value::from(items.len() as u64))
         }
         "remove" => {
             let _gone = settings.remove("Name")?;
-            keys_of(alloc, &settings).ok()
+            keys_of(alloc, settings).ok().map(Value::String)
         }
-        "get_mut" => {
-            let items = settings.get_mut("Offsets")?.as_array_mut()?;
-            items.push(Value::from(7_i64)).ok()?;
-            format!(in alloc; "{}", items.len()).ok()
-        }
+        "get_mut" => pushed(settings).map(Value::from),
         _ => None,
     }
 }
@@ -178,96 +212,85 @@ fn made(alloc: Global) -> Result<Dictionary, Error> {
     Ok(settings)
 }
 
-// Returns a dictionary after calls on the entries of a key that is there and of one that isn't.
-fn with_entries(alloc: Global) -> Result<Dictionary, Error> {
+// Calls the entries of a key that is there and of one that isn't.
+fn add_entries(alloc: Global, settings: &mut Dictionary) -> Result<(), Error> {
+    for key in ["b", "c"] {
+        let _value = settings
+            .entry(key.to_string(alloc)?)
+            .or_insert(Value::Boolean(false))?;
+    }
+    Ok(())
+}
+
+// Runs an idiom on the settings.
+fn used(alloc: Global, settings: &mut Dictionary, group: &str, name: &str) -> Option<Value> {
+    match group {
+        "look" => seen(alloc, settings, name),
+        _ => taken(alloc, settings, name),
+    }
+}
+
+// Makes a dictionary, and changes it by one of the idioms.
+fn changed(alloc: Global, name: &str) -> Result<Dictionary, Error> {
     let mut settings = made(alloc)?;
-    let _old = settings
-        .entry("b".to_string(alloc)?)
-        .or_insert(Value::Boolean(false))?;
-    let _new = settings
-        .entry("c".to_string(alloc)?)
-        .or_insert(Value::Boolean(false))?;
+    match name {
+        "entry" => add_entries(alloc, &mut settings)?,
+        "sort_keys" => settings.sort_keys()?,
+        "from_pairs" => return Dictionary::from_pairs(alloc, settings),
+        "clone of a dictionary" => return settings.clone(),
+        _ => {}
+    }
     Ok(settings)
 }
 
-// Returns a dictionary of two pairs, sorted by their keys.
-fn sorted(alloc: Global) -> Result<Dictionary, Error> {
-    let mut settings = made(alloc)?;
-    settings.sort_keys()?;
-    Ok(settings)
-}
-
-// Makes a dictionary by one of the idioms, and returns its keys.
-fn changed(alloc: Global, name: &str) -> Result<String, Failure> {
-    let settings = match name {
-        "insert" => made(alloc)?,
-        "entry" => with_entries(alloc)?,
-        "sort_keys" => sorted(alloc)?,
-        "from_pairs" => Dictionary::from_pairs(alloc, made(alloc)?)?,
-        "clone of a dictionary" => made(alloc)?.clone()?,
-        "iteration by value" => return Ok(keys_out_of(alloc, made(alloc)?)?),
-        _ => return Err(Failure::NoSetting),
-    };
-    Ok(keys_of(alloc, &settings)?)
+// Makes a date, and returns its text.
+fn date_text(alloc: Global) -> Option<String> {
+    let value = Value::Date(Date::from_unix_secs(0)?);
+    value.as_date()?.to_xml_format(alloc).ok()
 }
 
 // Makes a value by one of the idioms.
-fn built(alloc: Global, name: &str) -> Result<Value, Failure> {
+fn built(alloc: Global, name: &str) -> Result<Value, Error> {
     match name {
-        "a string" => Ok(Value::try_from_str(alloc, "text")?),
+        "a string" => Value::try_from_str(alloc, "text"),
         "a number" => Ok(Value::from(7_i64)),
         "a Boolean" => Ok(Value::Boolean(true)),
         "a real" => Ok(Value::Real(RealBits::from_f64(0.1))),
         "data" => Ok(Value::Data(Vec::from_slice(alloc, &[0, 255])?)),
-        "a date" => Ok(Value::Date(Date::from_unix_secs(0).ok_or(Failure::NoSetting)?)),
-        "clone of a value" => Ok(Value::Dictionary(made(alloc)?).clone(alloc)?),
-        "from_reader_ascii" => {
+        "clone of a value" => Value::Dictionary(made(alloc)?).clone(alloc),
+        _ => {
             let text: &[u8] = b"{ b = 7; a = x; }";
-            Ok(Value::from_reader_ascii(alloc, text)?)
+            Value::from_reader_ascii(alloc, text)
         }
-        _ => Err(Failure::NoSetting),
     }
 }
 
-// Returns the content of a value, as a string.
-fn content_of(alloc: Global, value: &Value) -> Result<String, Failure> {
+// Returns the text of an idiom's result. The keys of a dictionary are iterated by value.
+fn content_of(alloc: Global, value: Value) -> Result<String, AllocError> {
     match value {
-        Value::String(text) => Ok(text.clone()?),
-        Value::Integer(number) => Ok(format!(in alloc; "{number}")?),
-        Value::Boolean(flag) => Ok(format!(in alloc; "{flag}")?),
-        Value::Real(number) => Ok(format!(in alloc; "{}", number.to_f64())?),
-        Value::Data(bytes) => Ok(format!(in alloc; "{} bytes", bytes.len())?),
-        Value::Dictionary(settings) => Ok(keys_of(alloc, settings)?),
-        _ => Err(Failure::NoSetting),
+        Value::Dictionary(settings) => keys_out_of(alloc, settings),
+        other => Shown(&other).to_string(alloc),
     }
 }
 
-// Returns the text of a date.
-fn date_text(alloc: Global, value: &Value) -> Result<String, Failure> {
-    let date = value.as_date().ok_or(Failure::NoSetting)?;
-    Ok(date.to_xml_format(alloc)?)
-}
-
-// Returns the result of an idiom, as a string.
-fn text_of<R: Files + AllocGlobal>(
+// Runs an idiom.
+fn result_of<R: Files + AllocGlobal>(
     rt: &R,
     alloc: Global,
     group: &str,
     name: &str,
-) -> Result<String, Failure> {
+) -> Result<Value, Failure> {
     match group {
-        "stream" => streamed(rt, alloc, name),
-        "look" => {
-            let value = Value::from_file(rt, alloc, FILE)?;
-            seen(alloc, &value, name).ok_or(Failure::NoSetting)
+        "stream" => Ok(version_or_value(streamed(rt, alloc, name)?)),
+        "look" | "take" => {
+            let mut settings = open(rt, alloc, FILE)?;
+            used(alloc, &mut settings, group, name).ok_or(Failure::NoSetting)
         }
-        "take" => {
-            let value = Value::from_file(rt, alloc, FILE)?;
-            taken(alloc, value, name).ok_or(Failure::NoSetting)
-        }
-        "change" => changed(alloc, name),
-        "text" => date_text(alloc, &built(alloc, name)?),
-        _ => content_of(alloc, &built(alloc, name)?),
+        "change" => Ok(Value::Dictionary(changed(alloc, name)?)),
+        "text" => date_text(alloc)
+            .map(Value::String)
+            .ok_or(Failure::NoSetting),
+        _ => Ok(built(alloc, name)?),
     }
 }
 
@@ -278,10 +301,24 @@ fn idiom_text<R: Files + AllocGlobal>(
     group: &str,
     name: &str,
 ) -> Result<String, AllocError> {
-    match text_of(rt, alloc, group, name) {
-        Ok(text) => Ok(text),
+    match result_of(rt, alloc, group, name) {
+        Ok(value) => content_of(alloc, value),
         Err(failure) => failure.to_string(alloc),
     }
+}
+
+// Prints a line with the result of the idiom that it names.
+fn print_line<R: Files + AllocGlobal, W: Write>(
+    rt: &R,
+    alloc: Global,
+    line: &str,
+    out: &mut W,
+) -> Result<(), Error> {
+    if let Some((group, name)) = line.split_once(" | ") {
+        let text = idiom_text(rt, alloc, group, name)?;
+        writeln!(out, "{line} | {}", text.as_str().trim_end())?;
+    }
+    Ok(())
 }
 
 /// Prints a line for each idiom that the file of this name lists. The error of an idiom is printed
@@ -289,19 +326,16 @@ fn idiom_text<R: Files + AllocGlobal>(
 ///
 /// # Errors
 ///
-/// `Failure::Plist` if the file can't be read, a line can't be printed or an allocation fails.
+/// `Io` if the file can't be read or a line can't be printed, `OutOfMemory` if an allocation fails.
 pub fn print<R: Files + AllocGlobal, W: Write>(
     rt: &R,
     alloc: Global,
     file: &str,
     out: &mut W,
-) -> Result<(), Failure> {
+) -> Result<(), Error> {
     let idioms = fs::read_to_string(rt, file)?;
     for line in idioms.as_str().lines() {
-        if let Some((group, name)) = line.split_once(" | ") {
-            let text = idiom_text(rt, alloc, group, name)?;
-            writeln!(out, "{line} | {}", text.as_str().trim_end())?;
-        }
+        print_line(rt, alloc, line, out)?;
     }
     Ok(())
 }

@@ -15,7 +15,7 @@ use std::rt::Files;
 use std::{env, fmt, io};
 
 /// The error of executing an argument.
-#[derive(Debug, Drop)]
+#[derive(Drop)]
 enum Failure {
     /// A file can't be read or written, a line can't be printed, or an allocation fails.
     Plist(Error),
@@ -67,6 +67,17 @@ fn get<'a>(place: &'a Dictionary, path: &str) -> Option<&'a Value> {
     }
 }
 
+// Returns the dictionary at a key, or `None` if there is another value. A missing one is added.
+fn dictionary_at<'a>(
+    alloc: Global,
+    place: &'a mut Dictionary,
+    key: &str,
+) -> Result<Option<&'a mut Dictionary>, Error> {
+    let empty = Value::Dictionary(Dictionary::new(alloc));
+    let below = place.entry(key.to_string(alloc)?).or_insert(empty)?;
+    Ok(below.as_dictionary_mut())
+}
+
 // Sets the setting at a path, and returns whether it could be set. Missing dictionaries are added.
 fn set(alloc: Global, place: &mut Dictionary, path: &str, setting: Value) -> Result<bool, Error> {
     match path.split_once('.') {
@@ -74,15 +85,10 @@ fn set(alloc: Global, place: &mut Dictionary, path: &str, setting: Value) -> Res
             place.insert(path.to_string(alloc)?, setting)?;
             Ok(true)
         }
-        Some((key, rest)) => {
-            let below = place
-                .entry(key.to_string(alloc)?)
-                .or_insert(Value::Dictionary(Dictionary::new(alloc)))?;
-            match below.as_dictionary_mut() {
-                Some(inner) => set(alloc, inner, rest, setting),
-                None => Ok(false),
-            }
-        }
+        Some((key, rest)) => match dictionary_at(alloc, place, key)? {
+            Some(inner) => set(alloc, inner, rest, setting),
+            None => Ok(false),
+        },
     }
 }
 
@@ -106,34 +112,58 @@ fn setting_of(alloc: Global, text: &str) -> Result<Value, Error> {
     }
 }
 
-// Returns the text that is printed for a setting.
-fn text_of(alloc: Global, value: &Value) -> Result<String, Failure> {
+// Writes a number of things.
+fn write_count<W: fmt::Write>(
+    f: &mut fmt::Formatter<W>,
+    count: usize,
+    things: &str,
+) -> fmt::Result {
+    write!(f, "{count} {things}")
+}
+
+// A setting, as it is printed.
+#[derive(Clone, Copy)]
+struct Shown<'a>(&'a Value);
+
+impl fmt::Display for Shown<'_> {
+    fn fmt<W: fmt::Write>(&self, f: &mut fmt::Formatter<W>) -> fmt::Result {
+        match self.0 {
+            Value::Array(items) => write_count(f, items.len(), "items"),
+            Value::Dictionary(pairs) => write_count(f, pairs.len(), "settings"),
+            Value::Boolean(flag) => flag.fmt(f),
+            Value::Data(bytes) => write_count(f, bytes.len(), "bytes"),
+            Value::Date(date) => write!(f, "second {}", date.unix_secs()),
+            Value::Real(number) => number.to_f64().fmt(f),
+            Value::Integer(number) => number.fmt(f),
+            Value::String(text) => f.write_str(text.as_str()),
+            Value::Uid(uid) => write!(f, "object {}", uid.get()),
+        }
+    }
+}
+
+// Prints a setting with its path, and each setting in it.
+#[cycle(list)]
+fn list_at<W: Write>(
+    alloc: Global,
+    out: &mut W,
+    value: &Value,
+    path: &str,
+    key: &str,
+) -> Result<(), Error> {
     match value {
-        Value::Array(items) => Ok(format!(in alloc; "{} items", items.len())?),
-        Value::Dictionary(pairs) => Ok(format!(in alloc; "{} settings", pairs.len())?),
-        Value::Boolean(flag) => Ok(format!(in alloc; "{flag}")?),
-        Value::Data(bytes) => Ok(format!(in alloc; "{} bytes", bytes.len())?),
-        Value::Date(date) => Ok(format!(in alloc; "second {}", date.unix_secs())?),
-        Value::Real(number) => Ok(format!(in alloc; "{}", number.to_f64())?),
-        Value::Integer(number) => Ok(format!(in alloc; "{number}")?),
-        Value::String(text) => Ok(text.clone()?),
-        Value::Uid(uid) => Ok(format!(in alloc; "object {}", uid.get())?),
+        Value::Dictionary(inner) => {
+            let below = format!(in alloc; "{path}{key}.")?;
+            list(alloc, out, inner, below.as_str())
+        }
+        other => Ok(writeln!(out, "{path}{key} = {}", Shown(other))?),
     }
 }
 
 // Prints each setting with its path.
-fn list<W: Write>(alloc: Global, out: &mut W, at: &Dictionary, path: &str) -> Result<(), Failure> {
+#[cycle(list)]
+fn list<W: Write>(alloc: Global, out: &mut W, at: &Dictionary, path: &str) -> Result<(), Error> {
     for (key, value) in at.iter() {
-        match value {
-            Value::Dictionary(inner) => {
-                let below = format!(in alloc; "{path}{key}.")?;
-                list(alloc, out, inner, below.as_str())?;
-            }
-            other => {
-                let text = text_of(alloc, other)?;
-                writeln!(out, "{path}{key} = {text}")?;
-            }
-        }
+        list_at(alloc, out, value, path, key.as_str())?;
     }
     Ok(())
 }
@@ -144,6 +174,41 @@ fn open<R: Files>(rt: &R, alloc: Global, path: &str) -> Result<Dictionary, Failu
         Value::Dictionary(settings) => Ok(settings),
         _ => Err(Failure::NoDictionary),
     }
+}
+
+// Prints the setting at a path.
+fn print_setting<W: Write>(out: &mut W, settings: &Dictionary, path: &str) -> Result<(), Failure> {
+    match get(settings, path) {
+        Some(setting) => Ok(writeln!(out, "{}", Shown(setting))?),
+        None => Err(Failure::NoSetting),
+    }
+}
+
+// Sets the setting that `PATH=TEXT` describes.
+fn set_text(alloc: Global, settings: &mut Dictionary, what: &str) -> Result<(), Failure> {
+    let (path, text) = what.split_once('=').ok_or(Failure::Usage)?;
+    if set(alloc, settings, path, setting_of(alloc, text)?)? {
+        Ok(())
+    } else {
+        Err(Failure::NoSetting)
+    }
+}
+
+// Removes the setting at a path, and prints it.
+fn print_deleted<W: Write>(
+    out: &mut W,
+    settings: &mut Dictionary,
+    path: &str,
+) -> Result<(), Failure> {
+    match delete(settings, path) {
+        Some(setting) => Ok(writeln!(out, "{path} was {}", Shown(&setting))?),
+        None => Err(Failure::NoSetting),
+    }
+}
+
+// Writes the settings to a file.
+fn save<R: Files>(rt: &R, alloc: Global, settings: &Dictionary, path: &str) -> Result<(), Error> {
+    Value::Dictionary(settings.clone()?).to_file_binary(rt, alloc, path)
 }
 
 // Executes an argument.
@@ -158,22 +223,11 @@ fn perform<R: Files + AllocGlobal, W: Write>(
     match verb {
         "open" => *settings = open(rt, alloc, what)?,
         "list" => list(alloc, out, settings, "")?,
-        "get" => {
-            let setting = get(settings, what).ok_or(Failure::NoSetting)?;
-            writeln!(out, "{}", text_of(alloc, setting)?)?;
-        }
-        "set" => {
-            let (path, text) = what.split_once('=').ok_or(Failure::Usage)?;
-            if !set(alloc, settings, path, setting_of(alloc, text)?)? {
-                return Err(Failure::NoSetting);
-            }
-        }
-        "delete" => {
-            let setting = delete(settings, what).ok_or(Failure::NoSetting)?;
-            writeln!(out, "{what} was {}", text_of(alloc, &setting)?)?;
-        }
+        "get" => print_setting(out, settings, what)?,
+        "set" => set_text(alloc, settings, what)?,
+        "delete" => print_deleted(out, settings, what)?,
         "idioms" => idioms::print(rt, alloc, what, out)?,
-        "save" => Value::Dictionary(settings.clone()?).to_file_binary(rt, alloc, what)?,
+        "save" => save(rt, alloc, settings, what)?,
         _ => return Err(Failure::Usage),
     }
     Ok(())
