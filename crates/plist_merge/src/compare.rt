@@ -1,8 +1,7 @@
 //! The differences between two dictionaries, by key path.
 
-use crate::Failure;
 use crate::text::text_of;
-use plist::{Dictionary, Value};
+use plist::{Dictionary, Error, Value};
 use std::alloc::Global;
 use std::io::Write;
 
@@ -47,6 +46,19 @@ fn is_same(value: &Value, other: &Value) -> bool {
     }
 }
 
+// Prints a value that has changed.
+fn print_changed<W: Write>(
+    alloc: Global,
+    out: &mut W,
+    before: &Value,
+    after: &Value,
+    path: &str,
+) -> Result<(), Error> {
+    let old = text_of(alloc, before)?;
+    let new = text_of(alloc, after)?;
+    Ok(writeln!(out, "~ {path} {old} {new}")?)
+}
+
 // Prints how the value at a path has changed.
 #[cycle(diff)]
 fn diff_value<W: Write>(
@@ -55,18 +67,14 @@ fn diff_value<W: Write>(
     before: &Value,
     after: &Value,
     path: &str,
-) -> Result<(), Failure> {
+) -> Result<(), Error> {
     match (before, after) {
         (Value::Dictionary(old), Value::Dictionary(new)) => {
             let below = format!(in alloc; "{path}.")?;
             diff(alloc, out, old, new, below.as_str())
         }
         _ if is_same(before, after) => Ok(()),
-        _ => {
-            let (old, new) = (text_of(alloc, before)?, text_of(alloc, after)?);
-            writeln!(out, "~ {path} {old} {new}")?;
-            Ok(())
-        }
+        _ => print_changed(alloc, out, before, after, path),
     }
 }
 
@@ -76,7 +84,7 @@ fn print_added<W: Write>(
     old: &Dictionary,
     new: &Dictionary,
     path: &str,
-) -> Result<(), Failure> {
+) -> Result<(), Error> {
     for key in new.keys() {
         if !old.contains_key(key.as_str()) {
             writeln!(out, "+ {path}{key}")?;
@@ -90,7 +98,7 @@ fn print_added<W: Write>(
 ///
 /// # Errors
 ///
-/// `Failure::Plist` if a line can't be printed or an allocation fails. Earlier lines have been
+/// `Io` if a line can't be printed, `OutOfMemory` if an allocation fails. Earlier lines have been
 /// printed then.
 #[cycle(diff)]
 pub fn diff<W: Write>(
@@ -99,7 +107,7 @@ pub fn diff<W: Write>(
     old: &Dictionary,
     new: &Dictionary,
     path: &str,
-) -> Result<(), Failure> {
+) -> Result<(), Error> {
     for (key, before) in old {
         let at = format!(in alloc; "{path}{key}")?;
         match new.get(key.as_str()) {

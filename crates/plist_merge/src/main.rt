@@ -23,7 +23,7 @@ const LIMITS: Limits = Limits {
 };
 
 /// The error of executing an argument.
-#[derive(Debug, Drop)]
+#[derive(Drop)]
 enum Failure {
     /// A file can't be read or written, a line can't be printed, or an allocation fails.
     Plist(Error),
@@ -90,6 +90,17 @@ fn open<R: Files>(rt: &R, alloc: Global, path: &str) -> Result<Dictionary, Failu
     }
 }
 
+// Prints the names of two files, and the differences between their dictionaries.
+fn print_changes<W: Write>(
+    alloc: Global,
+    out: &mut W,
+    (old, before): (&str, &Dictionary),
+    (new, after): (&str, &Dictionary),
+) -> Result<(), Error> {
+    writeln!(out, "--- {old}\n+++ {new}")?;
+    diff(alloc, out, before, after, "")
+}
+
 // Prints the differences between two files.
 fn print_diff<R: Files, W: Write>(
     rt: &R,
@@ -100,9 +111,20 @@ fn print_diff<R: Files, W: Write>(
     let (old, new) = names.split_once(',').ok_or(Failure::Usage)?;
     let before = open(rt, alloc, old)?;
     let after = open(rt, alloc, new)?;
-    writeln!(out, "--- {old}")?;
-    writeln!(out, "+++ {new}")?;
-    diff(alloc, out, &before, &after, "")
+    Ok(print_changes(alloc, out, (old, &before), (new, &after))?)
+}
+
+// Returns a dictionary into which a file was merged.
+fn merged<R: Files>(
+    rt: &R,
+    alloc: Global,
+    base: &Dictionary,
+    over: &str,
+) -> Result<Dictionary, Failure> {
+    let over = open(rt, alloc, over)?;
+    let mut after = base.clone()?;
+    merge(over, &mut after)?;
+    Ok(after)
 }
 
 // Merges a file into another one, prints the changes, and writes the result.
@@ -115,13 +137,9 @@ fn merge_files<R: Files, W: Write>(
     let (base, rest) = names.split_once(',').ok_or(Failure::Usage)?;
     let (over, result) = rest.split_once(',').ok_or(Failure::Usage)?;
     let before = open(rt, alloc, base)?;
-    let mut after = before.clone()?;
-    merge(open(rt, alloc, over)?, &mut after)?;
-    writeln!(out, "--- {base}")?;
-    writeln!(out, "+++ {result}")?;
-    diff(alloc, out, &before, &after, "")?;
-    Value::Dictionary(after).to_file_binary(rt, alloc, result)?;
-    Ok(())
+    let after = merged(rt, alloc, &before, over)?;
+    print_changes(alloc, out, (base, &before), (result, &after))?;
+    Ok(Value::Dictionary(after).to_file_binary(rt, alloc, result)?)
 }
 
 // Executes an argument.

@@ -1,40 +1,43 @@
 //! How a value is printed.
 
-use plist::{Date, Dictionary, Error, ErrorKind, Value};
-use std::alloc::Global;
+use plist::{Date, Dictionary, ErrorKind, Value};
+use std::alloc::{AllocError, Global};
 
 // Returns the text of a date, or its second if it has no text, for example because of a fraction.
-fn date_text(alloc: Global, date: Date) -> Result<String, Error> {
+fn date_text(alloc: Global, date: Date) -> Result<String, AllocError> {
     match date.to_xml_format(alloc) {
         Ok(text) => Ok(text),
         Err(error) => match error.kind() {
-            ErrorKind::OutOfMemory => Err(error),
-            _ => Ok(format!(in alloc; "second {}", date.unix_secs())?),
+            ErrorKind::OutOfMemory => Err(AllocError),
+            _ => format!(in alloc; "second {}", date.unix_secs()),
         },
     }
 }
 
-// Returns the texts of an array's items.
-#[cycle(text)]
-fn items_text(alloc: Global, items: &[Value]) -> Result<String, Error> {
-    let mut text = String::new(alloc);
-    for item in items {
-        let separator = if text.is_empty() { "" } else { ", " };
-        text.push_str(separator)?;
-        text.push_str(text_of(alloc, item)?.as_str())?;
+// Adds a part after an opening bracket or another part.
+fn add_part(text: &mut String, part: &str) -> Result<(), AllocError> {
+    if text.len() > 1 {
+        text.push_str(", ")?;
     }
-    Ok(text)
+    text.push_str(part)
 }
 
-// Returns the keys of a dictionary.
-fn keys_text(alloc: Global, pairs: &Dictionary) -> Result<String, Error> {
-    let mut text = String::new(alloc);
-    for key in pairs.keys() {
-        let separator = if text.is_empty() { "" } else { ", " };
-        text.push_str(separator)?;
-        text.push_str(key.as_str())?;
+// Adds the texts of an array's items.
+#[cycle(text)]
+fn add_items(alloc: Global, text: &mut String, items: &[Value]) -> Result<(), AllocError> {
+    for item in items {
+        let part = text_of(alloc, item)?;
+        add_part(text, part.as_str())?;
     }
-    Ok(text)
+    text.push(')')
+}
+
+// Adds the keys of a dictionary.
+fn add_keys(text: &mut String, pairs: &Dictionary) -> Result<(), AllocError> {
+    for key in pairs.keys() {
+        add_part(text, key.as_str())?;
+    }
+    text.push('}')
 }
 
 /// Returns the text of a value. The text of an array has its items, and that of a dictionary its
@@ -42,18 +45,26 @@ fn keys_text(alloc: Global, pairs: &Dictionary) -> Result<String, Error> {
 ///
 /// # Errors
 ///
-/// `OutOfMemory` if an allocation fails.
+/// `AllocError` if an allocation fails.
 #[cycle(text)]
-pub fn text_of(alloc: Global, value: &Value) -> Result<String, Error> {
+pub fn text_of(alloc: Global, value: &Value) -> Result<String, AllocError> {
     match value {
-        Value::Array(items) => Ok(format!(in alloc; "({})", items_text(alloc, items)?)?),
-        Value::Dictionary(pairs) => Ok(format!(in alloc; "{{{}}}", keys_text(alloc, pairs)?)?),
-        Value::Boolean(flag) => Ok(format!(in alloc; "{flag}")?),
-        Value::Data(bytes) => Ok(format!(in alloc; "<{} bytes>", bytes.len())?),
+        Value::Array(items) => {
+            let mut text = String::from_str(alloc, "(")?;
+            add_items(alloc, &mut text, items)?;
+            Ok(text)
+        }
+        Value::Dictionary(pairs) => {
+            let mut text = String::from_str(alloc, "{")?;
+            add_keys(&mut text, pairs)?;
+            Ok(text)
+        }
+        Value::Boolean(flag) => flag.to_string(alloc),
+        Value::Data(bytes) => format!(in alloc; "<{} bytes>", bytes.len()),
         Value::Date(date) => date_text(alloc, *date),
-        Value::Real(number) => Ok(format!(in alloc; "{:?}", number.to_f64())?),
-        Value::Integer(number) => Ok(format!(in alloc; "{number}")?),
-        Value::String(text) => Ok(format!(in alloc; "{text:?}")?),
-        Value::Uid(uid) => Ok(format!(in alloc; "object {}", uid.get())?),
+        Value::Real(number) => format!(in alloc; "{:?}", number.to_f64()),
+        Value::Integer(number) => number.to_string(alloc),
+        Value::String(text) => format!(in alloc; "{text:?}"),
+        Value::Uid(uid) => format!(in alloc; "object {}", uid.get()),
     }
 }
