@@ -46,18 +46,16 @@ pub fn next_after_a_fault<R: Source>(
     }
 }
 
-/// Returns whether a reader without limits yields `LimitReached` as its first or its second item.
-/// It never does, whatever the source does.
+/// Returns whether the second item of a reader without limits is `LimitReached`. It never is,
+/// whatever the source does.
 pub fn reaches_a_limit<R: Source>(alloc: Global, source: R) -> bool
     ensures { result ≡ false }
 {
     let mut reader = BinaryReader::new(alloc, source);
+    drop(reader.next());
     match reader.next() {
-        Some(Ok(_)) => match reader.next() {
-            Some(Err(error)) => matches!(error.kind(), ErrorKind::LimitReached(_)),
-            _ => false,
-        },
         Some(Err(error)) => matches!(error.kind(), ErrorKind::LimitReached(_)),
+        Some(Ok(_event)) => false,
         None => false,
     }
 }

@@ -10,19 +10,7 @@ fn one_more(count: u64) -> u64 {
     count.saturating_add(1)
 }
 
-/// Counts the values other than dictionaries in a dictionary, at any depth, by a loop over it.
-pub fn count_in(pairs: &Dictionary) -> u64 {
-    let mut count = 0;
-    for (_key, value) in pairs {
-        count = match value {
-            Value::Dictionary(inner) => count_in(inner).saturating_add(count),
-            _ => one_more(count),
-        };
-    }
-    count
-}
-
-/// Like [`count_in`], but by the dictionary's iterator.
+/// Counts the values other than dictionaries in a dictionary, at any depth, by its iterator.
 pub fn count_by_iter(pairs: &Dictionary) -> u64 {
     let mut count = 0;
     for (_key, value) in pairs.iter() {
@@ -34,19 +22,7 @@ pub fn count_by_iter(pairs: &Dictionary) -> u64 {
     count
 }
 
-/// Like [`count_in`], but by the dictionary's values.
-pub fn count_by_values(pairs: &Dictionary) -> u64 {
-    let mut count = 0;
-    for value in pairs.values() {
-        count = match value {
-            Value::Dictionary(inner) => count_by_values(inner).saturating_add(count),
-            _ => one_more(count),
-        };
-    }
-    count
-}
-
-/// Like [`count_in`], but by the dictionary's keys and its values.
+/// Like [`count_by_iter`], but by the dictionary's keys and its values.
 pub fn count_by_columns(pairs: &Dictionary) -> u64 {
     let mut count = 0;
     for (_key, value) in pairs.keys().zip(pairs.values()) {
@@ -58,7 +34,7 @@ pub fn count_by_columns(pairs: &Dictionary) -> u64 {
     count
 }
 
-/// Like [`count_in`], but for a dictionary by value.
+/// Like [`count_by_iter`], but for a dictionary by value.
 pub fn count_of(pairs: Dictionary) -> u64 {
     let mut count = 0;
     for (_key, value) in pairs {
@@ -68,14 +44,6 @@ pub fn count_of(pairs: Dictionary) -> u64 {
         };
     }
     count
-}
-
-/// Counts the dictionaries that are nested under this key.
-pub fn levels_at(pairs: &Dictionary, key: &str) -> u64 {
-    match pairs.get(key) {
-        Some(Value::Dictionary(inner)) => one_more(levels_at(inner, key)),
-        _ => 0,
-    }
 }
 
 /// Counts the values that are nested under this key in a value.
@@ -101,18 +69,18 @@ pub fn count_in_arrays(value: &Value) -> u64 {
     count
 }
 
-/// Counts the dictionaries that are nested under this key, by entries.
-///
-/// # Errors
-///
-/// `OutOfMemory` if the key can't be copied.
-pub fn levels_by_entry(alloc: Global, pairs: &mut Dictionary, key: &str) -> Result<u64, Error> {
-    match pairs.entry(key.to_string(alloc)?) {
+/// Counts the dictionaries that are nested under this key, by entries, as far as there is memory
+/// for copies of the key.
+pub fn levels_by_entry(alloc: Global, pairs: &mut Dictionary, key: &str) -> u64 {
+    let Ok(copy) = key.to_string(alloc) else {
+        return 0;
+    };
+    match pairs.entry(copy) {
         Entry::Occupied(found) => match found.into_mut() {
-            Value::Dictionary(inner) => Ok(one_more(levels_by_entry(alloc, inner, key)?)),
-            _ => Ok(0),
+            Value::Dictionary(inner) => one_more(levels_by_entry(alloc, inner, key)),
+            _ => 0,
         },
-        Entry::Vacant(_entry) => Ok(0),
+        Entry::Vacant(_entry) => 0,
     }
 }
 
@@ -124,41 +92,7 @@ pub fn levels_by_get_mut(pairs: &mut Dictionary, key: &str) -> u64 {
     }
 }
 
-/// Counts the values other than dictionaries in a dictionary that contains no dates.
-///
-/// # Errors
-///
-/// `OverflowOrNanDate` if there is a date.
-pub fn try_count_in(pairs: &Dictionary) -> Result<u64, Error> {
-    let mut count = 0;
-    for (_key, value) in pairs {
-        count = match value {
-            Value::Dictionary(inner) => try_count_in(inner)?.saturating_add(count),
-            Value::Date(_) => return Err(ErrorKind::OverflowOrNanDate.without_position()),
-            _ => one_more(count),
-        };
-    }
-    Ok(count)
-}
-
-/// Like [`try_count_in`], but for a dictionary by value.
-///
-/// # Errors
-///
-/// `OverflowOrNanDate` if there is a date.
-pub fn try_count_of(pairs: Dictionary) -> Result<u64, Error> {
-    let mut count = 0;
-    for (_key, value) in pairs {
-        count = match value {
-            Value::Dictionary(inner) => try_count_of(inner)?.saturating_add(count),
-            Value::Date(_) => return Err(ErrorKind::OverflowOrNanDate.without_position()),
-            _ => one_more(count),
-        };
-    }
-    Ok(count)
-}
-
-/// Like [`try_count_of`], but returns `None` for a date.
+/// Counts the values other than dictionaries in a dictionary, or returns `None` if there is a date.
 pub fn count_without_dates(pairs: Dictionary) -> Option<u64> {
     let mut count = 0;
     for (_key, value) in pairs {
@@ -188,60 +122,29 @@ pub fn try_count_dictionaries(pairs: Dictionary) -> Result<u64, Error> {
     Ok(count)
 }
 
-/// Merges a dictionary into another one. If both have a dictionary at a key, these are merged;
-/// otherwise the value at the key is replaced.
-///
-/// # Errors
-///
-/// `OutOfMemory` if an allocation fails; a part has been merged then.
-pub fn merge(base: &mut Dictionary, over: Dictionary) -> Result<(), Error> {
-    merge_into(over, base)
-}
-
-// Merges a dictionary into another one. The dictionary that gets less deep is the first parameter,
-// by which the prover finds that the recursion ends.
-fn merge_into(over: Dictionary, base: &mut Dictionary) -> Result<(), Error> {
-    for (key, value) in over {
-        match value {
-            Value::Dictionary(inner) => match base.get_mut(key.as_str()) {
-                Some(Value::Dictionary(below)) => merge_into(inner, below)?,
-                _ => {
-                    let _old = base.insert(key, Value::Dictionary(inner))?;
-                }
-            },
-            other => {
-                let _old = base.insert(key, other)?;
-            }
-        }
-    }
-    Ok(())
-}
-
-/// Like [`merge`], but by entries.
+/// Merges a dictionary into another one, by entries. If both have a dictionary at a key, these are
+/// merged; otherwise the value at the key is replaced. The dictionary that gets less deep is the
+/// first parameter, by which the prover finds that the recursion ends.
 ///
 /// # Errors
 ///
 /// `OutOfMemory` if an allocation fails; a part has been merged then.
 pub fn merge_by_entries(over: Dictionary, base: &mut Dictionary) -> Result<(), Error> {
     for (key, value) in over {
+        let empty = Value::Dictionary(Dictionary::new(base.allocator()));
+        let below = base.entry(key).or_insert(empty)?;
         match value {
-            Value::Dictionary(inner) => {
-                let empty = Value::Dictionary(Dictionary::new(base.allocator()));
-                let below = base.entry(key).or_insert(empty)?;
-                match below.as_dictionary_mut() {
-                    Some(below) => merge_by_entries(inner, below)?,
-                    None => *below = Value::Dictionary(inner),
-                }
-            }
-            other => {
-                let _old = base.insert(key, other)?;
-            }
+            Value::Dictionary(inner) => match below.as_dictionary_mut() {
+                Some(below) => merge_by_entries(inner, below)?,
+                None => *below = Value::Dictionary(inner),
+            },
+            other => *below = other,
         }
     }
     Ok(())
 }
 
-/// Like [`merge`], but takes both dictionaries by value, and returns the merged one.
+/// Like [`merge_by_entries`], but takes both dictionaries by value, and returns the merged one.
 ///
 /// # Errors
 ///
@@ -259,27 +162,8 @@ pub fn merge_by_value(over: Dictionary, mut base: Dictionary) -> Result<Dictiona
     Ok(base)
 }
 
-/// Like [`merge`], but leaves both dictionaries unchanged, and returns a new one.
-///
-/// # Errors
-///
-/// `OutOfMemory` if an allocation fails.
-pub fn merged(alloc: Global, over: &Dictionary, base: &Dictionary) -> Result<Dictionary, Error> {
-    let mut all = base.clone()?;
-    for (key, value) in over {
-        let new = match (value, base.get(key.as_str())) {
-            (Value::Dictionary(inner), Some(Value::Dictionary(below))) => {
-                Value::Dictionary(merged(alloc, inner, below)?)
-            }
-            _ => value.clone(alloc)?,
-        };
-        let _old = all.insert(key.clone()?, new)?;
-    }
-    Ok(all)
-}
-
-/// Merges a value into another one. Two dictionaries are merged as [`merge`] does; any other value
-/// replaces the old one.
+/// Merges a value into another one. Two dictionaries are merged as [`merge_by_entries`] does;
+/// any other value replaces the old one.
 ///
 /// # Errors
 ///

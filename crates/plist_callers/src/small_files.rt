@@ -68,15 +68,14 @@ pub fn fault_at_the_child(alloc: Global, bytes: &[u8]) -> bool
     ensures { result ≡ false }
 {
     let mut reader = BinaryReader::new(alloc, bytes);
+    drop(reader.next());
     match reader.next() {
-        Some(Ok(_start)) => match reader.next() {
-            Some(Err(error)) => match error.kind() {
-                ErrorKind::ObjectReferenceTooLarge => error.offset() != Some(8),
-                _ => false,
-            },
+        Some(Err(error)) => match error.kind() {
+            ErrorKind::ObjectReferenceTooLarge => error.offset() != Some(8),
             _ => false,
         },
-        _ => false,
+        Some(Ok(_event)) => false,
+        None => false,
     }
 }
 
@@ -87,13 +86,8 @@ pub fn values_before_keys(alloc: Global, bytes: &[u8]) -> bool
     ensures { result ≡ false }
 {
     let mut reader = BinaryReader::new(alloc, bytes);
-    match reader.next() {
-        Some(Ok(_start)) => match reader.next() {
-            Some(Ok(Event::Integer(_))) => true,
-            _ => false,
-        },
-        _ => false,
-    }
+    drop(reader.next());
+    matches!(reader.next(), Some(Ok(Event::Integer(_))))
 }
 
 /// Reads a file with an array in an array. Returns whether the child of the inner array is read by
@@ -104,15 +98,12 @@ pub fn keeps_other_references(alloc: Global, bytes: &[u8]) -> bool
     ensures { result ≡ false }
 {
     let mut reader = BinaryReader::new(alloc, bytes);
+    drop(reader.next());
+    drop(reader.next());
     match reader.next() {
-        Some(Ok(_outer)) => match reader.next() {
-            Some(Ok(_inner)) => match reader.next() {
-                Some(Err(error)) => matches!(error.kind(), ErrorKind::RecursiveObject),
-                _ => false,
-            },
-            _ => false,
-        },
-        _ => false,
+        Some(Err(error)) => matches!(error.kind(), ErrorKind::RecursiveObject),
+        Some(Ok(_event)) => false,
+        None => false,
     }
 }
 
@@ -124,12 +115,11 @@ pub fn end_wants_memory(alloc: Global, bytes: &[u8]) -> bool
     ensures { result ≡ false }
 {
     let mut reader = BinaryReader::new(alloc, bytes);
+    drop(reader.next());
     match reader.next() {
-        Some(Ok(_start)) => match reader.next() {
-            Some(Err(error)) => matches!(error.kind(), ErrorKind::OutOfMemory),
-            _ => false,
-        },
-        _ => false,
+        Some(Err(error)) => matches!(error.kind(), ErrorKind::OutOfMemory),
+        Some(Ok(_event)) => false,
+        None => false,
     }
 }
 
