@@ -2,11 +2,10 @@
 
 use crate::keys::{Shape, advice_for, shape_of};
 use plist::{Dictionary, Error, Value};
-use std::alloc::Global;
 use std::fmt;
 
 /// An error or a warning.
-#[derive(Debug, Drop)]
+#[derive(Clone, Copy)]
 pub enum Finding<'a> {
     /// Something that every job needs is missing: a key, one of two keys, or the first argument.
     Missing(&'static str),
@@ -85,15 +84,20 @@ fn type_of(value: &Value) -> &'static str {
     }
 }
 
-// The findings so far.
-type Findings<'a> = Vec<Finding<'a>>;
+/// The findings so far.
+pub type Findings<'a> = Vec<Finding<'a>>;
+
+// Adds a finding.
+fn add<'a>(to: &mut Findings<'a>, finding: Finding<'a>) -> Result<(), Error> {
+    Ok(to.push(finding)?)
+}
 
 // Checks a path.
 fn check_path<'a>(key: &'a str, path: &'a str, to: &mut Findings<'a>) -> Result<(), Error> {
-    if !path.starts_with('/') {
-        to.push(Finding::Relative { key, path })?;
+    if path.starts_with('/') {
+        return Ok(());
     }
-    Ok(())
+    add(to, Finding::Relative { key, path })
 }
 
 // Checks an item of an array of strings.
@@ -109,8 +113,7 @@ fn check_item<'a>(
         Value::String(_) => Ok(()),
         other => {
             let found = type_of(other);
-            to.push(Finding::WrongItem { key, index, found })?;
-            Ok(())
+            add(to, Finding::WrongItem { key, index, found })
         }
     }
 }
@@ -137,18 +140,16 @@ fn check_content<'a>(
 // Checks a key and its value.
 fn check_pair<'a>(key: &'a str, value: &'a Value, to: &mut Findings<'a>) -> Result<(), Error> {
     let Some(wanted) = shape_of(key) else {
-        to.push(Finding::Unknown(key))?;
-        return Ok(());
+        return add(to, Finding::Unknown(key));
     };
     if let Some(advice) = advice_for(key) {
-        to.push(Finding::Deprecated { key, advice })?;
+        add(to, Finding::Deprecated { key, advice })?;
     }
     if wanted.admits(value) {
         return check_content(key, value, wanted, to);
     }
     let found = type_of(value);
-    to.push(Finding::WrongType { key, wanted, found })?;
-    Ok(())
+    add(to, Finding::WrongType { key, wanted, found })
 }
 
 // Checks that there is something to start: a program, or else the first of the arguments.
@@ -157,31 +158,29 @@ fn check_program<'a>(job: &'a Dictionary, to: &mut Findings<'a>) -> Result<(), E
         return Ok(());
     }
     match job.get("ProgramArguments") {
-        None => to.push(Finding::Missing("Program or ProgramArguments"))?,
+        None => add(to, Finding::Missing("Program or ProgramArguments")),
         Some(Value::Array(items)) => match items.first() {
-            None => to.push(Finding::Missing("the first item of ProgramArguments"))?,
-            Some(Value::String(path)) => check_path("ProgramArguments", path.as_str(), to)?,
-            Some(_) => {}
+            None => add(to, Finding::Missing("the first item of ProgramArguments")),
+            Some(Value::String(path)) => check_path("ProgramArguments", path.as_str(), to),
+            Some(_) => Ok(()),
         },
-        Some(_) => {}
+        Some(_) => Ok(()),
     }
-    Ok(())
 }
 
-/// Checks a job, and returns the findings: first those about what every job needs, and then those
+/// Checks a job, and adds the findings: first those about what every job needs, and then those
 /// about its keys, in the order in which the job has them.
 ///
 /// # Errors
 ///
 /// `OutOfMemory` if an allocation fails.
-pub fn check(alloc: Global, job: &Dictionary) -> Result<Findings<'_>, Error> {
-    let mut findings = Vec::new(alloc);
+pub fn check<'a>(job: &'a Dictionary, to: &mut Findings<'a>) -> Result<(), Error> {
     if !job.contains_key("Label") {
-        findings.push(Finding::Missing("Label"))?;
+        add(to, Finding::Missing("Label"))?;
     }
-    check_program(job, &mut findings)?;
+    check_program(job, to)?;
     for (key, value) in job {
-        check_pair(key.as_str(), value, &mut findings)?;
+        check_pair(key.as_str(), value, to)?;
     }
-    Ok(findings)
+    Ok(())
 }

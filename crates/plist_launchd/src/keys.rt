@@ -4,7 +4,7 @@ use plist::Value;
 use std::fmt;
 
 /// The shape that a key requires of its value.
-#[derive(Clone, Copy, Debug, PartialEq, Eq)]
+#[derive(Clone, Copy, PartialEq, Eq)]
 pub enum Shape {
     Boolean,
     Integer,
@@ -58,56 +58,39 @@ impl fmt::Display for Shape {
     }
 }
 
-// Most of the keys that launchd.plist(5) describes.
-const KEYS: [(&str, Shape); 48] = [
-    ("AbandonProcessGroup", Shape::Boolean),
-    ("Debug", Shape::Boolean),
-    ("Disabled", Shape::Boolean),
-    ("EnableGlobbing", Shape::Boolean),
-    ("EnablePressuredExit", Shape::Boolean),
-    ("EnableTransactions", Shape::Boolean),
-    ("EnvironmentVariables", Shape::Dictionary),
-    ("ExitTimeOut", Shape::Integer),
-    ("GroupName", Shape::Text),
-    ("HardResourceLimits", Shape::Dictionary),
-    ("HopefullyExitsFirst", Shape::Boolean),
-    ("HopefullyExitsLast", Shape::Boolean),
-    ("InitGroups", Shape::Boolean),
+// Most of the keys that launchd.plist(5) describes, by the shape that they require.
+const KEYS: [(&str, Shape); 11] = [
+    (
+        "AbandonProcessGroup Debug Disabled EnableGlobbing EnablePressuredExit \
+         EnableTransactions HopefullyExitsFirst HopefullyExitsLast InitGroups \
+         LaunchOnlyOnce LowPriorityBackgroundIO LowPriorityIO OnDemand RunAtLoad \
+         ServiceIPC SessionCreate StartOnMount WaitForDebugger",
+        Shape::Boolean,
+    ),
+    (
+        "EnvironmentVariables HardResourceLimits LaunchEvents MachServices Sockets \
+         SoftResourceLimits",
+        Shape::Dictionary,
+    ),
+    (
+        "ExitTimeOut Nice StartInterval ThrottleInterval TimeOut",
+        Shape::Integer,
+    ),
+    ("GroupName Label ProcessType UserName", Shape::Text),
     ("KeepAlive", Shape::BooleanOrDictionary),
-    ("Label", Shape::Text),
-    ("LaunchEvents", Shape::Dictionary),
-    ("LaunchOnlyOnce", Shape::Boolean),
-    ("LimitLoadFromHosts", Shape::Texts),
-    ("LimitLoadToHosts", Shape::Texts),
+    (
+        "LimitLoadFromHosts LimitLoadToHosts ProgramArguments",
+        Shape::Texts,
+    ),
     ("LimitLoadToSessionType", Shape::TextOrTexts),
-    ("LowPriorityBackgroundIO", Shape::Boolean),
-    ("LowPriorityIO", Shape::Boolean),
-    ("MachServices", Shape::Dictionary),
-    ("Nice", Shape::Integer),
-    ("OnDemand", Shape::Boolean),
-    ("ProcessType", Shape::Text),
-    ("Program", Shape::Path),
-    ("ProgramArguments", Shape::Texts),
-    ("QueueDirectories", Shape::Paths),
-    ("RootDirectory", Shape::Path),
-    ("RunAtLoad", Shape::Boolean),
-    ("ServiceIPC", Shape::Boolean),
-    ("SessionCreate", Shape::Boolean),
-    ("Sockets", Shape::Dictionary),
-    ("SoftResourceLimits", Shape::Dictionary),
-    ("StandardErrorPath", Shape::Path),
-    ("StandardInPath", Shape::Path),
-    ("StandardOutPath", Shape::Path),
+    (
+        "Program RootDirectory StandardErrorPath StandardInPath StandardOutPath \
+         WorkingDirectory",
+        Shape::Path,
+    ),
+    ("QueueDirectories WatchPaths", Shape::Paths),
     ("StartCalendarInterval", Shape::DictionaryOrArray),
-    ("StartInterval", Shape::Integer),
-    ("StartOnMount", Shape::Boolean),
-    ("ThrottleInterval", Shape::Integer),
-    ("TimeOut", Shape::Integer),
     ("Umask", Shape::IntegerOrText),
-    ("UserName", Shape::Text),
-    ("WaitForDebugger", Shape::Boolean),
-    ("WatchPaths", Shape::Paths),
-    ("WorkingDirectory", Shape::Path),
 ];
 
 // The deprecated keys, and what to use instead.
@@ -118,10 +101,20 @@ const DEPRECATED: [(&str, &str); 4] = [
     ("ServiceIPC", "remove it"),
 ];
 
+// Returns whether one of the words of a text, separated by blanks, is this one.
+fn has_word(text: &str, word: &str) -> bool {
+    for other in text.split(' ') {
+        if other == word {
+            return true;
+        }
+    }
+    false
+}
+
 /// Returns the shape that a key requires, or `None` if the key is unknown.
 pub fn shape_of(key: &str) -> Option<Shape> {
-    for (name, shape) in KEYS {
-        if name == key {
+    for (names, shape) in KEYS {
+        if has_word(names, key) {
             return Some(shape);
         }
     }

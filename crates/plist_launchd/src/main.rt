@@ -7,7 +7,7 @@
 mod findings;
 mod keys;
 
-use crate::findings::check;
+use crate::findings::{Finding, check};
 use plist::stream::Seeking;
 use plist::{Dictionary, Error, Limits, Value};
 use std::alloc::Global;
@@ -15,7 +15,7 @@ use std::env::Env;
 use std::io::Write;
 use std::process::ExitCode;
 use std::rt::Files;
-use std::{env, fs};
+use std::{env, fmt, fs};
 
 // No file may exceed these limits, which are larger than any job needs.
 const LIMITS: Limits = Limits {
@@ -27,7 +27,7 @@ const LIMITS: Limits = Limits {
 const BYTES: u64 = 1 << 20;
 
 /// The worst finding.
-#[derive(Clone, Copy, Debug, PartialEq, Eq, PartialOrd, Ord)]
+#[derive(Clone, Copy, PartialEq, Eq, PartialOrd, Ord)]
 enum Worst {
     Nothing,
     Warning,
@@ -58,8 +58,19 @@ fn check_job<W: Write>(
     path: &str,
     job: &Dictionary,
 ) -> Result<Worst, Error> {
+    let mut findings = Vec::new(alloc);
+    check(job, &mut findings)?;
+    print_findings(out, path, findings.as_slice())
+}
+
+// Prints findings, and returns the worst of them.
+fn print_findings<W: Write>(
+    out: &mut W,
+    path: &str,
+    findings: &[Finding<'_>],
+) -> Result<Worst, Error> {
     let mut worst = Worst::Nothing;
-    for finding in &check(alloc, job)? {
+    for finding in findings {
         writeln!(out, "{path}: {finding}")?;
         let this = if finding.is_error() {
             Worst::Error
@@ -71,6 +82,16 @@ fn check_job<W: Write>(
     Ok(worst)
 }
 
+// Prints an error about a file.
+fn print_error<W: Write, T: fmt::Display>(
+    out: &mut W,
+    path: &str,
+    text: &T,
+) -> Result<Worst, Error> {
+    writeln!(out, "{path}: error: {text}")?;
+    Ok(Worst::Error)
+}
+
 // Prints the findings for a file.
 fn check_file<R: Files, W: Write>(
     rt: &R,
@@ -78,16 +99,10 @@ fn check_file<R: Files, W: Write>(
     out: &mut W,
     path: &str,
 ) -> Result<Worst, Error> {
-    match read(rt, alloc, path) {
-        Ok(Value::Dictionary(job)) => check_job(alloc, out, path, &job),
-        Ok(_) => {
-            writeln!(out, "{path}: error: the job is not a dictionary")?;
-            Ok(Worst::Error)
-        }
-        Err(error) => {
-            writeln!(out, "{path}: error: {}", error.reason())?;
-            Ok(Worst::Error)
-        }
+    match &read(rt, alloc, path) {
+        Ok(Value::Dictionary(job)) => check_job(alloc, out, path, job),
+        Ok(_) => print_error(out, path, &"the job is not a dictionary"),
+        Err(error) => print_error(out, path, &error.reason()),
     }
 }
 
