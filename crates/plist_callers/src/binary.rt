@@ -15,7 +15,7 @@ pub fn count_objects(alloc: Global, bytes: &[u8]) -> (usize, usize)
 {
     let mut reader = BinaryReader::new(alloc, bytes);
     let before = reader.objects_in_file();
-    let _ = reader.next();
+    drop(reader.next());
     (before, reader.objects_in_file())
 }
 
@@ -53,11 +53,13 @@ pub fn reaches_a_limit<R: Source>(alloc: Global, source: R) -> bool
 {
     let mut reader = BinaryReader::new(alloc, source);
     drop(reader.next());
-    match reader.next() {
+    let is_limit = match reader.next() {
         Some(Err(error)) => matches!(error.kind(), ErrorKind::LimitReached(_)),
         Some(Ok(_event)) => false,
         None => false,
-    }
+    };
+    drop(reader);
+    is_limit
 }
 
 /// Calls a reader once, and returns how many objects it reports before and after a further call.
@@ -65,8 +67,8 @@ pub fn reaches_a_limit<R: Source>(alloc: Global, source: R) -> bool
 pub fn count_again<R: Source>(reader: &mut BinaryReader<R>) -> (usize, usize)
     ensures { result.0 ≡ result.1 }
 {
-    let _ = reader.next();
+    drop(reader.next());
     let before = reader.objects_in_file();
-    let _ = reader.next();
+    drop(reader.next());
     (before, reader.objects_in_file())
 }

@@ -71,11 +71,13 @@ pub fn reaches_a_limit<R: Source>(alloc: Global, source: R) -> bool
 {
     let mut reader = Reader::new(alloc, source);
     drop(reader.next());
-    match reader.next() {
+    let is_limit = match reader.next() {
         Some(Err(error)) => matches!(error.kind(), ErrorKind::LimitReached(_)),
         Some(Ok(_event)) => false,
         None => false,
-    }
+    };
+    drop(reader);
+    is_limit
 }
 
 /// Determines the format of a source, and returns whether that fails because the source ends too

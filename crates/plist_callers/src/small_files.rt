@@ -1,5 +1,6 @@
 //! Proved callers of a reader over small files. Each has the name of a bug, and shows that the
-//! reader doesn't have it.
+//! reader doesn't have it. The items and the reader are dropped by calls of `drop`, since a value
+//! that goes out of scope makes the proof longer.
 
 ghost use Rattle.std.specs.Prelude.{◌≡◌, IfSome, false, negsuc};
 ghost use Rattle.plist_base.specs.Events.{ScalarEvent, event_of};
@@ -18,10 +19,11 @@ pub fn root_is_the_first_object(alloc: Global, bytes: &[u8]) -> bool
     ensures { result ≡ false }
 {
     let mut reader = BinaryReader::new(alloc, bytes);
-    match reader.next() {
-        Some(Ok(Event::Boolean(_))) => true,
-        _ => false,
-    }
+    let item = reader.next();
+    drop(reader);
+    let is_boolean = matches!(&item, Some(Ok(Event::Boolean(_))));
+    drop(item);
+    is_boolean
 }
 
 /// Reads a file with offsets of five bytes. Returns whether the reader yields an event of it.
@@ -31,10 +33,11 @@ pub fn takes_five_byte_offsets(alloc: Global, bytes: &[u8]) -> bool
     ensures { result ≡ false }
 {
     let mut reader = BinaryReader::new(alloc, bytes);
-    match reader.next() {
-        Some(Ok(_event)) => true,
-        _ => false,
-    }
+    let item = reader.next();
+    drop(reader);
+    let is_event = matches!(&item, Some(Ok(_)));
+    drop(item);
+    is_event
 }
 
 // Returns the integer that an event is, or `None` for any other event.
@@ -69,7 +72,9 @@ pub fn fault_at_the_child(alloc: Global, bytes: &[u8]) -> bool
 {
     let mut reader = BinaryReader::new(alloc, bytes);
     drop(reader.next());
-    match reader.next() {
+    let item = reader.next();
+    drop(reader);
+    match item {
         Some(Err(error)) => match error.kind() {
             ErrorKind::ObjectReferenceTooLarge => error.offset() != Some(8),
             _ => false,
@@ -87,7 +92,11 @@ pub fn values_before_keys(alloc: Global, bytes: &[u8]) -> bool
 {
     let mut reader = BinaryReader::new(alloc, bytes);
     drop(reader.next());
-    matches!(reader.next(), Some(Ok(Event::Integer(_))))
+    let item = reader.next();
+    drop(reader);
+    let is_integer = matches!(&item, Some(Ok(Event::Integer(_))));
+    drop(item);
+    is_integer
 }
 
 /// Reads a file with an array in an array. Returns whether the child of the inner array is read by
@@ -100,7 +109,9 @@ pub fn keeps_other_references(alloc: Global, bytes: &[u8]) -> bool
     let mut reader = BinaryReader::new(alloc, bytes);
     drop(reader.next());
     drop(reader.next());
-    match reader.next() {
+    let item = reader.next();
+    drop(reader);
+    match item {
         Some(Err(error)) => matches!(error.kind(), ErrorKind::RecursiveObject),
         Some(Ok(_event)) => false,
         None => false,
@@ -116,7 +127,9 @@ pub fn end_wants_memory(alloc: Global, bytes: &[u8]) -> bool
 {
     let mut reader = BinaryReader::new(alloc, bytes);
     drop(reader.next());
-    match reader.next() {
+    let item = reader.next();
+    drop(reader);
+    match item {
         Some(Err(error)) => matches!(error.kind(), ErrorKind::OutOfMemory),
         Some(Ok(_event)) => false,
         None => false,
@@ -130,8 +143,9 @@ pub fn widens_reals(alloc: Global, bytes: &[u8]) -> bool
     ensures { result ≡ false }
 {
     let mut reader = BinaryReader::new(alloc, bytes);
-    match reader.next() {
-        Some(Ok(Event::Real(RealBits::Eight(_)))) => true,
-        _ => false,
-    }
+    let item = reader.next();
+    drop(reader);
+    let is_eight_bytes = matches!(&item, Some(Ok(Event::Real(RealBits::Eight(_)))));
+    drop(item);
+    is_eight_bytes
 }
