@@ -7,6 +7,7 @@ use plist_base::{Error, Event, Uid, Writer};
 use plist_keyed::{Archive, KeyedError};
 use std::alloc::Global;
 use std::borrow::CowStr;
+use std::fmt;
 use std::io::Write;
 
 // Returns the event at this index, of an archive whose objects are `$null`, a dictionary of two
@@ -78,11 +79,21 @@ fn print_tree<W: Write>(alloc: Global, out: &mut W, tree: &Value) -> Result<(), 
     print_items(out, "archive", plist::Reader::new(alloc, file))
 }
 
+// Prints why there is no tree.
+fn print_reason<W: Write, T: fmt::Display>(out: &mut W, reason: &T) -> Result<(), Error> {
+    Ok(writeln!(out, "archive: {reason}")?)
+}
+
+// Prints the tree of an archive's root, or the error.
+fn print_root<W: Write>(alloc: Global, out: &mut W, root: &Value) -> Result<(), Error> {
+    match root_of(alloc, root) {
+        Ok(Some(tree)) => print_tree(alloc, out, &tree),
+        Ok(None) => print_reason(out, &"no root"),
+        Err(error) => print_reason(out, &error),
+    }
+}
+
 pub fn print<W: Write>(alloc: Global, out: &mut W) -> Result<(), Error> {
     let root = example(alloc)?;
-    match &root_of(alloc, &root) {
-        Ok(Some(tree)) => print_tree(alloc, out, tree),
-        Ok(None) => Ok(writeln!(out, "archive: no root")?),
-        Err(error) => Ok(writeln!(out, "archive: {error}")?),
-    }
+    print_root(alloc, out, &root)
 }

@@ -77,8 +77,12 @@ pub fn print_items<W: Write, I: Iterator<Item = Result<OwnedEvent, Error>> + Dro
     write!(out, "{name}:")?;
     for _ in 0..20 {
         let item: Option<Result<OwnedEvent, Error>> = items.next();
-        match &item {
-            Some(item) => print_item(out, item)?,
+        match item {
+            Some(item) => {
+                let printed = print_item(out, &item);
+                drop(item);
+                printed?;
+            }
             None => break,
         }
     }

@@ -35,7 +35,7 @@ fn print_equality<R: Files, W: Write>(
 
 // Prints the error for a missing file.
 fn print_missing<R: Files, W: Write>(rt: &R, alloc: Global, out: &mut W) -> Result<(), Error> {
-    match &loaded(rt, alloc, "missing.plist") {
+    match loaded(rt, alloc, "missing.plist") {
         Ok(_value) => Ok(()),
         Err(error) => Ok(writeln!(out, "missing: {error}")?),
     }

@@ -86,14 +86,19 @@ fn print_limited<W: Write>(alloc: Global, out: &mut W) -> Result<(), Error> {
     print_within(alloc, out, "2 2", Limits { depth: 2, items: 2 })
 }
 
+// Prints the items of a text in both dialects.
+fn print_text<W: Write>(alloc: Global, out: &mut W, text: &str) -> Result<(), Error> {
+    print_items(out, "lax", AsciiReader::new(alloc, text.as_bytes()))?;
+    let tight = AsciiReader::with_dialect(alloc, text.as_bytes(), Dialect::Tight);
+    print_items(out, "tight", tight)
+}
+
 pub fn print<W: Write>(alloc: Global, out: &mut W) -> Result<(), Error> {
     print_items(out, "shared", BinaryReader::new(alloc, SHARED))?;
     print_items(out, "recursive", BinaryReader::new(alloc, RECURSIVE))?;
     print_limited(alloc, out)?;
     for text in TEXTS {
-        print_items(out, "lax", AsciiReader::new(alloc, text.as_bytes()))?;
-        let tight = AsciiReader::with_dialect(alloc, text.as_bytes(), Dialect::Tight);
-        print_items(out, "tight", tight)?;
+        print_text(alloc, out, text)?;
     }
     for input in INPUTS {
         print_items(out, "either", Reader::new(alloc, input.as_bytes()))?;

@@ -179,11 +179,17 @@ fn print_integers<W: Write>(out: &mut W) -> Result<(), Error> {
 fn print_dates<W: Write>(alloc: Global, out: &mut W) -> Result<(), Error> {
     for text in DATES {
         write!(out, "date {text}")?;
-        print_answer(out, &date_again(alloc, text))?;
+        let answer = date_again(alloc, text);
+        let printed = print_answer(out, &answer);
+        drop(answer);
+        printed?;
     }
     for bytes in REALS {
         write!(out, "date of bytes")?;
-        print_answer(out, &date_of_bytes(alloc, bytes))?;
+        let answer = date_of_bytes(alloc, bytes);
+        let printed = print_answer(out, &answer);
+        drop(answer);
+        printed?;
     }
     Ok(())
 }
