@@ -30,7 +30,8 @@ pub fn count_without_root(alloc: Global, bytes: &[u8]) -> Option<usize>
             ErrorKind::ObjectReferenceTooLarge => Some(reader.objects_in_file()),
             _ => None,
         },
-        _ => None,
+        Some(Ok(_event)) => None,
+        None => None,
     }
 }
 
@@ -41,8 +42,9 @@ pub fn next_after_a_fault<R: Source>(
     ensures { result ≡ None }
 {
     match reader.next() {
-        Some(Err(_)) => reader.next(),
-        _ => None,
+        Some(Err(_error)) => reader.next(),
+        Some(Ok(_event)) => None,
+        None => None,
     }
 }
 

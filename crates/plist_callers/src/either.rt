@@ -32,7 +32,8 @@ pub fn has_its_place<R: Source>(reader: &mut Reader<R>) -> bool
 {
     match reader.next() {
         Some(Err(error)) => !error.is_io() || error.offset().is_some(),
-        _ => true,
+        Some(Ok(_event)) => true,
+        None => true,
     }
 }
 
@@ -46,7 +47,8 @@ pub fn comes_after_refusal<R: Source>(reader: &mut Reader<R>) -> bool
             ErrorKind::XmlUnsupported | ErrorKind::RecursiveObject => reader.next().is_some(),
             _ => false,
         },
-        _ => false,
+        Some(Ok(_event)) => false,
+        None => false,
     }
 }
 
@@ -61,7 +63,8 @@ pub fn fails_as_a_writer<R: Source>(reader: &mut Reader<R>) -> bool
                 ErrorKind::WriterFailed | ErrorKind::PlistTooLarge
             )
         }
-        _ => false,
+        Some(Ok(_event)) => false,
+        None => false,
     }
 }
 
