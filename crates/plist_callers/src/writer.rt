@@ -28,9 +28,7 @@ pub fn begin_with<W: Write + Drop>(alloc: Global, inner: W, event: Event<'_>) ->
     ensures { IfErr result (λ error. MatchKind (kind_of (error_kind_of error)) ⊤ ⊤ ⊥) }
 {
     let mut writer = BinaryWriter::new(alloc, inner);
-    let answer = writer.write(event);
-    drop(writer);
-    answer
+    writer.write(event)
 }
 
 /// If memory runs out for an event, returns the result of a further call, and the inner writer. The
