@@ -40,7 +40,10 @@ fn count_events<R: Files>(reader: &mut Reader<Seeking<R::File>>) -> Result<u64, 
 // Counts the events of the settings file.
 fn count_of<R: Files + AllocGlobal>(rt: &R, alloc: Global) -> Result<u64, Error> {
     let file = fs::open(rt, FILE)?;
-    count_events::<R>(&mut Reader::new(alloc, Seeking::with_windows(alloc, file)))
+    let mut reader = Reader::new(alloc, Seeking::with_windows(alloc, file));
+    let count = count_events::<R>(&mut reader);
+    drop(reader);
+    count
 }
 
 // Writes the settings to memory, and returns the length of the file.
