@@ -1,6 +1,6 @@
 //! Proved callers of a reader over small files. Each has the name of a bug, and shows that the
-//! reader doesn't have it. The items and the reader are dropped by calls of `drop`, since a value
-//! that goes out of scope makes the proof longer.
+//! reader doesn't have it. The items and the reader are dropped by calls of `drop`, since dropping
+//! a value at the end of its scope makes the proof longer.
 
 ghost use Rattle.std.specs.Prelude.{◌≡◌, IfSome, false, negsuc};
 ghost use Rattle.plist_base.specs.Events.{ScalarEvent, event_of};
