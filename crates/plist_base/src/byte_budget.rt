@@ -1,6 +1,6 @@
 //! A budget for the bytes of strings and data.
 
-ghost use Rattle.std.specs.Prelude.{◌≡◌, OnOk};
+ghost use Rattle.std.specs.Prelude.{◌≡◌, OnErr, OnOk};
 ghost use Rattle.plist_base.specs.Events.{event_of};
 ghost use Rattle.plist_base.specs.Outcomes.{IfFault};
 ghost use Rattle.plist_base.specs.Budgets.{AdmitsWithin, RefusesWithin, within_budget, within_bytes};
@@ -41,6 +41,7 @@ impl Allowance for ByteBudget {
     fn admit(&mut self, event: &Event<'_>) -> Result<(), Error>
         ensures admitted { OnOk result (AdmitsWithin self.old (event_of event.now) self.new) }
         ensures refused { IfFault result (RefusesWithin self.old (event_of event.now)) }
+        ensures unchanged { OnErr result (self.new ≡ self.old) }
     {
         match self.left.checked_sub(event.text_or_data().len() as u64) {
             Some(left) => {

@@ -66,7 +66,7 @@ impl Data {
         ensures no_data { IfErr result (λ error. IsNoData text.now error) }
         ensures spelled { (bytes : List ℕ) → IsBytes bytes → IsReadWhereSpelled text.now bytes }
     {
-        let symbols = dark_bytes(alloc, text)?;
+        let symbols = without_white_space(alloc, text)?;
         let bytes = decoded(alloc, &symbols)?;
         Ok(Data::new(bytes))
     }
@@ -127,8 +127,8 @@ impl Data {
 
 // Returns the bytes of a string without its ASCII white space.
 #[tactic(auto, using(crate::proofs::DataLines::spelled))]
-fn dark_bytes(alloc: Global, text: &str) -> Result<Vec<u8>, AllocError>
-    ensures bytes { IfOk result (λ dark. dark.items ≡ without_white text.now) }
+fn without_white_space(alloc: Global, text: &str) -> Result<Vec<u8>, AllocError>
+    ensures bytes { IfOk result (λ bytes. bytes.items ≡ without_white text.now) }
     ensures spelled { (bytes : List ℕ) → IsBytes bytes → IsReadWhereSpelled text.now bytes }
 {
     let mut bytes = Vec::new(alloc);

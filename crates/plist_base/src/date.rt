@@ -113,10 +113,7 @@ impl Date {
         ensures in_range { IsSecondOfDate result }
         ensures date { IsDate self.now }
     {
-        match second_of_bits(u64::from_be_bytes(self.bytes)) {
-            Some(second) => second,
-            None => unreachable!(),
-        }
+        second_of_bits(u64::from_be_bytes(self.bytes)).unwrap()
     }
 
     /// Returns this date in Unix seconds, rounded down.
@@ -203,7 +200,7 @@ impl RealParts {
 
     // Returns whether the absolute value has a fraction.
     #[tactic(auto, using(crate::proofs::DateShifts::left_parts))]
-    fn is_left(self) -> bool
+    fn has_fraction(self) -> bool
         ensures { result ≡ not (parts_left self.mantissa self.scale == 0) }
     {
         let shift = 1075 - self.scale;
@@ -223,23 +220,25 @@ fn is_fractional(bits: u64) -> bool
 {
     match RealParts::from_bits(bits) {
         None => false,
-        Some(parts) => parts.is_left(),
+        Some(parts) => parts.has_fraction(),
     }
 }
 
 // Rounds a value down, given its sign, its whole seconds, and whether it has a fraction as well.
-fn round_down(negative: bool, whole: u64, is_left: bool) -> i64
+fn round_down(negative: bool, whole: u64, has_fraction: bool) -> i64
     requires { whole < 2 ^ 52 }
-    ensures { (left : ℕ) → is_left ≡ not (left == 0) → result ≡ rounded_down negative whole left }
+    ensures { (left : ℕ) → has_fraction ≡ not (left == 0)
+        → result ≡ rounded_down negative whole left }
 {
     if !negative {
         return whole as i64;
     }
-    let up = if is_left { whole + 1 } else { whole };
+    let up = if has_fraction { whole + 1 } else { whole };
     -(up as i64)
 }
 
-fn in_range(second: i64) -> Option<i64>
+// Returns the second, or `None` if it is outside the range of dates.
+fn checked_second(second: i64) -> Option<i64>
     ensures { result ≡ if_second_of_date second }
 {
     if (-378_683_424_000..=252_423_993_599).contains(&second) {
@@ -255,7 +254,11 @@ fn second_of_bits(bits: u64) -> Option<i64>
     ensures { result ≡ second_of_bits bits }
 {
     let parts = RealParts::from_bits(bits)?;
-    in_range(round_down(bits >= 1 << 63, parts.whole(), parts.is_left()))
+    checked_second(round_down(
+        bits >= 1 << 63,
+        parts.whole(),
+        parts.has_fraction(),
+    ))
 }
 
 #[tactic(auto, using(crate::proofs::DateEncoding::encoded, crate::proofs::DateEncoding::sum_is))]
@@ -277,7 +280,7 @@ fn bits_of_second(second: i64) -> Option<u64>
     ensures back { IfSome result (IsWholeAt second) }
     ensures exact { IfSome result (λ bits. real_parts bits ≡ (second *ℤ pos parts_in_second)) }
 {
-    in_range(second)?;
+    checked_second(second)?;
     let bits = bits_of_whole(second.unsigned_abs());
     Some(if second < 0 { (1 << 63) + bits } else { bits })
 }

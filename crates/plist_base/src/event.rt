@@ -140,9 +140,10 @@ impl<'a> Event<'a> {
     ///
     /// # Errors
     ///
-    /// `OutOfMemory`, without an offset, if the copy can't be allocated.
+    /// `OutOfMemory`, without an offset, if the copy of a string or of data can't be allocated.
     pub fn clone(&self, alloc: Global) -> Result<OwnedEvent, Error>
         ensures event { IfOk result (λ copy. event_of copy ≡ event_of self.now) }
+        ensures copied { IfErr result (λ _. IsTextOrDataEvent (event_of self.now)) }
         ensures memory { OnlyMemory result }
     {
         self.as_borrowed().into_owned(alloc)

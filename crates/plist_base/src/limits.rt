@@ -1,6 +1,6 @@
 //! Limits on how much of a property list is read.
 
-ghost use Rattle.std.specs.Prelude.{◌≡◌, IfOk, IfErr, OnOk};
+ghost use Rattle.std.specs.Prelude.{◌≡◌, IfOk, IfErr, OnErr, OnOk};
 ghost use Rattle.plist_base.specs.Events.{event_of};
 ghost use Rattle.plist_base.specs.Outcomes.{IfFault};
 ghost use Rattle.plist_base.specs.Faults.{limit_name};
@@ -87,6 +87,7 @@ impl LimitCounter {
     fn count(&mut self, event: &Event<'_>) -> Result<(), Limit>
         ensures admitted { OnOk result (Admits self.old (event_of event.now) self.new) }
         ensures refused { IfErr result (RefusesBy self.old (event_of event.now)) }
+        ensures unchanged { OnErr result (self.new ≡ self.old) }
     {
         if self.admitted >= self.limits.items {
             return Err(Limit::Items);
@@ -113,6 +114,7 @@ impl Allowance for LimitCounter {
     fn admit(&mut self, event: &Event<'_>) -> Result<(), Error>
         ensures admitted { OnOk result (Admits self.old (event_of event.now) self.new) }
         ensures refused { IfFault result (Refuses self.old (event_of event.now)) }
+        ensures unchanged { OnErr result (self.new ≡ self.old) }
     {
         match self.count(event) {
             Ok(()) => Ok(()),

@@ -100,6 +100,7 @@ impl<R: Read + Seek> Seeking<R> {
         Ok(copy_at(self.windows.buffered(place), 0, buf))
     }
 
+    // Reads from this offset on with one seek and one read, without a window.
     fn read_past_windows(&mut self, place: u64, buf: &mut [u8]) -> Result<usize, io::Error>
         ensures bound { IfOk result (λ count. count ≤ length buf.new) }
         ensures failures { failures_of self.new ≡ failures_of self.old }
@@ -108,6 +109,7 @@ impl<R: Read + Seek> Seeking<R> {
         self.inner.read(buf)
     }
 
+    // Reads through a window if the buffer is shorter than one, and otherwise directly.
     fn read_there(&mut self, place: u64, buf: &mut [u8]) -> Result<usize, io::Error>
         ensures bound { IfOk result (λ count. count ≤ length buf.new) }
         ensures failures { failures_of self.new ≡ failures_of self.old }

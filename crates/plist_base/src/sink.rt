@@ -122,7 +122,8 @@ impl<'s, W: Write> Sink<'s, W> {
         Ok(())
     }
 
-    /// Makes room for `size` more bytes, by writing the pending bytes if there isn't enough.
+    /// Makes room for `size` more bytes, by writing the pending bytes if there isn't enough. `size`
+    /// may be at most [`SINK_CAPACITY`](crate::SINK_CAPACITY).
     #[inline(always)]
     pub fn make_room(&mut self, size: usize) -> Result<(), Error>
         requires { size ≤ sink_capacity }
@@ -205,6 +206,7 @@ impl<'s, W: Write> Sink<'s, W> {
         ensures fault { OnlyDevice result }
         ensures prefix { AppendsPrefix (written W.contents self.old) (written W.contents self.new)
             (pending self.old) }
+        ensures kept { pending self.new ≡ pending self.old }
         ensures same { IsSameSink self.old self.new }
     {
         send_and_flush(self.writer, self.buffer.as_slice())

@@ -25,7 +25,8 @@ pub(crate) struct Header {
     turn: bool,
 }
 
-/// A window that was never filled.
+/// A window that was never filled. No window begins at `u64::MAX`, since each begins at a multiple
+/// of its size.
 pub(crate) const UNFILLED: Header = Header {
     start: u64::MAX,
     filled: 0,

@@ -145,10 +145,7 @@ impl Windows {
                 headers: [UNFILLED; INITIAL_WINDOWS],
                 bytes: [0; INITIAL_WINDOWS * (SHORT_WINDOW + OVERLAP)],
             },
-            long: match alloc {
-                Some(alloc) => Some(LongWindows::new(alloc)),
-                None => None,
-            },
+            long: alloc.map(LongWindows::new),
         }
     }
 

@@ -2,7 +2,7 @@ use Rattle.std.proofs.Common.{rules, ap, ◌≡◌, ◌∙◌}
 use Rattle.std.proofs.lemmas.Fn.{filter_same}
 use Rattle.plist_base.proofs.DataLines.{is_dark}
 use Rattle.plist_base.specs.DataText.{without_white}
-use Rattle.plist_base.proofs.data.dark_bytes.Goals as goal
+use Rattle.plist_base.proofs.data.without_white_space.Goals as goal
 
 pub returns-clause-bytes : goal.returns-clause-bytes
 returns-clause-bytes c =
