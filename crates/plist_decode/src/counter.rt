@@ -47,7 +47,8 @@ impl<L: Ledger> Model for CountedDecodings<L> {
 }
 
 impl<L: Ledger> CountedDecodings<L> {
-    /// Creates a counter whose count is 0.
+    /// Creates a counter whose count is 0. `blank` must have the name and the number of parts of
+    /// `L`, of which there must be at least one.
     pub fn new(blank: Blank) -> Self
         requires name { blank.name ≡ L.name }
         requires parts { blank.parts ≡ L.parts }

@@ -4,13 +4,12 @@ ghost use Rattle.std.specs.Prelude.{◌≡◌, ◌+◌, ◌-◌, ◌<◌, nat_eq
 ghost use Rattle.std.specs.List.{starts_with};
 ghost use Rattle.plist_base.specs.Faults.{IsIo, Io, fault_at, kind_of, error_kind_of, offset_of};
 ghost use Rattle.plist_base.specs.Outcomes.{OnlyFault, DecodesBy};
-ghost use Rattle.plist_base.specs.Sources.{CountsFailure, ResultCountsIo};
+ghost use Rattle.plist_base.specs.Sources.{ResultCountsIo};
 ghost use Rattle.plist_decode.specs.FaultOffsets.{HasOffset};
 ghost use Rattle.plist_decode.specs.Formats.{is_white, byte_order_mark_length, input_front, xml_place, format_of};
 
 use crate::trailer::MAGIC;
 use plist_base::{Error, ErrorKind, Source, read_exact_at};
-use std::io;
 
 const MARK: &[u8; 3] = b"\xef\xbb\xbf";
 
@@ -64,20 +63,6 @@ fn byte_order_mark_length<S: Source>(source: &mut S) -> Result<u64, Error>
     Ok(if marked { 3 } else { 0 })
 }
 
-// Reads the byte at an offset, or returns `None` if the source ends before it.
-fn read_byte<S: Source>(source: &mut S, place: u64) -> Result<Option<u8>, io::Error>
-    ensures byte { DecodesBy result (S.known source.old) (λ bytes. slice_get bytes place) }
-    ensures unchanged { S.known source.new ≡ S.known source.old }
-    ensures failures { CountsFailure result (S.failures source.old) (S.failures source.new) }
-{
-    let mut buffer = [0u8; 1];
-    let count = source.read_at(place, &mut buffer)?;
-    if count == 0 {
-        return Ok(None);
-    }
-    Ok(Some(buffer[0]))
-}
-
 // Reads the byte at an offset, or returns `None` if the source ends before it. An I/O error has the
 // offset.
 fn byte_at<S: Source>(source: &mut S, place: u64) -> Result<Option<u8>, Error>
@@ -86,8 +71,10 @@ fn byte_at<S: Source>(source: &mut S, place: u64) -> Result<Option<u8>, Error>
     ensures unchanged { S.known source.new ≡ S.known source.old }
     ensures failures { ResultCountsIo result (S.failures source.old) (S.failures source.new) }
 {
-    match read_byte(source, place) {
-        Ok(byte) => Ok(byte),
+    let mut buffer = [0u8; 1];
+    match source.read_at(place, &mut buffer) {
+        Ok(0) => Ok(None),
+        Ok(_) => Ok(Some(buffer[0])),
         Err(failure) => Err(ErrorKind::Io(failure).with_byte_offset(place)),
     }
 }

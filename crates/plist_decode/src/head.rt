@@ -74,6 +74,14 @@ impl Head {
     ghost use Rattle.plist_decode.specs.inner.Heads.{IsHeadOf, LiesWithin, IsFaultOfHead, IsHeadBefore, IsFaultBefore};
 
     /// Reads the head of a file.
+    ///
+    /// # Errors
+    ///
+    /// - `UnexpectedEof`, `InvalidMagic`, `InvalidTrailerObjectOffsetSize`,
+    ///   `InvalidTrailerObjectReferenceSize` or `ObjectOffsetTooLarge`, with an offset, if the head
+    ///   is invalid or the source ends early.
+    /// - `Io`, with an offset, if a call of the source fails.
+    /// - `OutOfMemory`, without an offset, if the offsets of the objects can't be allocated.
     pub fn read<S: Source>(alloc: Global, source: &mut S) -> Result<Self, Error>
         // Result.
         ensures value { IfRead result (S.known source.old) IsHeadOf }

@@ -65,8 +65,13 @@ fn units_in(alloc: Global, bytes: &[u8]) -> Result<Vec<u16>, Error>
     Ok(units)
 }
 
-/// Returns the UTF-16 string in these bytes, or an error with the object's offset if it is invalid.
-/// In UTF-8 the string has more than eight bytes.
+/// Returns the UTF-16 string in these bytes.
+///
+/// # Errors
+///
+/// - `InvalidUtf16String`, with the object's offset, if a surrogate is unpaired.
+/// - `OutOfMemory`, without an offset, if an allocation fails, or if the string has at most eight
+///   bytes in UTF-8: it is a small object then, which is decoded elsewhere.
 pub fn wide_text_event(alloc: Global, bytes: &[u8], place: u64) -> Result<OwnedEvent, Error>
     requires { AreUnits 2 bytes.now }
     ensures decoded { Decodes (wide_text bytes.now) place result }
@@ -106,6 +111,14 @@ fn content_event(
 }
 
 /// Reads the content of the object at this offset, which is a string or data that isn't small.
+///
+/// # Errors
+///
+/// - `InvalidUtf8String` or `InvalidUtf16String`, with the object's offset, if the string is
+///   invalid.
+/// - `Io` if a read fails, and `UnexpectedEof` if the source ends before the content does. Both have
+///   the offset of the read that failed or returned no byte.
+/// - `OutOfMemory`, without an offset, if an allocation fails.
 pub fn read_long<S: Source>(
     alloc: Global,
     source: &mut S,

@@ -47,7 +47,12 @@ fn number_from_each(bytes: &[u8]) -> u64
     number
 }
 
-/// Reads the number in the `width` bytes at an offset.
+/// Reads the number in the `width` bytes, which are at most eight, at an offset.
+///
+/// # Errors
+///
+/// `Io` if a read fails, and `UnexpectedEof` if a read returns no byte. Both have the offset of that
+/// read.
 #[cold]
 #[inline(never)]
 pub fn read_number<S: Source>(source: &mut S, place: u64, width: usize) -> Result<u64, Error>
@@ -96,7 +101,14 @@ fn take_buffered<S: Source>(
     }
 }
 
-/// Reads `count` numbers, which lie one after the other from an offset on. Each has `width` bytes.
+/// Reads `count` numbers, which lie one after the other from an offset on. Each has `width` bytes,
+/// which are at most eight.
+///
+/// # Errors
+///
+/// - `Io` if a read fails, and `UnexpectedEof` if a read returns no byte. Both have the offset of
+///   that read.
+/// - `OutOfMemory`, without an offset, if an allocation fails.
 pub fn read_numbers<S: Source>(
     alloc: Global,
     source: &mut S,
@@ -126,6 +138,12 @@ pub fn read_numbers<S: Source>(
 }
 
 /// Reads `size` bytes from an offset on.
+///
+/// # Errors
+///
+/// - `Io` if a read fails, and `UnexpectedEof` if a read returns no byte. Both have the offset of
+///   that read.
+/// - `OutOfMemory`, without an offset, if an allocation fails.
 pub fn read_bytes<S: Source>(
     alloc: Global,
     source: &mut S,

@@ -31,7 +31,7 @@ impl ByteTest for Ascii {
 
 // Returns the string in these bytes, or `None` if they aren't UTF-8. They needn't be ASCII.
 #[inline(never)]
-fn wide_text_in(bytes: &[u8]) -> Option<&str>
+fn utf8_text_in(bytes: &[u8]) -> Option<&str>
     ensures { MatchOption result (IsUtf8 bytes.now → ⊥)
         (λ text. (text.now ≡ bytes.now) × IsUtf8 bytes.now) }
 {
@@ -52,7 +52,7 @@ pub fn short_text_in(bytes: &[u8; 8], size: usize) -> Option<&str>
     if Ascii::eight(u8x8::from_array(*bytes)) {
         return Some(unsafe { str::from_utf8_unchecked(text) });
     }
-    wide_text_in(text)
+    utf8_text_in(text)
 }
 
 /// Returns the string in these bytes, or `None` if they aren't UTF-8.
@@ -67,5 +67,5 @@ pub fn text_in(bytes: &[u8]) -> Option<&str>
     if all_pass::<Ascii>(bytes) {
         return Some(unsafe { str::from_utf8_unchecked(bytes) });
     }
-    wide_text_in(bytes)
+    utf8_text_in(bytes)
 }
