@@ -171,8 +171,8 @@ pub known_counted : (known : Option (List ℕ)) (head : code.Head)
 known_counted known head (Ok value) slot walk count read = IfSome_then known read (λ bytes is.
     count ∙ sym (ap (λ head. length (places_with head)) is))
 known_counted known head (Err refused) slot walk count read = IfSome_then known read (λ bytes is.
-    MatchFault-all (kind_of (error_kind_of slot.fault)) tt tt
-    (count ∙ sym (ap (λ head. length (places_with head)) is)))
+    let counted = count ∙ sym (ap (λ head. length (places_with head)) is) in
+    MatchFault-all (kind_of (error_kind_of slot.fault)) (inl counted) (inl counted) counted)
 
 -- if the head isn't read, the reader counts no objects
 pub known_uncounted : (known : Option (List ℕ)) (e : Error) (count : ℕ) → count ≡ 0
@@ -180,15 +180,16 @@ pub known_uncounted : (known : Option (List ℕ)) (e : Error) (count : ℕ) → 
     (head_of bytes ≡ Err (fault_of e)))
     → IfSome known (λ bytes. CountsObjects {A = Flow} bytes (Err e) count)
 known_uncounted known e count none refused = IfSome_then known refused (λ bytes.
-    MatchFault-weaker (kind_of (error_kind_of e)) (λ _. tt) (λ _. tt)
+    MatchFault-weaker (kind_of (error_kind_of e)) (λ _. inr none) (λ _. inr none)
     (λ is. none ∙ sym (ap (λ head. length (places_with head)) is)))
 
-pub known_hidden : (known : Option (List ℕ)) (e : Error) (count : ℕ)
+-- if no memory is left for the tags, the reader counts no objects
+pub known_hidden : (known : Option (List ℕ)) (e : Error) (count : ℕ) → count ≡ 0
     → fault_of e ≡ fault_without_offset OutOfMemory
     → IfSome known (λ bytes. CountsObjects {A = Flow} bytes (Err e) count)
-known_hidden known e count memory = IfSome-all known (λ bytes.
+known_hidden known e count none memory = IfSome-all known (λ bytes.
     MatchFault-at (kind_of (error_kind_of e)) OutOfMemory _ _ _ (ap (λ (f : Fault). f.kind) memory)
-    tt)
+    (inr none))
 
 pub known_few : (known : Option (List ℕ)) (tags : List ℕ) → length tags ≡ 0
     → IfSome known (λ bytes. length tags ≤ length (places_of bytes))

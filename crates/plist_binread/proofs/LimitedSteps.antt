@@ -115,6 +115,7 @@ module _ {R C : Type 0} {g : Ghosts R} {h : CounterGhosts C} (old mid new : Bina
               (unlimited_items bytes mid) item admits));
           failures = rw source w.failures;
           ended = w.ended;
+          unasked = λ e. source ∙ w.unasked e;
           ends = rw state w.ends;
           begun = rw state w.begun;
           faults = given_within (has_limits old) item 0 (2 ^ 64) w.faults;

@@ -1,5 +1,5 @@
 -- What is true of a reader after each call.
-use Rattle.std.proofs.Common.{◌≡◌, ℕ, ◌≤◌, arith, rules, Bool, true, false, List, [], ◌∷◌, length, Option, None, Some, Err, IfSome, MatchBool, MatchOption, refl, sym}
+use Rattle.std.proofs.Common.{◌≡◌, ℕ, ◌≤◌, arith, Bool, false, List, [], ◌∷◌, length, Option, None, Some, Err, IfSome, MatchBool, MatchOption, refl, sym}
 use Rattle.std.proofs.lemmas.List.{length-reverse}
 use Rattle.plist_base.specs.declared.source.Source.{Ghosts}
 use Rattle.plist_base.specs.declared.error.Error.{Error}

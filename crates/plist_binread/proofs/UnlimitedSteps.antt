@@ -1,5 +1,5 @@
 -- One step of a reader, without regard to limits.
-use Rattle.std.proofs.Common.{◌≡◌, ℕ, ◌^◌, ◌<◌, true, false, List, Option, None, Some, Result, Ok, Err, IfSome, refl, ap, sym, arith}
+use Rattle.std.proofs.Common.{◌≡◌, ℕ, ◌^◌, ◌<◌, true, false, List, Option, None, Some, Result, Ok, Err, IfSome, inl, refl, ap, sym, arith}
 use Rattle.std.specs.Option.{is_some}
 use Rattle.std.specs.Prelude.{OnOk}
 use Rattle.plist_base.specs.declared.error.Error.{Error}
@@ -48,7 +48,7 @@ pub tells_fault : (known : Option (List ℕ)) (error : Error) (count : ℕ)
     → IfSome known (λ bytes. count ≡ objects_in_head bytes)
     → IfSome known (λ bytes. CountsObjects {A = PlainEvent} bytes (Err error) count)
 tells_fault known error count same = IfSome_then known same (λ bytes same.
-    MatchFault-all (kind_of (error_kind_of error)) tt tt same)
+    MatchFault-all (kind_of (error_kind_of error)) (inl same) (inl same) same)
 
 -- ---- the whole step
 
@@ -73,6 +73,7 @@ module _ {R C : Type 0} {g : Ghosts R} {h : CounterGhosts C} (old new : BinaryRe
       items = simp (fresh, is) (IfSome_then (g.known old.source) yields.first (λ bytes first. (first, tt)));
       failures = failures;
       ended = λ e. absurd (cc);
+      unasked = λ e. absurd (cc);
       ends = tt;
       begun = ap is_fresh is;
       faults = tt;
@@ -94,6 +95,7 @@ module _ {R C : Type 0} {g : Ghosts R} {h : CounterGhosts C} (old new : BinaryRe
           (λ bytes. yields_error (λ event. event) true (items_of_file bytes) new.decoder.slot.fault));
       failures = failures;
       ended = λ e. absurd (cc);
+      unasked = λ e. absurd (cc);
       ends = is;
       begun = ap is_fresh is;
       faults = within;
@@ -127,6 +129,7 @@ module _ {R C : Type 0} {g : Ghosts R} {h : CounterGhosts C} (old new : BinaryRe
           (λ bytes nothing. (ap until_fault nothing.0, refl)));
       failures = failures;
       ended = λ e. refl;
+      unasked = λ e. absurd (cc);
       ends = is;
       begun = ap is_fresh is;
       faults = tt;
@@ -144,6 +147,7 @@ module _ {R C : Type 0} {g : Ghosts R} {h : CounterGhosts C} (old new : BinaryRe
       items = simp (walking, is) (IfSome_then (g.known old.source) yields (λ bytes next. (next, tt)));
       failures = failures;
       ended = λ e. absurd (cc);
+      unasked = λ e. absurd (cc);
       ends = tt;
       begun = ap is_fresh is;
       faults = tt;
@@ -163,6 +167,7 @@ module _ {R C : Type 0} {g : Ghosts R} {h : CounterGhosts C} (old new : BinaryRe
           (until_fault (remaining_in bytes old.decoder.bounds old.walk)) new.decoder.slot.fault));
       failures = failures;
       ended = λ e. absurd (cc);
+      unasked = λ e. absurd (cc);
       ends = is;
       begun = ap is_fresh is;
       faults = from_within _ 0 old.decoder.bounds.trailer 0 (2 ^ 64) within (omega arith)

@@ -118,6 +118,8 @@ module _ {R C : Type 0} {g : Ghosts R} {h : CounterGhosts C} (old : BinaryReader
         (λ bytes. GivesAs shown (is_new old) (coming bytes old) item (coming bytes new))
     pub failures : ItemCountsIo item (g.failures (binary_source old)) (g.failures (binary_source new))
     pub ended : HasEndedBinary old → item ≡ None
+    -- a reader that has ended doesn't call its source
+    pub unasked : HasEndedBinary old → binary_source new ≡ binary_source old
     -- the reader has ended if the item is an error or `None`
     pub ends : MatchOption item (HasEndedBinary new) (λ answer. OnErr answer (HasEndedBinary new))
     pub begun : is_new new ≡ false
@@ -131,7 +133,7 @@ module _ {R C : Type 0} {g : Ghosts R} {h : CounterGhosts C} (old : BinaryReader
         new.walk.tags.items)
     pub leaves : KeepsInvariant old new
     -- after an event, and after an error other than `Io` and `OutOfMemory`, the reader counts as many
-    -- objects as the head
+    -- objects as the head; after these two it counts as many, or none
     pub objects : IfSome (g.known (binary_source old))
         (λ bytes. IfSome item (λ answer. CountsObjects bytes answer (objects_in_file new)))
     -- whether there are limits never changes, nor does the number of objects after the first item

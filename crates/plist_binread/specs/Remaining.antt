@@ -1,5 +1,5 @@
 -- The items that remain in the middle of a walk. A list of frames has the innermost one first.
-use Rattle.std.specs.Prelude.{◌≡◌, ℕ, zero, suc, ◌+◌, ◌-◌, ◌*◌, ◌^◌, ◌<◌, ◌≤◌, Bool, true, false, if◌then◌else◌, List, [], ◌∷◌, ◌++◌, length, take, drop, slice_index, nat_eq, nat_lt, Result, Ok, Err, Option, None, Some, option_and_then, IsOkAnd, MatchBool, MatchResult, ⊤, IsSomeAnd}
+use Rattle.std.specs.Prelude.{◌≡◌, ◌⊎◌, ℕ, zero, suc, ◌+◌, ◌-◌, ◌*◌, ◌^◌, ◌<◌, ◌≤◌, Bool, true, false, if◌then◌else◌, List, [], ◌∷◌, ◌++◌, length, take, drop, slice_index, nat_eq, nat_lt, Result, Ok, Err, Option, None, Some, option_and_then, IsOkAnd, MatchBool, MatchResult, ⊤, IsSomeAnd}
 use Rattle.std.specs.List.{list_any, flat_map, IsDistinct, AllByRecursion, slice_get}
 use Rattle.std.specs.Option.{option_map_or}
 use Rattle.plist_base.specs.declared.error.Error.{Error}
@@ -80,10 +80,13 @@ places_of bytes = places_with (head_of bytes)
 abbrev pub objects_in_head : List ℕ → ℕ
 objects_in_head bytes = length (places_of bytes)
 
--- `found` is the number of objects in the file, unless a read or an allocation failed
+-- `found` is the number of objects in the file, or perhaps 0 after a failed read or allocation
 abbrev pub CountsObjects : {A : Type 0} → List ℕ → Result A Error → (found : ℕ) → Type 0
-CountsObjects bytes answer found = MatchResult answer (λ _. found ≡ objects_in_head bytes)
-    (λ error. MatchFault (kind_of (error_kind_of error)) ⊤ ⊤ (found ≡ objects_in_head bytes))
+CountsObjects bytes answer found =
+    let counted = found ≡ objects_in_head bytes in
+    let perhaps = counted ⊎ (found ≡ 0) in
+    MatchResult answer (λ _. counted)
+    (λ error. MatchFault (kind_of (error_kind_of error)) perhaps perhaps counted)
 
 -- the table of a file's objects, which end before the trailer
 abbrev pub entries_of : List ℕ → Bounds → List TableEntry

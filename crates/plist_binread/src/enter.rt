@@ -173,30 +173,29 @@ pub fn enter<S: Source, C: DecodeCounter, V: EventVisitor>(
     ensures unchanged { S.known source.new ≡ S.known source.old }
     ensures failures { SlotCountsIo S.failures result decoder.new.slot source.old source.new }
 {
-    match look_up(walk, &mut decoder.slot, reference.at, reference.number)? {
+    let place = match look_up(walk, &mut decoder.slot, reference.at, reference.number)? {
         Known::Small(kind, content) => {
             let mut relay = Relay::new(visitor);
-            Ok(hand_small(kind, content, &mut relay))
+            return Ok(hand_small(kind, content, &mut relay));
         }
-        Known::At(place) => {
-            let decoded = match buffered_front(source, &decoder.bounds, place) {
-                Some(seen) => {
-                    let decoded = decode_front(decoder, place, seen);
-                    if let Decoded::Long(kind, start, count) = decoded {
-                        let content = Content { kind, start, count };
-                        if content.lies_in(seen) {
-                            let bytes = content.bytes_in(seen);
-                            return hand_bytes(kind, bytes, place, &mut decoder.slot, visitor);
-                        }
-                    }
-                    decoded
+        Known::At(place) => place,
+    };
+    let decoded = match buffered_front(source, &decoder.bounds, place) {
+        Some(seen) => {
+            let decoded = decode_front(decoder, place, seen);
+            if let Decoded::Long(kind, start, count) = decoded {
+                let content = Content { kind, start, count };
+                if content.lies_in(seen) {
+                    let bytes = content.bytes_in(seen);
+                    return hand_bytes(kind, bytes, place, &mut decoder.slot, visitor);
                 }
-                None => read_object(source, decoder, place)?,
-            };
-            if cache_or_open(walk, reference.number, decoded) {
-                return hand_decoded(source, decoder, place, decoded, visitor);
             }
-            Err(decoder.slot.refuse_memory())
+            decoded
         }
+        None => read_object(source, decoder, place)?,
+    };
+    if cache_or_open(walk, reference.number, decoded) {
+        return hand_decoded(source, decoder, place, decoded, visitor);
     }
+    Err(decoder.slot.refuse_memory())
 }

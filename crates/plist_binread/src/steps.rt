@@ -24,7 +24,7 @@ use std::alloc::Global;
 use std::ops::ControlFlow;
 
 // Allocates a tag of zero for each object, since no object is cached or open at first.
-fn no_tags(alloc: Global, count: usize) -> Result<Vec<u8>, Error>
+fn zero_tags(alloc: Global, count: usize) -> Result<Vec<u8>, Error>
     ensures tags { IfOk result (λ tags. tags.items ≡ replicate count 0) }
     ensures memory { OnlyMemory result }
 {
@@ -61,7 +61,7 @@ pub fn begin<S: Source, C: DecodeCounter, V: EventVisitor>(
 {
     let alloc = decoder.slot.alloc;
     let head = decoder.slot.keep_error(Head::read(alloc, source))?;
-    let none = decoder.slot.keep_error(no_tags(alloc, head.places.len()))?;
+    let tags = decoder.slot.keep_error(zero_tags(alloc, head.places.len()))?;
     let Head {
         trailer,
         reference_width,
@@ -72,7 +72,7 @@ pub fn begin<S: Source, C: DecodeCounter, V: EventVisitor>(
         trailer,
         reference_width,
     };
-    walk.tags = none;
+    walk.tags = tags;
     walk.contents = places;
     let reference = Reference {
         at: trailer,

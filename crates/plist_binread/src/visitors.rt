@@ -4,7 +4,7 @@
 ghost use Rattle.std.specs.Prelude.{◌≡◌};
 
 use plist_base::{
-    Allowance, Error, Event, EventVisitor, Integer, LimitCounter, OwnedEvent, RealBits, Uid,
+    Allowance, Date, Error, Event, EventVisitor, Integer, LimitCounter, OwnedEvent, RealBits, Uid,
 };
 use std::alloc::Global;
 use std::borrow::{CowSlice, CowStr};
@@ -44,6 +44,21 @@ impl<'v, V: EventVisitor> EventVisitor for Relay<'v, V> {
     }
 
     #[inline(always)]
+    fn start_array(&mut self, length: Option<u64>) -> ControlFlow<()> {
+        self.visitor.start_array(length)
+    }
+
+    #[inline(always)]
+    fn start_dictionary(&mut self, length: Option<u64>) -> ControlFlow<()> {
+        self.visitor.start_dictionary(length)
+    }
+
+    #[inline(always)]
+    fn end_collection(&mut self) -> ControlFlow<()> {
+        self.visitor.end_collection()
+    }
+
+    #[inline(always)]
     fn boolean(&mut self, value: bool) -> ControlFlow<()> {
         self.visitor.boolean(value)
     }
@@ -51,6 +66,11 @@ impl<'v, V: EventVisitor> EventVisitor for Relay<'v, V> {
     #[inline(always)]
     fn data(&mut self, bytes: CowSlice<'_, u8>) -> ControlFlow<()> {
         self.visitor.data(bytes)
+    }
+
+    #[inline(always)]
+    fn date(&mut self, date: Date) -> ControlFlow<()> {
+        self.visitor.date(date)
     }
 
     #[inline(always)]

@@ -50,6 +50,7 @@ module _ {R : Type 0} {g : Ghosts R} where
     items = gives.items;
     failures = gives.failures;
     ended = λ over. absurd (none-some _ (sym (gives.ended over)));
+    unasked = gives.unasked;
     ends = gives.ends;
     begun = gives.begun;
     faults = gives.faults;
@@ -67,6 +68,7 @@ module _ {R : Type 0} {g : Ghosts R} where
     items = gives.items;
     failures = gives.failures;
     ended = λ over. absurd (none-some _ (sym (gives.ended over)));
+    unasked = gives.unasked;
     ends = gives.ends;
     begun = gives.begun;
     faults = gives.faults;
@@ -83,6 +85,7 @@ module _ {R : Type 0} {g : Ghosts R} where
     items = gives.items;
     failures = gives.failures;
     ended = λ over. refl;
+    unasked = gives.unasked;
     ends = gives.ends;
     begun = gives.begun;
     faults = gives.faults;

@@ -119,12 +119,12 @@ source_in state.Moved = None
 abbrev pub reader_source : {R : Type 0} {g : Ghosts R} → Reader R g → Option R
 reader_source reader = source_in reader.state
 
--- `next` hasn't been called, and the reader has this source, these limits and this dialect
+-- no item has been requested yet, and the reader has this source, these limits and this dialect
 abbrev pub IsUnread : {R : Type 0} {g : Ghosts R} → Reader R g → (source : R) → Option Limits
     → Dialect → Type 0
 IsUnread reader source limits dialect = reader.state ≡ state.Unread source limits dialect
 
--- `next` hasn't been called, and the reader has this source, no limits and the lax dialect
+-- no item has been requested yet, and the reader has this source, no limits and the lax dialect
 abbrev pub IsNewReader : {R : Type 0} {g : Ghosts R} → Reader R g → (source : R) → Type 0
 IsNewReader reader source = IsUnread reader source None Lax
 
@@ -235,7 +235,7 @@ steps_in_state (state.Ascii reader) = ascii.ascii_steps reader
 steps_in_state (state.Limited reader) = ascii.ascii_steps (iterator_of reader)
 steps_in_state other = 0
 
--- the fact is true if `next` hasn't been called
+-- the fact is true if no item has been requested yet
 abbrev pub IfUnread : {R : Type 0} {g : Ghosts R} → State R g → (fact : Type 0) → Type 0
 IfUnread (state.Unread source limits dialect) fact = fact
 IfUnread other fact = ⊤

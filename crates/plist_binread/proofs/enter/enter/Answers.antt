@@ -204,9 +204,9 @@ returns-then-cache_or_open-clause-known g c =
     (there g (goal.at.returns-then-cache_or_open-clause-known g c).After-cache_or_open)
     (c.cache_or_open.ensures.yields c.if-cache_or_open.true)
 
-pub returns-else-cache_or_open-clause-handed : goal.returns-else-cache_or_open-clause-handed
-returns-else-cache_or_open-clause-handed g c =
-    let f = fetched g (goal.at.returns-else-cache_or_open-clause-handed g c).After-cache_or_open in
+pub returns-clause-handed : goal.returns-clause-handed
+returns-clause-handed g c =
+    let f = fetched g (goal.at.returns-clause-handed g c).After-cache_or_open in
     record {
       event = EndCollection;
       is = (

@@ -11,7 +11,7 @@ use Rattle.plist_binread.proofs.Tags.{zeros_packed}
 use Rattle.plist_binread.proofs.VisitorLimits.{passed_on}
 use Rattle.plist_binread.specs.Remaining.{ArePacked}
 use Rattle.plist_binread.proofs.steps.begin.Goals as goal
-use Rattle.plist_binread.proofs.steps.begin.Goals.{In_ok-none}
+use Rattle.plist_binread.proofs.steps.begin.Goals.{In_ok-tags}
 
 pub returns-in_err-head-clause-handed : goal.returns-in_err-head-clause-handed
 returns-in_err-head-clause-handed g c =
@@ -25,10 +25,10 @@ returns-in_err-head-clause-handed g c =
       taken = refl;
     })
 
-pub returns-in_err-none-clause-handed : goal.returns-in_err-none-clause-handed
-returns-in_err-none-clause-handed g c =
-    let memory = rw (← c.in_err-none.ensures.answer) at c.no_tags.ensures.memory in
-    rw (passed _ c.from_residual-in_err-none.ensures.1) (record {
+pub returns-in_err-tags-clause-handed : goal.returns-in_err-tags-clause-handed
+returns-in_err-tags-clause-handed g c =
+    let memory = rw (← c.in_err-tags.ensures.answer) at c.zero_tags.ensures.memory in
+    rw (passed _ c.from_residual-in_err-tags.ensures.1) (record {
       event = EndCollection;
       is = record {
         first = known_wanted (g.S.Source.known c.args.source.now) c.keep_error-2.new.self.fault memory;
@@ -44,20 +44,20 @@ returns-in_err-head-clause-objects g c =
     (known_uncounted (g.S.Source.known c.args.source.now) c.keep_error.new.self.fault
     (length c.args.walk.now.tags.items) c.requires.empty.0 refused)
 
-pub returns-in_err-none-clause-objects : goal.returns-in_err-none-clause-objects
-returns-in_err-none-clause-objects g c =
-    let memory = rw (← c.in_err-none.ensures.answer) at c.no_tags.ensures.memory in
-    rw (passed _ c.from_residual-in_err-none.ensures.1)
+pub returns-in_err-tags-clause-objects : goal.returns-in_err-tags-clause-objects
+returns-in_err-tags-clause-objects g c =
+    let memory = rw (← c.in_err-tags.ensures.answer) at c.zero_tags.ensures.memory in
+    rw (passed _ c.from_residual-in_err-tags.ensures.1)
     (known_hidden (g.S.Source.known c.args.source.now) c.keep_error-2.new.self.fault
-    (length c.args.walk.now.tags.items) memory)
+    (length c.args.walk.now.tags.items) c.requires.empty.0 memory)
 
 -- all tags are 0
-none : (g : _) (c : In_ok-none g) → c.in_ok-none.none.items ≡ replicate c.len.result 0
-none g c = rw (← c.in_ok-none.ensures.answer) at c.no_tags.ensures.tags
+none : (g : _) (c : In_ok-tags g) → c.in_ok-tags.tags.items ≡ replicate c.len.result 0
+none g c = rw (← c.in_ok-tags.ensures.answer) at c.zero_tags.ensures.tags
 
 -- there are as many tags as offsets
-count : (g : _) (c : In_ok-none g)
-    → length c.in_ok-none.none.items ≡ length c.in_ok-head.head.places.items
+count : (g : _) (c : In_ok-tags g)
+    → length c.in_ok-tags.tags.items ≡ length c.in_ok-head.head.places.items
 count g c =
     ap length (none g c) ∙ length-replicate c.len.result 0 ∙ c.len.ensures
     ∙ c.in_ok-head.head.places.ok.0
@@ -66,12 +66,12 @@ pub returns-clause-objects : goal.returns-clause-objects
 returns-clause-objects g c =
     known_counted (g.S.Source.known c.args.source.now) c.in_ok-head.head c.enter.result
     c.enter.new.decoder.slot c.enter.new.walk
-    (c.enter.ensures.size ∙ count g (goal.at.returns-clause-objects g c).In_ok-none)
+    (c.enter.ensures.size ∙ count g (goal.at.returns-clause-objects g c).In_ok-tags)
     (rw (← c.in_ok-head.ensures.answer) at c.read.ensures.value)
 
 pub invariant_of-walk : goal.invariant_of-walk
 invariant_of-walk g c =
-    let there = (goal.at.invariant_of-walk g c).In_ok-none in
+    let there = (goal.at.invariant_of-walk g c).In_ok-tags in
     record {
       same = sym (count g there);
       path = IsOpen-none _ _ _ (none g there) c.requires.empty.1;
@@ -81,23 +81,23 @@ invariant_of-walk g c =
 
 pub enter-requires-clause-known : goal.enter-requires-clause-known
 enter-requires-clause-known g c =
-    let there = (goal.at.enter-requires-clause-known g c).In_ok-none in
+    let there = (goal.at.enter-requires-clause-known g c).In_ok-tags in
     let value = rw (← c.in_ok-head.ensures.answer) at c.read.ensures.value in
     let within = rw (← c.in_ok-head.ensures.answer) at c.read.ensures.within in
     known_opens (g.S.Source.known c.args.source.now) (g.S.Source.known c.read.new.source)
-    c.in_ok-head.head _ c.in_ok-none.none.items c.len.result c.args.walk.now.frames
+    c.in_ok-head.head _ c.in_ok-tags.tags.items c.len.result c.args.walk.now.frames
     c.read.ensures.unchanged value within refl refl (none g there)
     (c.len.ensures ∙ c.in_ok-head.head.places.ok.0) c.requires.empty.1
 
 pub enter-requires-clause-counted : goal.enter-requires-clause-counted
 enter-requires-clause-counted g c = λ counts.
-    let there = (goal.at.enter-requires-clause-counted g c).In_ok-none in
+    let there = (goal.at.enter-requires-clause-counted g c).In_ok-tags in
     c.requires.counted counts
     ∙ cached_count-empty c.args.walk.now.tags.items c.requires.empty.0
-    ∙ sym (cached_count-none c.len.result c.in_ok-none.none.items (none g there))
+    ∙ sym (cached_count-none c.len.result c.in_ok-tags.tags.items (none g there))
 
 -- the bounds of the file
-abbrev bounds : (g : _) (c : In_ok-none g) → Bounds
+abbrev bounds : (g : _) (c : In_ok-tags g) → Bounds
 bounds g c = record {
   trailer = c.in_ok-head.head.trailer;
   reference_width = c.in_ok-head.head.reference_width;
@@ -107,14 +107,14 @@ bounds g c = record {
 
 pub returns-clause-handed : goal.returns-clause-handed
 returns-clause-handed g c =
-    let there = (goal.at.returns-clause-handed g c).In_ok-none in
+    let there = (goal.at.returns-clause-handed g c).In_ok-tags in
     let h = c.enter.ensures.handed in
     record {
       event = h.event;
       is = record {
         first = rw c.enter.ensures.bounds (known_begun
             (g.S.Source.known c.args.source.now) (g.S.Source.known c.read.new.source)
-            c.in_ok-head.head (bounds g there) c.in_ok-none.none.items c.args.walk.now.frames
+            c.in_ok-head.head (bounds g there) c.in_ok-tags.tags.items c.args.walk.now.frames
             c.enter.new.walk.frames (result_in c.enter.result c.enter.new.decoder.slot) h.event
             c.read.ensures.unchanged c.requires.empty.1 (count g there) refl refl
             (rw (← c.in_ok-head.ensures.answer) at c.read.ensures.value) h.is.0);

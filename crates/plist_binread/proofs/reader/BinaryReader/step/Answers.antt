@@ -15,6 +15,7 @@ returns-in-Ended-clause-walks g c = record {
       items = rw c.in-Ended.is (nothing_ended _);
       failures = refl;
       ended = λ _. refl;
+      unasked = λ _. refl;
       ends = c.in-Ended.is;
       begun = rw c.in-Ended.is refl;
       faults = tt;

@@ -41,6 +41,7 @@ returns-in-Err g c =
               w.items;
           failures = refused-other old.limiter l.event (fault_of error) _ _ _ r w.failures;
           ended = λ e. (let no = w.ended e in absurd (cc));
+          unasked = w.unasked;
           ends = refl;
           begun = refl;
           faults = refused-given 0 (2 ^ 64) old.limiter l.event (fault_of error) r;
