@@ -1,4 +1,4 @@
--- What an escape in a quoted string stands for, from the byte after its backslash on:
+-- What an escape in a quoted string denotes, from the byte after its backslash on:
 --
 --     letter                        its byte in `simple_escape`
 --     octal octal octal             the character of that number
@@ -16,7 +16,7 @@ use Rattle.std.specs.Str.Parse.{digits_value}
 use Rattle.plist_base.specs.Faults.{FaultKind, InvalidUtf16String, InvalidUtf8AsciiStream, InvalidOctalString}
 use Rattle.plist_ascii.specs.TokenPrefixes.{Taken, taken, past_one, after_byte, followed, is_one_of, needs}
 
--- the byte that a letter stands for, or `None`
+-- the byte that a letter denotes, or `None`
 abbrev pub simple_escape : ℕ → Option ℕ
 simple_escape c = lookup (λ letter. c == letter)
     (zip (codes "\\\"'abfnrtv") (codes "\\\"'\u{7}\u{8}\u{c}\n\r\t\u{b}"))
@@ -93,7 +93,7 @@ first_unit None rest = bad_unit 0
 abbrev pub unicode : List ℕ → Taken (List ℕ)
 unicode rest = followed rest (unit rest).bytes (unit rest).gives first_unit
 
--- what an escape with the first byte c stands for
+-- what an escape with the first byte c denotes
 abbrev pub escape_by : ℕ → List ℕ → Taken (List ℕ)
 escape_by c rest =
     if is_one_of "U" c then unicode rest
@@ -101,6 +101,6 @@ escape_by c rest =
     else taken 0
     (option_map_or (λ byte. Ok (byte ∷ [])) (simple_escape c) (Err InvalidUtf8AsciiStream))
 
--- the bytes that an escape stands for
+-- the bytes that an escape denotes
 unfoldable pub escape : List ℕ → Taken (List ℕ)
 escape = after_byte escape_by

@@ -56,12 +56,12 @@ bare stops c rest = taken (run stops rest) (bare_event (c ∷ take (run stops re
 abbrev pub ends_run : ℕ → ℕ → Bool
 ends_run quote c = (c == quote) || (c == 92)
 
--- the bytes `front` precede what a string stands for
+-- the bytes `front` precede what a string denotes
 abbrev pub prepended : (front : List ℕ) → Taken (List ℕ) → Taken (List ℕ)
 prepended front t =
     taken t.bytes (result_map_both (λ more. front ++ more) (λ fault. fault) t.gives)
 
--- the closing quote, an escape after its backslash, or a byte that stands for itself, and then the
+-- the closing quote, an escape after its backslash, or a byte that denotes itself, and then the
 -- rest of the string; `fuel` is at least the number of bytes
 unfoldable pub quoted_in : (quote fuel : ℕ) → List ℕ → Taken (List ℕ)
 quoted_in quote zero = λ bytes. taken 0 (Err UnclosedString)

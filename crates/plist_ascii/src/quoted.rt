@@ -17,7 +17,7 @@ use crate::unescape::Escaped;
 use plist_base::OwnedEvent;
 use std::alloc::{AllocError, Global};
 
-// Appends the bytes that an escape stands for.
+// Appends the bytes that an escape denotes.
 fn push_escaped(text: &mut Vec<u8>, piece: Escaped) -> Result<(), AllocError>
     ensures value { OnOk result (text.new.items ≡ text.old.items ++ escaped_bytes piece) }
 {

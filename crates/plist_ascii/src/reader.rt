@@ -13,11 +13,12 @@ use std::ops::ControlFlow;
 
 /// Reads an ASCII property list as events, from its first byte on.
 ///
-/// Brackets open and close collections, quotes and other bytes begin strings, and separators and
-/// comments are skipped. The nesting of collections isn't checked. A bare string that spells an
-/// integer is yielded as an integer. The [`Dialect`] decides which bytes end a bare string. The
-/// reader looks at one byte after an item only if that byte decides where the item ends. At most
-/// 2^64 - 1 bytes are taken.
+/// Brackets open and close collections, and quotes (`'` or `"`) and other bytes begin strings. White
+/// space (space, tab, CR and LF), separators (`,`, `;` and `=`) and comments (`//` up to an LF, and
+/// `/*` up to `*/`) are skipped. The nesting of collections isn't checked. A bare string that
+/// spells an integer is yielded as an integer. The [`Dialect`] decides which bytes end a bare
+/// string. The reader looks at one byte after an item only if that byte decides where the item
+/// ends. At most 2^64 - 1 bytes are taken.
 ///
 /// The offset of an error is the number of bytes taken; `OutOfMemory` has none.
 ///
@@ -51,7 +52,6 @@ impl<R: ByteReader> AsciiReader<R> {
         ensures bytes { untaken_bytes R.remaining result ≡ readable (R.remaining inner) }
         ensures inner { device_of result ≡ inner }
         ensures dialect { dialect_of result ≡ Dialect.Lax }
-        // State afterwards.
         ensures place { place_of result ≡ 0 }
         ensures peeked_byte { peeked_byte result ≡ None }
     {
@@ -67,7 +67,6 @@ impl<R: ByteReader> AsciiReader<R> {
         ensures bytes { untaken_bytes R.remaining result ≡ readable (R.remaining inner) }
         ensures inner { device_of result ≡ inner }
         ensures dialect { dialect_of result ≡ dialect }
-        // State afterwards.
         ensures place { place_of result ≡ 0 }
         ensures peeked_byte { peeked_byte result ≡ None }
         // Laws.

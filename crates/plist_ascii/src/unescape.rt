@@ -13,7 +13,7 @@ use crate::byte_reader::ByteReader;
 use crate::fault::TokenFault;
 use crate::input::Input;
 
-/// What an escape stands for.
+/// What an escape denotes.
 #[derive(Clone, Copy)]
 pub enum Escaped {
     /// A byte.
@@ -41,7 +41,7 @@ const NEXTSTEP: [char; 128] = [
     '\u{153}', '\u{DF}', '\u{FE}', '\u{FF}', '\u{FFFD}', '\u{FFFD}',
 ];
 
-// Returns the byte that this byte stands for after a backslash, or `None` if it stands for none.
+// Returns the byte that this byte denotes after a backslash, or `None` if it denotes none.
 fn simple_of(byte: u8) -> Option<u8>
     ensures { result ≡ simple_escape byte }
 {
@@ -153,7 +153,7 @@ fn pair_char(high: u16, low: Option<u16>) -> Option<char>
 }
 
 impl<R: ByteReader> Input<R> {
-    /// Takes the rest of an escape, whose backslash has been taken, and returns what it stands for.
+    /// Takes the rest of an escape, whose backslash has been taken, and returns what it denotes.
     pub fn escape(&mut self) -> Result<Escaped, TokenFault>
         ensures answers { GivesBy R.remaining escaped_bytes escape self.old result self.new }
         ensures failures { CountsFailed R.failures self.old result self.new }

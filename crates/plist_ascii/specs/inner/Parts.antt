@@ -14,7 +14,7 @@ use Rattle.plist_ascii.specs.TokenPrefixes.{Taken, after_byte, followed, past, p
 use Rattle.plist_ascii.specs.Escapes.{escape}
 use Rattle.plist_ascii.specs.Texts.{ends_run, prepended, quoted}
 
--- the bytes that an escape stands for
+-- the bytes that an escape denotes
 abbrev pub escaped_bytes : Escaped → List ℕ
 escaped_bytes (piece.Byte byte) = byte ∷ []
 escaped_bytes (piece.Char c) = encode_utf8 c
@@ -24,7 +24,7 @@ abbrev pub IsCharOr : FaultKind → Result (List ℕ) FaultKind → Option ℕ �
 IsCharOr fault outcome char =
     MatchOption char (outcome ≡ Err fault) (λ c. outcome ≡ Ok (encode_utf8 c))
 
--- what follows a run of plain bytes: the closing quote, or an escape, and what it stands for
+-- what follows a run of plain bytes: the closing quote, or an escape, and what it denotes
 abbrev pub run_end : (quote : ℕ) → List ℕ → Taken (Option (List ℕ))
 run_end quote = after_byte (λ c rest. if c == quote then taken 0 (Ok None)
     else followed rest (escape rest).bytes (escape rest).gives (λ text _. taken 0 (Ok (Some text))))
