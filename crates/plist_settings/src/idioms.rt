@@ -63,11 +63,12 @@ fn written(alloc: Global) -> Result<u64, Error> {
 }
 
 // Runs an idiom whose result is a number.
-fn measured<R: Files + AllocGlobal>(rt: &R, alloc: Global, name: &str) -> Result<u64, Error> {
+fn measured<R: Files + AllocGlobal>(rt: &R, alloc: Global, name: &str) -> Result<u64, Failure> {
     match name {
-        "to_writer_binary" => length_of(rt, alloc),
-        "stream::Reader" => count_of(rt, alloc),
-        _ => written(alloc),
+        "to_writer_binary" => Ok(length_of(rt, alloc)?),
+        "stream::Reader" => Ok(count_of(rt, alloc)?),
+        "BinaryWriter" => Ok(written(alloc)?),
+        _ => Err(Failure::NoSetting),
     }
 }
 
@@ -101,10 +102,15 @@ fn read_open<R: Files + AllocGlobal>(rt: &R, alloc: Global) -> Result<Value, Err
     Value::from_reader(alloc, Seeking::with_windows(alloc, file))
 }
 
-// Runs an idiom of files and streams.
-fn streamed<R: Files + AllocGlobal>(rt: &R, alloc: Global, name: &str) -> Result<Value, Error> {
-    match name {
+// Runs an idiom that reads or writes a file, or returns `None` if the idiom is another one.
+fn read_by<R: Files + AllocGlobal>(
+    rt: &R,
+    alloc: Global,
+    name: &str,
+) -> Option<Result<Value, Error>> {
+    let value = match name {
         "from_file" => Value::from_file(rt, alloc, FILE),
+        "a missing file" => Value::from_file(rt, alloc, "missing.plist"),
         "a value a line" => {
             Value::from_file_with_dialect(rt, alloc, "lines.plist", Dialect::Tight)
         }
@@ -114,11 +120,17 @@ fn streamed<R: Files + AllocGlobal>(rt: &R, alloc: Global, name: &str) -> Result
         "from_reader of a file" => read_open(rt, alloc),
         "to_file_binary" => copied(rt, alloc),
         "from_events" => from_events(rt, alloc),
-        "to_writer_binary" | "stream::Reader" | "BinaryWriter" => {
-            measured(rt, alloc, name).map(Value::from)
-        }
         "format_of" => format_name(rt, alloc).map(Value::String),
-        _ => Value::from_file(rt, alloc, "missing.plist"),
+        _ => return None,
+    };
+    Some(value)
+}
+
+// Runs an idiom of files and streams.
+fn streamed<R: Files + AllocGlobal>(rt: &R, alloc: Global, name: &str) -> Result<Value, Failure> {
+    match read_by(rt, alloc, name) {
+        Some(read) => Ok(version_or_value(read?)),
+        None => measured(rt, alloc, name).map(Value::from),
     }
 }
 
@@ -141,10 +153,11 @@ fn content_seen(alloc: Global, setting: &Value, name: &str) -> Option<Value> {
         "as_array" => Some(Value::from(setting.as_array()?.len() as u64)),
         "as_data" => Some(Value::from(setting.as_data()?.len() as u64)),
         "as_real" => Some(Value::Real(RealBits::from_f64(setting.as_real()?.to_f64()))),
-        _ => match setting {
+        "match on a reference" => match setting {
             Value::String(text) => text.clone().ok().map(Value::String),
             _ => None,
         },
+        _ => None,
     }
 }
 
@@ -229,19 +242,21 @@ fn add_entries(alloc: Global, settings: &mut Dictionary) -> Result<(), Error> {
 fn used(alloc: Global, settings: &mut Dictionary, group: &str, name: &str) -> Option<Value> {
     match group {
         "look" => seen(alloc, settings, name),
-        _ => taken(alloc, settings, name),
+        "take" => taken(alloc, settings, name),
+        _ => None,
     }
 }
 
 // Makes a dictionary, and changes it by one of the idioms.
-fn changed(alloc: Global, name: &str) -> Result<Dictionary, Error> {
+fn changed(alloc: Global, name: &str) -> Result<Dictionary, Failure> {
     let mut settings = made(alloc)?;
     match name {
+        "insert" | "iteration by value" => {}
         "entry" => add_entries(alloc, &mut settings)?,
         "sort_keys" => settings.sort_keys()?,
-        "from_pairs" => return Dictionary::from_pairs(alloc, settings),
-        "clone of a dictionary" => return settings.clone(),
-        _ => {}
+        "from_pairs" => return Ok(Dictionary::from_pairs(alloc, settings)?),
+        "clone of a dictionary" => return Ok(settings.clone()?),
+        _ => return Err(Failure::NoSetting),
     }
     Ok(settings)
 }
@@ -252,19 +267,23 @@ fn date_text(alloc: Global) -> Option<String> {
     value.as_date()?.to_xml_format(alloc).ok()
 }
 
+// Reads a value from an ASCII property list in memory.
+fn from_ascii(alloc: Global) -> Result<Value, Error> {
+    let text: &[u8] = b"{ b = 7; a = x; }";
+    Value::from_reader_ascii(alloc, text)
+}
+
 // Makes a value by one of the idioms.
-fn built(alloc: Global, name: &str) -> Result<Value, Error> {
+fn built(alloc: Global, name: &str) -> Result<Value, Failure> {
     match name {
-        "a string" => Value::try_from_str(alloc, "text"),
+        "a string" => Ok(Value::try_from_str(alloc, "text")?),
         "a number" => Ok(Value::from(7_i64)),
         "a Boolean" => Ok(Value::Boolean(true)),
         "a real" => Ok(Value::Real(RealBits::from_f64(0.1))),
         "data" => Ok(Value::Data(Vec::from_slice(alloc, &[0, 255])?)),
-        "clone of a value" => Value::Dictionary(made(alloc)?).clone(alloc),
-        _ => {
-            let text: &[u8] = b"{ b = 7; a = x; }";
-            Value::from_reader_ascii(alloc, text)
-        }
+        "clone of a value" => Ok(Value::Dictionary(made(alloc)?).clone(alloc)?),
+        "from_reader_ascii" => Ok(from_ascii(alloc)?),
+        _ => Err(Failure::NoSetting),
     }
 }
 
@@ -284,7 +303,7 @@ fn result_of<R: Files + AllocGlobal>(
     name: &str,
 ) -> Result<Value, Failure> {
     match group {
-        "stream" => Ok(version_or_value(streamed(rt, alloc, name)?)),
+        "stream" => streamed(rt, alloc, name),
         "look" | "take" => {
             let mut settings = open(rt, alloc, FILE)?;
             used(alloc, &mut settings, group, name).ok_or(Failure::NoSetting)
@@ -293,7 +312,8 @@ fn result_of<R: Files + AllocGlobal>(
         "text" => date_text(alloc)
             .map(Value::String)
             .ok_or(Failure::NoSetting),
-        _ => Ok(built(alloc, name)?),
+        "build" => built(alloc, name),
+        _ => Err(Failure::NoSetting),
     }
 }
 

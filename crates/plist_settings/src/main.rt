@@ -53,7 +53,9 @@ impl fmt::Display for Failure {
             Failure::NoDictionary => f.write_str("the root isn't a dictionary"),
             Failure::NoSetting => f.write_str("no such setting"),
             Failure::Usage => {
-                f.write_str("open=FILE list get=PATH set=PATH=TEXT delete=PATH save=FILE")
+                f.write_str(
+                    "open=FILE list get=PATH set=PATH=TEXT delete=PATH save=FILE idioms=FILE",
+                )
             }
         }
     }
