@@ -1,17 +1,11 @@
 //! What is read under limits.
 
+use crate::reading::expect;
 use crate::rows::{Row, bytes_given, first_number, limits_given, unreadable};
 use plist_base::Limits;
 use plist_binread::BinaryReader;
-use plist_support::{By, Wrong, expect_on_devices, expect_same, words_over};
+use plist_support::{By, Wrong, expect_same};
 use std::alloc::Global;
-
-// Checks the items of these bytes, and of devices over them.
-fn expect(alloc: Global, by: By, bytes: &[u8], items: &str) -> Result<(), Wrong> {
-    let found = words_over(alloc, by, bytes, usize::MAX)?;
-    expect_same(alloc, found.as_str(), items)?;
-    expect_on_devices(alloc, by, bytes, items)
-}
 
 // Checks that these bytes have this many items.
 fn expect_count(alloc: Global, limits: Limits, bytes: &[u8], count: &str) -> Result<(), Wrong> {

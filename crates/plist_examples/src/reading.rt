@@ -10,7 +10,7 @@ use plist_support::{
 use std::alloc::Global;
 
 // Checks the items of these bytes, and of devices over them.
-fn expect(alloc: Global, by: By, bytes: &[u8], items: &str) -> Result<(), Wrong> {
+pub(crate) fn expect(alloc: Global, by: By, bytes: &[u8], items: &str) -> Result<(), Wrong> {
     let found = words_over(alloc, by, bytes, usize::MAX)?;
     expect_same(alloc, found.as_str(), items)?;
     expect_on_devices(alloc, by, bytes, items)
@@ -55,7 +55,7 @@ fn expect_rest(alloc: Global, bytes: &[u8], rest: &str) -> Result<(), Wrong> {
     let mut reader = AsciiReader::new(alloc, bytes);
     let has_first = reader.next().is_some();
     expect_bytes(alloc, reader.into_inner(), rest.as_bytes())?;
-    expect_that(alloc, has_first, "an item came")
+    expect_that(alloc, has_first, "an item was yielded")
 }
 
 // Runs a check of what is read from bytes.

@@ -24,7 +24,7 @@ fn expect_parts(rt: &(impl Abort + AllocGlobal), value: Value, line: &[u8]) {
 }
 
 #[test]
-fn long_lines_go_out_by_parts(rt: HostRuntime) {
+fn long_lines_are_written_in_parts(rt: HostRuntime) {
     let data = Value::Data(repeated(&rt, b"", b"\x0a\xf5\x99", b""));
     let line = repeated(&rt, b"Data ", b"0af599", b"\n");
     expect_parts(&rt, data, line.as_slice());

@@ -50,10 +50,11 @@ fn stops_where_the_writer_fails(rt: HostRuntime) {
     let mut writer = sound(&rt);
     must(&rt, print_events(rt.alloc(), TWO_TEXTS, &mut writer));
     expect_taken(&rt, &writer, LINES, end as u64 + 1, end);
+    same(&rt, "the lines in one write", &writer.longest, &end);
 }
 
 #[test]
-fn a_fault_comes_before_a_failed_flush(rt: HostRuntime) {
+fn a_fault_precedes_a_failed_flush(rt: HostRuntime) {
     let mut writer = failing(&rt, 0, ErrorKind::TimedOut);
     let text = b"not a property list at all, but some text".as_slice();
     let answer = print_events(rt.alloc(), text, &mut writer);

@@ -107,9 +107,6 @@ fn expect_failure(
 fn run_over(alloc: Global, reading: Reading<'_>, most: usize) -> Result<(String, u64), Wrong> {
     let mut device = device_of(alloc, reading.bytes, u64::MAX, INTERRUPTED)?;
     let found = words_over(alloc, reading.by, &mut device, most)?;
-    if device.failures != 0 {
-        return fail(format!(in alloc; "a failure after {found}"));
-    }
     Ok((found, device.calls))
 }
 
@@ -136,12 +133,14 @@ pub fn expect_on_devices(alloc: Global, by: By, bytes: &[u8], items: &str) -> Re
 
 // Checks what is yielded if the source has only `left` bytes from its second call on: these items,
 // or a prefix of them and then `UnexpectedEof`, with the offset of the last call.
-fn expect_shrunk(alloc: Global, bytes: &[u8], items: &str, left: usize) -> Result<(), Wrong> {
-    let mut device = device_of(alloc, bytes, 1, DeviceFault::Shrinks(left))?;
-    let found = words_over(alloc, By::Binary, &mut device, usize::MAX)?;
-    if device.failures != 0 {
-        return fail(format!(in alloc; "a failure with {left} bytes left"));
-    }
+fn expect_shrunk(
+    alloc: Global,
+    reading: Reading<'_>,
+    items: &str,
+    left: usize,
+) -> Result<(), Wrong> {
+    let mut device = device_of(alloc, reading.bytes, 1, DeviceFault::Shrinks(left))?;
+    let found = words_over(alloc, reading.by, &mut device, usize::MAX)?;
     if found.as_str() == items {
         return Ok(());
     }
@@ -152,15 +151,16 @@ fn expect_shrunk(alloc: Global, bytes: &[u8], items: &str, left: usize) -> Resul
     }
 }
 
-/// Checks that reading these bytes ends, whatever length the source shrinks to at its second call,
-/// and that the binary reader yields these items, or a prefix of them and `UnexpectedEof`.
+/// Checks that these items are read, or a prefix of them and `UnexpectedEof`, whatever length the
+/// source shrinks to at its second call. If the magic remains, the format is found from it, and the
+/// same is read by the reader of either format.
 pub fn expect_on_shrinking_devices(alloc: Global, bytes: &[u8], items: &str) -> Result<(), Wrong> {
     for left in 0..bytes.len() {
-        expect_shrunk(alloc, bytes, items, left)?;
-        let mut device = device_of(alloc, bytes, 1, DeviceFault::Shrinks(left))?;
-        let _ = words_over(alloc, By::Either, &mut device, usize::MAX)?;
-        if device.failures != 0 {
-            return fail(format!(in alloc; "a failure with {left} bytes left"));
+        let by = By::Binary;
+        expect_shrunk(alloc, Reading { by, bytes }, items, left)?;
+        if left >= 8 && bytes.starts_with(b"bplist00") {
+            let by = By::Either;
+            expect_shrunk(alloc, Reading { by, bytes }, items, left)?;
         }
     }
     Ok(())

@@ -43,7 +43,7 @@ pub fn expect_bytes(alloc: Global, found: &[u8], wanted: &[u8]) -> Result<(), Wr
         return Ok(());
     }
     let found = hex::encode(alloc, found)?;
-    fail(format!(in alloc; "the bytes {found} came"))
+    fail(format!(in alloc; "the bytes {found} were found"))
 }
 
 /// Checks that a condition is true. If it isn't, the error contains the text.

@@ -155,7 +155,7 @@ pub fn error_calls(kind: ErrorKind) -> Result<io::Error, Error> {
 fn print_kind<W: Write>(out: &mut W, number: u8, kind: ErrorKind) -> Result<(), Error> {
     let content = content_of(&kind);
     let error: Error = kind.without_position();
-    Ok(writeln!(out, "{number} {error} holds {content}")?)
+    Ok(writeln!(out, "{number} {error} contains {content}")?)
 }
 
 fn print_event_kinds<W: Write>(out: &mut W) -> Result<(), Error> {

@@ -24,7 +24,7 @@ fn items_counted<L: Ledger>(alloc: Global, bytes: &[u8], blank: Blank) -> u64
 }
 
 #[test]
-fn all_items_come_while_a_ledger_counts(rt: HostRuntime) {
+fn all_items_are_yielded_while_a_ledger_counts(rt: HostRuntime) {
     let bytes = must(
         &rt,
         file(rt.alloc(), "a30101 02 5161 09 080c0e", [1, 1], [3, 0, 15]),

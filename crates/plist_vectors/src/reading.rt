@@ -67,6 +67,6 @@ fn ends_after_a_failure(rt: HostRuntime) {
 
 // The first read is the second call.
 #[test]
-fn ends_where_a_read_gives_nothing(rt: HostRuntime) {
+fn ends_where_a_read_returns_nothing(rt: HostRuntime) {
     expect_faults(&rt, 1, DeviceFault::MovesNothing);
 }
