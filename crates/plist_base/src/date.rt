@@ -254,11 +254,7 @@ fn second_of_bits(bits: u64) -> Option<i64>
     ensures { result ≡ second_of_bits bits }
 {
     let parts = RealParts::from_bits(bits)?;
-    checked_second(round_down(
-        bits >= 1 << 63,
-        parts.whole(),
-        parts.has_fraction(),
-    ))
+    checked_second(round_down(bits >= 1 << 63, parts.whole(), parts.has_fraction()))
 }
 
 #[tactic(auto, using(crate::proofs::DateEncoding::encoded, crate::proofs::DateEncoding::sum_is))]

@@ -61,7 +61,9 @@ pub fn begin<S: Source, C: DecodeCounter, V: EventVisitor>(
 {
     let alloc = decoder.slot.alloc;
     let head = decoder.slot.keep_error(Head::read(alloc, source))?;
-    let tags = decoder.slot.keep_error(zero_tags(alloc, head.places.len()))?;
+    let tags = decoder
+        .slot
+        .keep_error(zero_tags(alloc, head.places.len()))?;
     let Head {
         trailer,
         reference_width,

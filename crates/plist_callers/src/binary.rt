@@ -1,6 +1,8 @@
-//! Proved callers of a reader: how many objects it reports, and what it yields after an error.
+//! Proved callers of a reader: how many objects it reports, what it yields after an error, and that
+//! it doesn't call its source after the end.
 
-ghost use Rattle.std.specs.Prelude.{◌≡◌, ◌≤◌, None, IfSome, false};
+ghost use Rattle.std.specs.Prelude.{◌≡◌, ◌≤◌, ◌⊎◌, None, IfSome, false};
+ghost use Rattle.plist_binread.specs.BinaryReader.{HasEndedBinary, binary_source};
 ghost use Rattle.plist_binread.specs.Remaining.{objects_in_head};
 
 use plist_base::{Error, ErrorKind, OwnedEvent, Source};
@@ -73,4 +75,25 @@ pub fn count_again<R: Source>(reader: &mut BinaryReader<R>) -> (usize, usize)
     let before = reader.objects_in_file();
     drop(reader.next());
     (before, reader.objects_in_file())
+}
+
+/// Returns how many objects a reader reports after an error that is its first item, even if a read
+/// or an allocation failed: the number in the file's head, or 0.
+pub fn count_after_a_failure(alloc: Global, bytes: &[u8]) -> Option<usize>
+    ensures { IfSome result (λ count. (count ≡ objects_in_head bytes.now) ⊎ (count ≡ 0)) }
+{
+    let mut reader = BinaryReader::new(alloc, bytes);
+    match reader.next() {
+        Some(Err(_error)) => Some(reader.objects_in_file()),
+        Some(Ok(_event)) => None,
+        None => None,
+    }
+}
+
+/// Requests an item of a reader that has ended. Its source isn't called.
+pub fn asks_after_the_end<R: Source>(reader: &mut BinaryReader<R>)
+    requires { HasEndedBinary reader.old }
+    ensures { binary_source reader.new ≡ binary_source reader.old }
+{
+    drop(reader.next());
 }

@@ -1,7 +1,7 @@
-//! Proved callers of events: an event that is written by the method for its kind, or as a copy; the
-//! hash of data; and integers in their order.
+//! Proved callers of events: an event that is written by the method for its kind, or as a copy; a
+//! copy of an integer; the hash of data; and integers in their order.
 
-ghost use Rattle.std.specs.Prelude.{◌≡◌, ◌<ℤ◌, ◌↔◌, IsTrue, OnOk};
+ghost use Rattle.std.specs.Prelude.{◌≡◌, ◌<ℤ◌, ◌↔◌, IsTrue, OnOk, false};
 ghost use Rattle.std.specs.Cow.{cow_slice_items};
 ghost use Rattle.std.specs.Hash.DefaultHasher as sip;
 ghost use Rattle.plist_base.specs.Events.{event_of};
@@ -65,4 +65,14 @@ pub fn is_below(number: Integer, other: Integer) -> bool
     ensures { IsTrue result ↔ (number <ℤ other) }
 {
     number < other
+}
+
+/// Returns whether an integer can't be copied. It always can, since its copy allocates no memory.
+pub fn copy_of_an_integer_fails(alloc: Global, value: Integer) -> bool
+    ensures { result ≡ false }
+{
+    match Event::Integer(value).clone(alloc) {
+        Ok(_copy) => false,
+        Err(_error) => true,
+    }
 }

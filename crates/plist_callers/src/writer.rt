@@ -1,12 +1,14 @@
 //! Proved callers of a writer: a new one hasn't failed, and returns the inner writer that it was
-//! given; one that ran out of memory for an event has failed.
+//! given; one that ran out of memory for an event has failed; a sink that is finished keeps its
+//! pending bytes.
 
 ghost use Rattle.std.specs.Prelude.{◌≡◌, Err, IfErr, IfSome, ⊤};
 ghost use Rattle.plist_base.specs.Faults.{WriterFailed, error_kind_of, fault_without_offset, kind_of};
+ghost use Rattle.plist_base.specs.Sinks.{pending};
 ghost use Rattle.plist_base.specs.Writing.{MatchKind, answer_of};
 ghost use Rattle.plist_binwrite.specs.FileWriter.{sink_of};
 
-use plist_base::{Error, ErrorKind, Event, Writer};
+use plist_base::{Error, ErrorKind, Event, Sink, Writer};
 use plist_binwrite::BinaryWriter;
 use std::alloc::Global;
 use std::io::Write;
@@ -50,4 +52,16 @@ pub fn next_without_memory<W: Write + Drop>(
         }
         _ => None,
     }
+}
+
+/// Finishes a sink, which keeps its pending bytes. So it isn't finished twice, which would write
+/// them again.
+///
+/// # Errors
+///
+/// The errors are those of [`Sink::finish`].
+pub fn finish_empties<W: Write>(sink: &mut Sink<'_, W>) -> Result<(), Error>
+    ensures { pending sink.new ≡ pending sink.old }
+{
+    sink.finish()
 }
