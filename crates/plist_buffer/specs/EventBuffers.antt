@@ -57,10 +57,12 @@ abbrev pub Accepts : (before : EventBuffer) → PlainEvent → (after : EventBuf
 Accepts before event after = CanTake before event × BuffersNext before event after
 
 -- a misplaced event can't follow the buffered ones, and nothing has changed; `OutOfMemory` is
--- returned only for an event that can follow them
+-- returned only for an event that can follow them, and the buffered events haven't changed
 abbrev pub RejectsEvent : (before : EventBuffer) → PlainEvent → (after : EventBuffer) → PushError
     → Type 0
 RejectsEvent before event after (push_error.Misplaced expected found) =
     IsMisplaced (buffered_events before) event
     (fault_without_offset (UnexpectedEventType expected found)) × (after ≡ before)
-RejectsEvent before event after push_error.OutOfMemory = CanTake before event
+RejectsEvent before event after push_error.OutOfMemory =
+    CanTake before event × (buffered_events after ≡ buffered_events before)
+    × (is_whole after ≡ is_whole before)

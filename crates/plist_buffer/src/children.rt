@@ -1,9 +1,10 @@
 //! The children of a collection among the buffered events.
 
-ghost use Rattle.std.specs.Prelude.{◌≡◌, ◌<◌, [], false, length};
+ghost use Rattle.std.specs.Prelude.{◌≡◌, ◌<◌, ◌⊎◌, [], true, false, length};
+ghost use Rattle.plist_base.specs.Events.{shape_of};
 ghost use Rattle.plist_buffer.specs.Children.{half_of, indices_left};
 ghost use Rattle.plist_buffer.specs.declared.children.Half.{Half};
-ghost use Rattle.plist_buffer.specs.EventTable.{plain_events};
+ghost use Rattle.plist_buffer.specs.EventTable.{plain_events, table_event};
 
 use crate::event_table::EventTable;
 use plist_base::EventShape;
@@ -63,7 +64,11 @@ impl Child {
 #[inline(always)]
 pub fn begins_collection(events: &EventTable<'_>, index: usize) -> bool
     requires { index < length (plain_events events.now) }
-    ensures { result ≡ false → (half : Half) → half_of (plain_events events.now) half index ≡ [] }
+    ensures yes { result ≡ true
+        → (shape_of (table_event events.now index) ≡ EventShape.StartArray)
+        ⊎ (shape_of (table_event events.now index) ≡ EventShape.StartDictionary) }
+    ensures no { result ≡ false
+        → (half : Half) → half_of (plain_events events.now) half index ≡ [] }
 {
     match events.kind_at(index) {
         EventShape::StartArray | EventShape::StartDictionary => true,
@@ -96,8 +101,8 @@ impl<'p, 'e> Children<'p, 'e> {
             (EventShape::StartArray, Half::Values) => (Child::Item, inside),
             (EventShape::StartDictionary, Half::Keys) => (Child::Key, inside),
             (EventShape::StartDictionary, Half::Values) => (Child::Value, inside),
-            (EventShape::StartArray, Half::Keys) => (Child::Item, events.len()),
-            (EventShape::Scalar | EventShape::EndCollection, _) => (Child::Item, events.len()),
+            (EventShape::StartArray, Half::Keys)
+            | (EventShape::Scalar | EventShape::EndCollection, _) => (Child::Item, events.len()),
         };
         Children {
             events,

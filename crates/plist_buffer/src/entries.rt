@@ -41,9 +41,8 @@ fn number_in(entry: EventEntry) -> usize
     ensures { result ≡ number_in entry }
 {
     match entry {
-        EventEntry::Array(following) => following,
-        EventEntry::Dictionary(following) => following,
-        EventEntry::Scalar(index) => index,
+        EventEntry::Array(number) | EventEntry::Dictionary(number) | EventEntry::Scalar(number) =>
+            number,
         EventEntry::End => 0,
     }
 }

@@ -74,7 +74,7 @@ fn next_expected(
 }
 
 impl EventBuffer {
-    ghost use Rattle.std.specs.Prelude.{◌≡◌, [], false, OnOk, IfErr};
+    ghost use Rattle.std.specs.Prelude.{◌≡◌, [], false, OnOk, OnErr, IfErr};
     ghost use Rattle.plist_base.specs.Events.{event_of};
     ghost use Rattle.plist_buffer.specs.EventBuffers.{buffered_events, is_whole, misplaced_error, Accepts, BuffersNext, CanTake, RejectsEvent};
     ghost use Rattle.plist_buffer.specs.inner.Expected.{change_on};
@@ -125,6 +125,8 @@ impl EventBuffer {
         requires accepted { CanTake self.old (event_of event) }
         requires change { change ≡ change_on self.old.expects (event_of event) }
         ensures taken { OnOk result (BuffersNext self.old (event_of event.entry) self.new) }
+        ensures unchanged { OnErr result (buffered_events self.new ≡ buffered_events self.old) }
+        ensures whole { OnErr result (is_whole self.new ≡ is_whole self.old) }
     {
         self.held.make_room();
         self.held.push_copy(alloc, event)?;
@@ -137,9 +139,8 @@ impl EventBuffer {
     ///
     /// # Errors
     ///
-    /// `Misplaced` if the event can't follow the buffered ones; nothing changes then. `OutOfMemory`
-    /// if the event can follow them, but an allocation fails; the buffered events are unspecified
-    /// then.
+    /// `Misplaced` if the event can't follow the buffered ones, and `OutOfMemory` if it can, but an
+    /// allocation fails. The buffered events are unchanged after either error.
     #[inline(always)]
     pub fn try_push(&mut self, alloc: Global, event: Event<'_>) -> Result<(), PushError>
         requires still { is_whole self.old ≡ false }

@@ -243,16 +243,14 @@ impl<'e> EventTable<'e> {
     {
         let before = self.scalars.len();
         match self.scalars.insert_full(scalar) {
-            Ok((index, _)) => {
-                match self.entries.push(EventEntry::Scalar(index)) {
-                    Ok(()) => return Ok(()),
-                    Err(error) => {
-                        self.scalars.truncate(before);
-                        return Err(error);
-                    }
+            Ok((index, _)) => match self.entries.push(EventEntry::Scalar(index)) {
+                Ok(()) => Ok(()),
+                Err(error) => {
+                    self.scalars.truncate(before);
+                    Err(error)
                 }
-            }
-            Err(_) => return Err(AllocError),
+            },
+            Err(_) => Err(AllocError),
         }
     }
 
@@ -317,10 +315,7 @@ impl EventTable<'static> {
         if let Some(index) = self.find(&StoredScalar::BorrowedString(text.as_str())) {
             return self.repeat(index);
         }
-        match StoredScalar::copy_of_text(alloc, text) {
-            Ok(copy) => self.scalar(copy),
-            Err(error) => Err(error),
-        }
+        self.scalar(StoredScalar::copy_of_text(alloc, text)?)
     }
 
     // Appends data, which is copied unless equal data is stored.
@@ -332,10 +327,7 @@ impl EventTable<'static> {
         if let Some(index) = self.find(&StoredScalar::BorrowedData(bytes.as_slice())) {
             return self.repeat(index);
         }
-        match StoredScalar::copy_of_data(alloc, bytes) {
-            Ok(copy) => self.scalar(copy),
-            Err(error) => Err(error),
-        }
+        self.scalar(StoredScalar::copy_of_data(alloc, bytes)?)
     }
 
     /// Appends a copy of an event. A string or data that is equal to a stored one isn't copied.

@@ -1,6 +1,6 @@
 //! Short strings and short data, whose bytes are stored in the value itself.
 
-ghost use Rattle.std.specs.Prelude.{◌≡◌, IfSome};
+ghost use Rattle.std.specs.Prelude.{◌≡◌, ◌<◌, IfSome, None, length};
 
 use std::marker::Model;
 use std::str;
@@ -30,7 +30,8 @@ impl ShortBytes {
     /// Copies these bytes, or returns `None` if there are more than 30.
     #[inline(always)]
     pub fn new(content: &[u8]) -> Option<ShortBytes>
-        ensures { IfSome result (λ short. short ≡ content.now) }
+        ensures some { IfSome result (λ short. short ≡ content.now) }
+        ensures none { result ≡ None → 30 < length content.now }
     {
         if content.len() > SHORT {
             return None;
@@ -73,7 +74,8 @@ impl ShortText {
     /// Copies this string, or returns `None` if it has more than 30 bytes.
     #[inline(always)]
     pub fn new(text: &str) -> Option<ShortText>
-        ensures { IfSome result (λ short. short ≡ text.now) }
+        ensures some { IfSome result (λ short. short ≡ text.now) }
+        ensures none { result ≡ None → 30 < length text.now }
     {
         let content = ShortBytes::new(text.as_bytes())?;
         Some(ShortText { content })

@@ -9,13 +9,10 @@ invariant_of-self-2 c = record {
       c.next_expected-self.ensures;
 }
 
-pub returns : goal.returns
-returns c =
-    let more = rw c.make_room.ensures.events at c.in_ok-push_copy.ensures.events in
-    record {
-      taken = (
-        more,
-        tests_next c.args.self.now (event_of c.args.event) c.requires.still c.requires.accepted more
-            c.requires.change c.next_expected-self.ensures,
-      );
-    }
+pub returns-clause-taken : goal.returns-clause-taken
+returns-clause-taken c =
+    let more = rw c.make_room.ensures.events at c.in_ok-push_copy.ensures.events in (
+      more,
+      tests_next c.args.self.now (event_of c.args.event) c.requires.still c.requires.accepted more
+          c.requires.change c.next_expected-self.ensures,
+    )

@@ -29,8 +29,12 @@ returns-in_err-hold-in-Closed c =
     let p = err_from_is_err_and c.from_residual.result c.from_residual.ensures.1 in
     rw (p.1, p.2) (record {
       taken = tt;
-      refused = can_take c.args.self.now (event_of c.args.event) c.requires.still
-          (rw (← c.change_on-change.ensures) c.in-Closed.is);
+      refused = (
+        can_take c.args.self.now (event_of c.args.event) c.requires.still
+            (rw (← c.change_on-change.ensures) c.in-Closed.is),
+        c.in_err-hold-in-Closed.ensures.unchanged,
+        c.in_err-hold-in-Closed.ensures.whole,
+      );
     })
 
 pub returns-in_ok-hold-in-Closed : goal.returns-in_ok-hold-in-Closed
