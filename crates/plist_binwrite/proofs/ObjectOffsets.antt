@@ -15,7 +15,7 @@ use Rattle.plist_binwrite.specs.Written.{object_table, laid_out, Laid}
 use Rattle.std.proofs.lemmas.Bool.Decides.{leb_tells}
 use Rattle.std.proofs.Math.ListN.{get_or-eq_default}
 use Rattle.plist_binwrite.specs.declared.plan.FilePlan.{FilePlan}
-use Rattle.plist_binwrite.specs.inner.Layout.{AreObjectsOf, IsFilePlan, IsLayout, IsOrder, KeepsPlaces}
+use Rattle.plist_binwrite.specs.inner.Layout.{AreObjectsOf, IsFilePlan, IsLayout, IsOrder, KeepsOffsets}
 use Rattle.plist_binwrite.specs.inner.ObjectSizes.{total_below}
 use Rattle.plist_base.specs.Trees.{Tree, Leaf, Array, Dictionary}
 use Rattle.plist_binwrite.specs.Numberings.{object_of}
@@ -272,7 +272,7 @@ module _ {plan : FilePlan} (r : IsFilePlan plan) (objects : ℕ → Object)
           (is ∙ length-magic (body order)) l.laid;
     }
 
-    pub next_kept : KeepsPlaces plan places (set places k v)
+    pub next_kept : KeepsOffsets plan places (set places k v)
     next_kept = keeps_more k v l.ordered h z positive
 
     pub next_placed : get_or (set places k v) k 0 ≢ 0

@@ -1,4 +1,4 @@
--- A planned file is that of its tree, with one object for each class, and `send_plan` writes that
+-- A planned file is that of its tree, with one object for each class, and what is written is that
 -- file.
 use Rattle.std.proofs.Common.{◌≡◌, ℕ, ◌+◌, ◌-◌, ◌*◌, ◌^◌, ◌<◌, List, [], ◌++◌, length, take, drop, get_or, map, Some, Ok, refl, ap, sym, ◌∙◌, arith, ◌≤◌, Option, Result, Err, OnOk, subst}
 use Rattle.std.specs.List.{slice_get}
@@ -20,7 +20,7 @@ use Rattle.plist_binwrite.specs.Numberings.{Describes}
 use Rattle.plist_binwrite.specs.EventClasses.{class_in, events_in}
 use Rattle.plist_binwrite.specs.inner.Layout.{IsFilePlan, PutsFile}
 use Rattle.plist_binwrite.specs.inner.ObjectSizes.{AreSizes, IsCapped, fixed_at, references_at, total_below}
-use Rattle.plist_binwrite.specs.declared.numbering.Numbering.{Numbering}
+use Rattle.plist_binwrite.specs.declared.plan.Numbering.{Numbering}
 use Rattle.plist_binwrite.specs.Forms.{IsWritable}
 use Rattle.plist_binwrite.specs.Numberings.{object_of}
 use Rattle.plist_buffer.specs.Occurrences.{OccursAt}

@@ -1,6 +1,7 @@
 -- Putting objects, one after the other, and storing their offsets.
-use Rattle.std.proofs.Common.{◌≡◌, ◌≢◌, ℕ, ◌<◌, List, [], ◌∷◌, ◌++◌, ◌^◌, length, get_or, set, ap, sym, ◌∙◌, arith, append_assoc, append-nil, Option, None, Some, Ok, Err, replicate, subst}
+use Rattle.std.proofs.Common.{◌≡◌, ◌≢◌, ℕ, ◌<◌, List, [], ◌∷◌, ◌++◌, ◌^◌, length, get_or, set, ap, sym, ◌∙◌, arith, append_assoc, append-nil, Option, None, Some, Ok, Err, refl, replicate, subst}
 use Rattle.std.specs.Option.{unwrap_or}
+use Rattle.std.specs.List.{AllByRecursion}
 use Rattle.std.specs.Result.{OnOk}
 use Rattle.std.proofs.lemmas.List.{get_or-replicate, length-replicate, length-set}
 use Rattle.plist_format.specs.Container.{magic}
@@ -11,13 +12,14 @@ use Rattle.plist_base.specs.Faults.{Fault}
 use Rattle.plist_base.specs.Sinks.{HasPut, IsSizeOrNone, PutsBytes, PutsNothing}
 use Rattle.plist_base.specs.Writing.{Answer}
 use Rattle.plist_base.specs.declared.sink.Sink.{Sink}
-use Rattle.plist_base.proofs.SinkSteps.{puts_after, puts_as, puts_front, puts_none, puts_then}
+use Rattle.plist_base.proofs.SinkSteps.{puts_after, puts_as, puts_front, puts_then}
 use Rattle.plist_binwrite.proofs.ClassObjects.{numbered}
 use Rattle.plist_binwrite.proofs.NumberingSteps.{numbers_below}
 use Rattle.plist_binwrite.specs.EventClasses.{events_in}
 use Rattle.plist_binwrite.specs.declared.plan.FilePlan.{FilePlan}
-use Rattle.plist_binwrite.specs.inner.Layout.{ArePut, HasPlace, IsFilePlan, KeepsPlaces, PutsAt, PutsFile, number_of_event}
+use Rattle.plist_binwrite.specs.inner.Layout.{ArePut, HasOffset, IsFilePlan, KeepsOffsets, LacksObject, PutsFile, PutsObject, PutsObjects, number_of_event}
 use Rattle.plist_base.specs.Trees.{Tree}
+use Rattle.plist_buffer.proofs.Uniques.{all_both, all_from, all_left}
 use Rattle.plist_buffer.specs.EventTable.{HasItem}
 use Rattle.plist_buffer.specs.Occurrences.{OccursAt}
 use Rattle.plist_binwrite.specs.Numberings.{object_of}
@@ -121,16 +123,21 @@ module _ {plan : FilePlan} (r : IsFilePlan plan) {W : Type 0} {contents : W → 
                 (puts_then a.put (rw (← a.described u.0 p u.1) at (put u.0 u.1)));
           }
 
-      pub put_kept : KeepsPlaces plan places (set places k v)
+      pub put_kept : KeepsOffsets plan places (set places k v)
       put_kept = next_kept r a.objects a.described a.layout k v below free (position_is v is)
 
-      pub put_placed : HasPlace plan (set places k v) p
+      pub put_placed : HasOffset plan (set places k v) p
       put_placed = next_placed r a.objects a.described a.layout k v below free (position_is v is)
 
--- a fact holds on success
-on_ok : {A : Type 0} (answer : Answer) → A → OnOk answer A
-on_ok (Ok done) a = a
-on_ok (Err fault) a = tt
+-- nothing is claimed
+any_ok : (answer : Answer) → OnOk answer (Unit {0})
+any_ok (Ok done) = tt
+any_ok (Err fault) = tt
+
+-- a fact that holds on success implies another one on success
+on_ok : {A B : Type 0} (answer : Answer) → (A → B) → OnOk answer A → OnOk answer B
+on_ok (Ok done) f a = f a
+on_ok (Err fault) f a = tt
 
 -- a known number is that of the option
 pub number_told : (place : Option ℕ) (default v : ℕ) → v ≡ unwrap_or place default → (n : ℕ)
@@ -138,54 +145,73 @@ pub number_told : (place : Option ℕ) (default v : ℕ) → v ≡ unwrap_or pla
 number_told None default v is n large small = absurd (omega (arith, large, small))
 number_told (Some m) default v is n same small = is ∙ same
 
--- the object of an event is put
-pub puts_first : {plan : FilePlan} (r : IsFilePlan plan) {W : Type 0}
-    {contents : W → Option (List ℕ)} {places : List ℕ} {sink new : Sink W} (p : ℕ)
+module _ {plan : FilePlan} (r : IsFilePlan plan) {W : Type 0}
+    {contents : W → Option (List ℕ)} {places : List ℕ} {sink : Sink W} (p : ℕ)
     (item : HasItem (events_in plan.given) p) (free : get_or places (number_of_event plan p) 0 ≡ 0)
-    (v : ℕ) (is : (n : ℕ) → HasPut sink n → n < 2 ^ 64 → v ≡ n) (answer : Answer)
-    → ((t : Tree) → OccursAt (events_in plan.given) t p
-    → PutsBytes contents sink (form plan.width (object_of (number_of_event plan) t p)) answer new)
-    → PutsAt plan contents p (places, sink) answer (set places (number_of_event plan p) v, new)
-puts_first {plan} r {places = places} p item free v is answer put = record {
-  long = length-set places (number_of_event plan p) v;
-  step = λ start none a. (
-    put_next r a none p item free v is put,
-    put_kept r a none p item free v is,
-    on_ok answer (λ again. put_placed r a none p item free v is),
-  );
-}
+    (v : ℕ) (is : (n : ℕ) → HasPut sink n → n < 2 ^ 64 → v ≡ n) where
+  -- the offset of an event's object is stored, and the object is put
+  pub puts_first : (answer : Answer) {new : Sink W} → PutsObject plan contents p sink answer new
+      → PutsObjects plan contents (p ∷ []) (places, sink) answer (set places (number_of_event plan p) v, new)
+  puts_first answer put = record {
+    long = length-set places (number_of_event plan p) v;
+    step = λ start none a. (
+      put_next r a none p item free v is put,
+      put_kept r a none p item free v is,
+      on_ok answer (λ done. (put_placed r a none p item free v is, tt)) (any_ok answer),
+    );
+  }
 
--- the objects of two events are put, one after the other
-module _ {plan : FilePlan} {W : Type 0} {contents : W → Option (List ℕ)}
-    {p q : ℕ} {a b c : List ℕ × Sink W} where
-  pub puts_both : (answer : Answer) → PutsAt plan contents p a (Ok tt) b
-      → PutsAt plan contents q b answer c → PutsAt plan contents p a answer c
-  puts_both answer one two = record {
-    long = two.long ∙ one.long;
+  -- the offset of an event's object is stored, and nothing is put
+  pub lacks_first : {same : Sink W} → PutsNothing sink same
+      → LacksObject plan contents p (places, sink) (set places (number_of_event plan p) v, same)
+  lacks_first n answer after put = puts_first answer (λ t o. puts_after n (put t o))
+
+module _ {plan : FilePlan} {W : Type 0} {contents : W → Option (List ℕ)} {one : List ℕ}
+    {a b : List ℕ × Sink W} where
+  -- a write fails before all objects are put
+  pub puts_part : {fault : Fault} (two : List ℕ) → PutsObjects plan contents one a (Err fault) b
+      → PutsObjects plan contents two a (Err fault) b
+  puts_part two p = record {
+    long = p.long;
+    step = λ start none put. let some = p.step start none put in (some.0, some.1, tt);
+  }
+
+  -- objects are put in two steps
+  pub puts_both : {two : List ℕ} {c : List ℕ × Sink W} (answer : Answer)
+      → PutsObjects plan contents one a (Ok tt) b → PutsObjects plan contents two b answer c
+      → PutsObjects plan contents (one ++ two) a answer c
+  puts_both {two} answer p q = record {
+    long = q.long ∙ p.long;
     step = λ start none put.
-        let first = one.step start none put in
-        let second = two.step start none first.0 in (
+        let first = p.step start none put in
+        let second = q.step start none first.0 in (
           second.0,
-          λ k n. second.1 k (first.1 k n),
-          on_ok answer (λ item. second.1 _ (first.2 item)),
+          λ k some. second.1 k (first.1 k some),
+          on_ok answer
+              (all_both _ one two (all_from _ _ (λ k has. second.1 _ has) one first.2)) second.2,
         );
   }
 
--- nothing is put, and then the object of an event is
-pub puts_at_after : {plan : FilePlan} {W : Type 0} {contents : W → Option (List ℕ)} {p : ℕ}
-    {places still : List ℕ} {sink same : Sink W} {answer : Answer} {new : List ℕ × Sink W}
-    → PutsNothing sink same × (still ≡ places) → PutsAt plan contents p (still, same) answer new
-    → PutsAt plan contents p (places, sink) answer new
-puts_at_after {plan} {contents = contents} {places} {same = same} n one = record {
-  long = one.long ∙ ap length n.1;
-  step = λ start none a.
-      let b : ArePut plan contents start places (Ok tt) same = record {
-        objects = a.objects;
-        described = a.described;
-        order = a.order;
-        layout = a.layout;
-        put = puts_as (append-nil _) (puts_then a.put (puts_after n.0 puts_none));
-      } in
-      let after = one.step start none (subst (λ l. ArePut plan contents start l (Ok tt) same) (sym n.1) b) in
-      (after.0, λ k some. after.1 k (λ none. some (ap (λ l. get_or l k 0) (sym n.1) ∙ none)), after.2);
+-- equal lists of indices are of the same events
+pub puts_same : {plan : FilePlan} {W : Type 0} {contents : W → Option (List ℕ)}
+    {a b : List ℕ × Sink W} {one two : List ℕ} {answer : Answer} → one ≡ two
+    → PutsObjects plan contents one a answer b → PutsObjects plan contents two a answer b
+puts_same {plan} {contents = contents} {a} {b} {answer = answer} e p =
+    subst (λ all. PutsObjects plan contents all a answer b) e p
+
+-- the objects of the first of these events are put
+pub puts_some : {plan : FilePlan} {W : Type 0} {contents : W → Option (List ℕ)}
+    {a b : List ℕ × Sink W} (one two : List ℕ) (answer : Answer)
+    → PutsObjects plan contents (one ++ two) a answer b → PutsObjects plan contents one a answer b
+puts_some one two answer p = record {
+  long = p.long;
+  step = λ start none put.
+      let all = p.step start none put in
+      (all.0, all.1, on_ok answer (all_left _ one two) all.2);
 }
+
+-- the objects of these events were put before
+pub puts_before : {plan : FilePlan} {W : Type 0} {contents : W → Option (List ℕ)}
+    {indices : List ℕ} {a : List ℕ × Sink W} → AllByRecursion (HasOffset plan a.0) indices
+    → PutsObjects plan contents indices a (Ok tt) a
+puts_before all = record { long = refl; step = λ start none put. (put, λ k some. some, all) }

@@ -1,7 +1,6 @@
 -- The objects of trees by their indices: their forms, their sizes, and that they can be written.
-use Rattle.std.proofs.Common.{◌≡◌, ◌⊎◌, inl, inr, ℕ, ◌+◌, ◌*◌, ◌^◌, ◌<◌, ◌≤◌, false, List, ◌∷◌, length, flat_map, map, Option, None, Some, SomeIff, refl, ap, subst, ◌∙◌, arith, length-append}
+use Rattle.std.proofs.Common.{◌≡◌, ◌⊎◌, ℕ, ◌+◌, ◌*◌, ◌^◌, ◌<◌, ◌≤◌, false, List, ◌∷◌, length, flat_map, map, refl, ap, subst, ◌∙◌, arith, length-append}
 use Rattle.std.proofs.lemmas.List.{length-map}
-use Rattle.std.proofs.lemmas.Bool.{cases_lt}
 use Rattle.plist_base.specs.Events.{PlainEvent, EndCollection, ScalarEvent, StartArray, StartDictionary, shape_of}
 use Rattle.plist_base.specs.Trees.{number_of_trees, number_of_members, Scalar, String, Tree, Leaf, Array, Dictionary, Trees, NoTrees, TreeAnd, Members, NoMembers, MemberAnd}
 use Rattle.plist_base.specs.declared.event.EventShape.{EventShape}
@@ -18,7 +17,7 @@ use Rattle.plist_buffer.specs.declared.children.Half.TheVariants.{Values}
 use Rattle.plist_format.specs.declared.marker.CountedKind.TheVariants as counted
 use Rattle.plist_binwrite.specs.EventClasses.{events_in}
 use Rattle.plist_binwrite.specs.declared.plan.FilePlan.{FilePlan}
-use Rattle.plist_binwrite.specs.declared.size.ObjectSizes.{ObjectSizes}
+use Rattle.plist_binwrite.specs.declared.plan.ObjectSizes.{ObjectSizes}
 use Rattle.plist_binwrite.specs.inner.Layout.{collection_form, number_of_event}
 use Rattle.plist_buffer.specs.inner.Entries.{is_leaf}
 use Rattle.plist_buffer.proofs.TreeOccurrences.{occurs_whole, occurs_items, occurs_pairs, occurs_item, occurs_next, occurs_key, occurs_value, occurs_next_pair}

@@ -15,17 +15,17 @@ use Rattle.plist_buffer.specs.inner.Entries.{entry_at}
 abbrev pub class_of : Classes → EventTable → (index : ℕ) → ℕ
 class_of EqualScalars held index =
     unwrap_or (scalar_named (entry_at held.entries index)) (length (scalars_of held) + index)
-class_of (Listed classes bound) held index = nth_number classes index
+class_of (Listed by_event bound) held index = nth_number by_event index
 
 -- an exclusive upper bound of the classes
 abbrev pub bound_of : Classes → EventTable → ℕ
 bound_of EqualScalars held = length (scalars_of held) + length (plain_events held)
-bound_of (Listed classes bound) held = bound
+bound_of (Listed by_event bound) held = bound
 
 -- if the classes are listed, the list has one for each event
 abbrev pub IsListedFor : Classes → EventTable → Type 0
 IsListedFor EqualScalars held = ⊤
-IsListedFor (Listed classes bound) held = length classes ≡ length (plain_events held)
+IsListedFor (Listed by_event bound) held = length by_event ≡ length (plain_events held)
 
 -- ---- for events with their classes
 

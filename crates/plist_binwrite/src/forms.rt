@@ -3,24 +3,29 @@
 //! The functions put their bytes into a [`Sink`]. If they return an error, it is that of
 //! [`Sink::put`]: `Io`, without an offset. The writer has then received a prefix of all the bytes
 //! that were put.
+//!
+//! For the plan of a file, the lengths of scalars are computed before any byte is put.
 
-ghost use Rattle.std.specs.Prelude.{◌≡◌, ◌≤◌, Ok, true, false};
+ghost use Rattle.std.specs.Prelude.{◌≡◌, ◌≤◌, ◌<◌, ◌+◌, ℕ, Ok, length, true, false};
 ghost use Rattle.plist_base.specs.Trees as trees;
-ghost use Rattle.plist_binwrite.specs.Forms.{length_form, scalar_form, table_form};
+ghost use Rattle.plist_binwrite.specs.Forms.{IsWritableScalar, unsigned_form, length_form, scalar_form, table_form};
+ghost use Rattle.plist_binwrite.specs.inner.ObjectSizes.{IsCapped};
 ghost use Rattle.std.specs.Int.{bytes_high_first};
 ghost use Rattle.plist_buffer.specs.StoredScalars.{scalar_of_ref};
 ghost use Rattle.plist_format.specs.Marker.{high_half};
-ghost use Rattle.plist_base.specs.Sinks.{Puts, PutsBytes, PutsNothing};
+ghost use Rattle.plist_base.specs.Sinks.{Puts, PutsBytes, PutsNothing, room};
 ghost use Rattle.plist_binwrite.specs.Written.{table_and_trailer, trailer_of};
 
 use crate::push::{
     push_boolean, push_date, push_integer, push_length, push_number, push_real, push_uid,
 };
 pub use crate::text::put_text;
-use crate::widths::{offset_width, reference_width};
+use crate::text::{count_units, is_ascii_text};
+use crate::widths::{least_width, offset_width, reference_width};
 use plist_base::{Date, Error, Integer, RealBits, Sink, Uid};
 use plist_buffer::stored_scalar::ScalarRef;
 pub use plist_format::CountedKind;
+use plist_format::LowHalf;
 use std::io::Write;
 
 // The greatest number of bytes in the object of a scalar other than a string or data.
@@ -44,6 +49,7 @@ pub fn try_put_number<W: Write>(sink: &mut Sink<'_, W>, width: usize, number: u6
     ensures put { result ≡ true → PutsBytes W.contents sink.old (bytes_high_first width number)
         (Ok tt) sink.new }
     ensures unchanged { result ≡ false → PutsNothing sink.old sink.new }
+    ensures full { result ≡ false → room sink.old.buffer.now < 8 }
 {
     if sink.room() < 8 {
         return false;
@@ -164,12 +170,84 @@ pub fn put_trailer<W: Write>(sink: &mut Sink<'_, W>, count: usize, table: u64) -
 /// table itself lies at the byte offset `table`.
 pub fn put_table_and_trailer<W: Write>(
     sink: &mut Sink<'_, W>,
-    places: &[u64],
+    offsets: &[u64],
     table: u64,
 ) -> Result<(), Error>
-    ensures { Puts W.contents sink.old (table_and_trailer places.now table) result sink.new }
+    ensures { Puts W.contents sink.old (table_and_trailer offsets.now table) result sink.new }
 {
     let width = offset_width(table);
-    put_numbers(sink, width, places)?;
-    put_trailer(sink, places.len(), table)
+    put_numbers(sink, width, offsets)?;
+    put_trailer(sink, offsets.len(), table)
+}
+
+// Returns the length of an unsigned integer with its marker, in bytes.
+fn length_of_unsigned(number: u64) -> u64
+    ensures value { result ≡ length (unsigned_form number) }
+    ensures small { result ≤ 9 }
+{
+    1 + least_width(number) as u64
+}
+
+/// Returns the length in bytes of a marker with this count, which is in the marker or follows it.
+pub(crate) fn length_of_count(count: u64) -> u64
+    ensures value { (high : ℕ) → result ≡ length (length_form high count) }
+    ensures small { result ≤ 10 }
+{
+    match LowHalf::of_length(count) {
+        Some(_) => 1,
+        None => 1 + length_of_unsigned(count),
+    }
+}
+
+// Returns the length of a marker with this count and of the `count` bytes that follow it, or
+// 2^64 - 1 if it is greater: no file is that long, so it isn't mistaken for a length.
+fn length_of_bytes(count: u64) -> u64
+    ensures value { (high : ℕ) → IsCapped result (length (length_form high count) + count) }
+{
+    count.saturating_add(length_of_count(count))
+}
+
+// Returns the length of a string's object, or 2^64 - 1 if it is greater.
+fn length_of_text(text: &str) -> u64
+    ensures value { IsCapped result (length (scalar_form (trees.String text.now))) }
+    ensures writable { IsWritableScalar (trees.String text.now) }
+{
+    if is_ascii_text(text) {
+        return length_of_bytes(text.len() as u64);
+    }
+    let count = count_units(text) as u64;
+    count
+        .saturating_mul(2)
+        .saturating_add(length_of_count(count))
+}
+
+// Returns the length of an integer's object.
+fn length_of_integer(value: Integer) -> u64
+    ensures value { result ≡ length (scalar_form (trees.Integer value)) }
+    ensures writable { IsWritableScalar (trees.Integer value) }
+{
+    match (value.as_unsigned(), value.as_signed()) {
+        (Some(number), Some(_)) => length_of_unsigned(number),
+        (Some(_), None) => 17,
+        (None, _) => 9,
+    }
+}
+
+/// Returns the length of a scalar's object in bytes, or 2^64 - 1 if it is greater.
+pub(crate) fn length_of_scalar(scalar: ScalarRef<'_>) -> u64
+    ensures value { IsCapped result (length (scalar_form (scalar_of_ref scalar.entry))) }
+    ensures writable { IsWritableScalar (scalar_of_ref scalar.entry) }
+{
+    match scalar {
+        ScalarRef::Boolean(_) => 1,
+        ScalarRef::Data(bytes) => length_of_bytes(bytes.len() as u64),
+        ScalarRef::Date(date) => 1 + date.to_plist_real().len() as u64,
+        ScalarRef::Integer(value) => length_of_integer(value),
+        ScalarRef::Real(bits) => match bits {
+            RealBits::Four(_) => 5,
+            RealBits::Eight(_) => 9,
+        },
+        ScalarRef::String(text) => length_of_text(text),
+        ScalarRef::Uid(uid) => length_of_unsigned(uid.get()),
+    }
 }

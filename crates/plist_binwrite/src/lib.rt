@@ -7,19 +7,16 @@
 
 pub mod classes;
 pub mod forms;
-mod numbering;
-mod objects;
 mod plan;
 mod push;
-pub mod send_file;
+pub mod send;
 mod sharing;
-mod size;
 mod text;
 pub mod widths;
 mod writer;
 
 pub use plist_base::send::send_and_flush;
 pub use plist_buffer::{EventTable, compact_numbers, stored_scalar};
-pub use send_file::{write_file, write_file_by_class};
+pub use send::{write_file, write_file_by_class};
 pub use sharing::{EqualScalars, Sharing};
 pub use writer::{BinaryWriter, FileWriter};

@@ -6,7 +6,7 @@ ghost use Rattle.plist_buffer.specs.EventTable.{plain_events};
 ghost use Rattle.plist_binwrite.specs.Files.{least_files};
 ghost use Rattle.plist_binwrite.specs.SendingAs.{FileKind, SendsAs};
 
-use crate::send_file;
+use crate::send;
 use plist_base::{Error, Sealed};
 use plist_buffer::event_table::EventTable;
 use std::alloc::Global;
@@ -50,6 +50,6 @@ impl Sharing for EqualScalars {
         events: &EventTable<'_>,
         writer: &mut W,
     ) -> Result<(), Error> {
-        send_file::write_file(alloc, events, writer)
+        send::write_file(alloc, events, writer)
     }
 }

@@ -100,6 +100,7 @@ pub fn is_ascii_text(text: &str) -> bool
     greatest < 128
 }
 
+// Puts a string whose bytes are all ASCII.
 fn put_ascii<W: Write>(sink: &mut Sink<'_, W>, text: &str) -> Result<(), Error>
     ensures { Puts W.contents sink.old (length_form 0x5 (length text.now) ++ text.now) result
         sink.new }
@@ -109,6 +110,7 @@ fn put_ascii<W: Write>(sink: &mut Sink<'_, W>, text: &str) -> Result<(), Error>
     sink.put(text.as_bytes())
 }
 
+// Puts a string in UTF-16.
 fn put_wide<W: Write>(sink: &mut Sink<'_, W>, text: &str) -> Result<(), Error>
     ensures { Puts W.contents sink.old (length_form 0x6 (length (units_of text.now))
         ++ table_form 2 (units_of text.now)) result sink.new }

@@ -8,7 +8,7 @@ ghost use Rattle.plist_binwrite.specs.Forms.{least_width, reference_width};
 pub fn least_width(number: u64) -> usize
     ensures value { result ≡ least_width number }
     ensures range { (1 ≤ result) × (result ≤ 8) }
-    ensures holds { number < 256 ^ result }
+    ensures fits { number < 256 ^ result }
 {
     if number < 1 << 8 {
         1
@@ -25,7 +25,7 @@ pub fn least_width(number: u64) -> usize
 pub fn reference_width(count: u64) -> usize
     ensures value { result ≡ reference_width count }
     ensures range { (1 ≤ result) × (result ≤ 8) }
-    ensures holds { count ≤ 256 ^ result }
+    ensures fits { count ≤ 256 ^ result }
 {
     least_width(count.saturating_sub(1))
 }
@@ -35,7 +35,7 @@ pub fn reference_width(count: u64) -> usize
 pub fn offset_width(table: u64) -> usize
     ensures value { result ≡ least_width table }
     ensures range { (1 ≤ result) × (result ≤ 8) }
-    ensures holds { table < 256 ^ result }
+    ensures fits { table < 256 ^ result }
 {
     least_width(table)
 }

@@ -64,7 +64,12 @@ impl<W: Write, S: Sharing> FileWriter<W, S> {
     pub fn into_inner(self) -> W
         ensures inner { result ≡ sink_of self }
     {
-        let FileWriter { writer, .. } = self;
+        let FileWriter {
+            writer,
+            pending,
+            ..
+        } = self;
+        drop(pending);
         writer
     }
 }
@@ -97,6 +102,7 @@ impl<W: Write, S: Sharing> Writer for FileWriter<W, S> {
             }
         }
         if self.pending.is_whole() {
+            // Set first, so that the writer has failed if `?` returns early.
             self.has_failed = true;
             S::write_file(self.alloc, self.pending.events(), &mut self.writer)?;
             self.pending.clear();

@@ -24,7 +24,10 @@ impl Sharing for EqualTrees {
         writer: &mut W,
     ) -> Result<(), Error> {
         let found = tree_classes(alloc, events)?;
-        let classes = Classes::Listed(found.of, found.count);
+        let classes = Classes::Listed {
+            by_event: found.of,
+            bound: found.count,
+        };
         let given = Classed {
             events,
             classes: &classes,

@@ -1,6 +1,6 @@
 -- A planned file, the order of its objects, and their offsets.
-use Rattle.std.specs.Prelude.{◌≡◌, ◌≢◌, ℕ, ◌+◌, ◌*◌, ◌^◌, ◌<◌, ◌≤◌, true, false, eqb, List, ◌++◌, length, slice_index, map, Option, Ok, OnOk}
-use Rattle.std.specs.List.{list_any, IsDistinct}
+use Rattle.std.specs.Prelude.{◌≡◌, ◌≢◌, ℕ, ◌+◌, ◌*◌, ◌^◌, ◌<◌, ◌≤◌, true, false, eqb, List, [], ◌∷◌, ◌++◌, length, slice_index, map, Option, Ok, OnOk}
+use Rattle.std.specs.List.{list_any, AllByRecursion, IsDistinct}
 use Rattle.std.specs.Str.{IsUtf8}
 use Rattle.plist_base.specs.Bracketing.{lengthless}
 use Rattle.plist_base.specs.Sinks.{HasPut, PutsBytes, buffered, room}
@@ -10,7 +10,7 @@ use Rattle.plist_base.specs.Writing.{Answer}
 use Rattle.plist_base.specs.declared.sink.Sink.{Sink}
 use Rattle.plist_format.specs.Object.{Object}
 use Rattle.plist_buffer.specs.Children.{half_of}
-use Rattle.plist_buffer.specs.EventTable.{HasItem}
+use Rattle.plist_buffer.specs.Occurrences.{OccursAt}
 use Rattle.plist_buffer.specs.declared.children.Half.{Half}
 use Rattle.plist_buffer.specs.declared.children.Half.TheVariants.{Keys, Values}
 use Rattle.plist_format.specs.Marker.{high_half}
@@ -18,7 +18,7 @@ use Rattle.plist_format.specs.declared.marker.CountedKind.{CountedKind}
 use Rattle.plist_binwrite.specs.Classes.{size_by}
 use Rattle.plist_binwrite.specs.EventClasses.{events_in, class_in}
 use Rattle.plist_binwrite.specs.Forms.{IsWritable, form, length_form, reference_width, table_form, units_of}
-use Rattle.plist_binwrite.specs.Numberings.{Describes}
+use Rattle.plist_binwrite.specs.Numberings.{Describes, object_of}
 use Rattle.plist_binwrite.specs.Written.{Laid, file_with, laid_out}
 use Rattle.plist_binwrite.specs.declared.plan.FilePlan.{FilePlan}
 use Rattle.plist_binwrite.specs.inner.Numbering.{IsNumberingOfEvents, object_number}
@@ -83,12 +83,12 @@ module _ (plan : FilePlan) where
     pub fewer : room new.0 + plan.width * length front ≡ room old.0
 
   -- the object of the event at this index has an offset
-  abbrev pub HasPlace : (places : List ℕ) → (index : ℕ) → Type 0
-  HasPlace places index = slice_index places (number_of_event index) ≢ 0
+  abbrev pub HasOffset : (places : List ℕ) → (index : ℕ) → Type 0
+  HasOffset places index = slice_index places (number_of_event index) ≢ 0
 
   -- each object that had an offset has one
-  abbrev pub KeepsPlaces : (old new : List ℕ) → Type 0
-  KeepsPlaces old new = (k : ℕ) → slice_index old k ≢ 0 → slice_index new k ≢ 0
+  abbrev pub KeepsOffsets : (old new : List ℕ) → Type 0
+  KeepsOffsets old new = (k : ℕ) → slice_index old k ≢ 0 → slice_index new k ≢ 0
 
   -- the objects lie back to back in this order, and have these offsets
   pub record IsLayout (objects : ℕ → Object) (order places : List ℕ) : Type 0 where
@@ -114,11 +114,25 @@ module _ (plan : FilePlan) where
       pub all : (k : ℕ) → k < plan.numbering.count → list_any (eqb k) order ≡ true
       pub put : PutsBytes contents start (file_with plan.width objects places order) answer sink
 
-  -- more objects may be put, and then that of the event at an index has an offset, unless the event
-  -- is an end; `old` and `new` are the offsets and the sink before and after
-  pub record PutsAt {W : Type 0} (contents : W → Option (List ℕ)) (index : ℕ) (old : List ℕ × Sink W)
-      (answer : Answer) (new : List ℕ × Sink W) : Type 0 where
+  -- a call puts the object of the tree that begins at an index, with this result
+  abbrev pub PutsObject : {W : Type 0} (contents : W → Option (List ℕ)) (index : ℕ) (old : Sink W)
+      (answer : Answer) (new : Sink W) → Type 0
+  PutsObject contents index old answer new =
+      (tree : Tree) → OccursAt (events_in plan.given) tree index → PutsBytes contents old
+      (form plan.width (object_of number_of_event tree index)) answer new
+
+  -- the objects of the events at these indices, and maybe others, are put, unless they were put
+  -- before; `old` and `new` are the offsets and the sink before and after
+  pub record PutsObjects {W : Type 0} (contents : W → Option (List ℕ)) (indices : List ℕ)
+      (old : List ℕ × Sink W) (answer : Answer) (new : List ℕ × Sink W) : Type 0 where
     pub long : length new.0 ≡ length old.0
     pub step : (start : Sink W) → HasPut start 0 → ArePut contents start old.0 (Ok tt) old.1
-        → ArePut contents start new.0 answer new.1 × KeepsPlaces old.0 new.0
-        × OnOk answer (HasItem (events_in plan.given) index → HasPlace new.0 index)
+        → ArePut contents start new.0 answer new.1 × KeepsOffsets old.0 new.0
+        × OnOk answer (AllByRecursion (HasOffset new.0) indices)
+
+  -- only the object of the event at an index, whose offset is stored, still has to be put
+  abbrev pub LacksObject : {W : Type 0} (contents : W → Option (List ℕ)) (index : ℕ)
+      (old new : List ℕ × Sink W) → Type 0
+  LacksObject {W} contents index old new = (answer : Answer) (after : Sink W)
+      → PutsObject contents index new.1 answer after
+      → PutsObjects contents (index ∷ []) old answer (new.0, after)

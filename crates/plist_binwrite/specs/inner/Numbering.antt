@@ -7,7 +7,7 @@ use Rattle.plist_buffer.specs.EventTable.{HasItem, IsBracketed}
 use Rattle.plist_binwrite.specs.Classes.{AreClasses}
 use Rattle.plist_binwrite.specs.EventClasses.{IsListed, class_in, events_in}
 use Rattle.plist_binwrite.specs.declared.classes.Classed.{Classed}
-use Rattle.plist_binwrite.specs.declared.numbering.Numbering.{Numbering}
+use Rattle.plist_binwrite.specs.declared.plan.Numbering.{Numbering}
 use Rattle.plist_binwrite.specs.inner.ObjectSizes.{AreSizesOf}
 
 -- 1 more than the number of an event's object, or 0 if that has no number yet

@@ -7,7 +7,7 @@ use Rattle.plist_buffer.specs.Children.{half_of}
 use Rattle.plist_buffer.specs.EventTable.{event_at}
 use Rattle.plist_buffer.specs.declared.children.Half.TheVariants.{Values}
 use Rattle.plist_binwrite.specs.Forms.{IsWritableScalar, length_form, scalar_form}
-use Rattle.plist_binwrite.specs.declared.size.ObjectSizes.{ObjectSizes}
+use Rattle.plist_binwrite.specs.declared.plan.ObjectSizes.{ObjectSizes}
 
 -- the number of bytes of an event's object, without the references; a collection has `count` items
 -- or pairs

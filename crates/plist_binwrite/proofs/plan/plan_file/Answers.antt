@@ -17,19 +17,20 @@ few given =
     let held = given.events.now in
     omega (arith, long_shown (scalars_of held) held.entries, held.few)
 
-pub returns-then-has_size-clause-plan : goal.returns-then-has_size-clause-plan
-returns-then-has_size-clause-plan c =
+pub returns-in-Some-clause-plan : goal.returns-in-Some-clause-plan
+returns-in-Some-clause-plan c =
     let wide = c.reference_width-width.ensures in (
       plan_made c.in_ok-numbering.ensures c.with_width-objects.result
           (rw wide.value at c.with_width-objects.ensures) c.reference_width-width.result wide.value
-          wide.range.1 wide.holds (few c.args.given) (c.has_size.ensures.fits c.if-has_size.true),
+          wide.range.1 wide.fits (few c.args.given)
+          (λ size capped. omega (arith, c.in-Some.ensures.size size capped, c.in-Some.ensures.fits)),
       refl,
     )
 
-pub returns-clause-refused : goal.returns-clause-refused
-returns-clause-refused c = inr (
+pub returns-in-None-clause-refused : goal.returns-in-None-clause-refused
+returns-in-None-clause-refused c = inr (
   c.without_position.ensures.fault,
   oversized c.in_ok-numbering.ensures c.with_width-objects.result
       (rw c.reference_width-width.ensures.value at c.with_width-objects.ensures) c.requires.whole
-      (c.has_size.ensures.oversized c.if-has_size.false),
+      c.in-None.ensures.size,
 )

@@ -1,0 +1,68 @@
+use Rattle.std.proofs.Common.{◌-◌, ◌∙◌, ap, arith, below_more, subst}
+use Rattle.std.specs.List.{AllByRecursion}
+use Rattle.plist_binwrite.specs.EventClasses.{events_in}
+use Rattle.plist_binwrite.specs.inner.Numbering.{IsNumbered}
+use Rattle.plist_buffer.proofs.ChildIndices.{keys_are_in, values_are_in}
+use Rattle.plist_buffer.proofs.TreePositions.{positions_all, positions_have}
+use Rattle.plist_buffer.proofs.TreeOccurrences.{occurs_whole}
+use Rattle.plist_binwrite.proofs.NumberingSteps.{plan_none, sizes_none, still_numbered}
+use Rattle.plist_buffer.proofs.TreeStarts.{begins, occurs_in}
+use Rattle.plist_buffer.proofs.Uniques.{all_from, all_left, all_right}
+use Rattle.plist_binwrite.proofs.plan.number_objects.Goals as goal
+
+pub number_one-requires-clause-so_far : goal.number_one-requires-clause-so_far
+number_one-requires-clause-so_far c = record {
+  listed = c.requires.classed.listed;
+  plan = rw c.in_ok-by_class.ensures.zeros (plan_none _ c.bound_of_items.ensures);
+  sizes = sizes_none c.none.ensures;
+}
+
+pub number_one-requires-clause-item : goal.number_one-requires-clause-item
+number_one-requires-clause-item c =
+    let root = occurs_whole c.requires.whole.1 in (occurs_in root, begins _ 0 root)
+
+pub loop-index-init : goal.loop-index-init
+loop-index-init c =
+    let one = c.in_ok-number_one.ensures in
+    record {
+      so_far = one.numbers.so_far;
+      numbered = one.numbers.numbered.0;
+      root = one.first (omega arith);
+      children = λ p lt. absurd (omega (arith, lt));
+    }
+
+pub loop-index-preserved : goal.loop-index-preserved
+loop-index-preserved c =
+    let i = c.loop-index.invariant in
+    let one = c.in_ok-number_children.ensures in
+    record {
+      so_far = one.so_far;
+      numbered = still_numbered one 0 i.numbered;
+      root = ap (λ k. k - 1) (one.keeps 0 i.numbered) ∙ i.root;
+      children = below_more _ _ (λ p lt. all_from _ _ (still_numbered one) _ (i.children p lt))
+          one.numbered;
+    }
+
+pub returns : goal.returns
+returns c =
+    let (t, e) = c.requires.whole in
+    let i = c.loop-index.invariant in
+    let given = c.args.given.now in
+    let one = IsNumbered given c.loop-index.numbering in
+    let es = events_in given in
+    record {
+      listed = i.so_far.listed;
+      planned = record {
+        whole = c.requires.whole;
+        classes = c.requires.classed.objects;
+        numbered = i.so_far.plan;
+        all = λ p item. positions_all es one t e (positions_have es one
+            (λ u r s. let o = i.children r (omega (arith, occurs_in s)) in (
+              subst (AllByRecursion one) (keys_are_in _ u r s) (all_left one _ _ o),
+              subst (AllByRecursion one) (values_are_in _ u r s) (all_right one _ _ o),
+            ))
+            t 0 (occurs_whole e) i.numbered) p item.0 item.1;
+        root = i.root;
+      };
+      sizes = i.so_far.sizes;
+    }

@@ -1,0 +1,64 @@
+use Rattle.std.proofs.Common.{◌≡◌, Err, Ok, sym, subst, ◌∙◌}
+use Rattle.std.proofs.lemmas.Result.{err_from_is_err_and}
+use Rattle.std.specs.List.{AllByRecursion}
+use Rattle.plist_buffer.specs.Children.{half_of, indices_left}
+use Rattle.plist_binwrite.specs.EventClasses.{events_in}
+use Rattle.plist_buffer.specs.EventTable.{HasItem}
+use Rattle.plist_buffer.specs.declared.children.Half.TheVariants.{Keys}
+use Rattle.plist_buffer.proofs.ChildIndices.{are_items}
+use Rattle.plist_binwrite.proofs.PuttingObjects.{puts_same, puts_before, puts_both, puts_part}
+use Rattle.plist_binwrite.proofs.send.put_keys.Goals as goal
+use Rattle.plist_binwrite.proofs.send.put_keys.Goals.{After-into_iter-key-iterator as Begun}
+
+begun : (g : _) (c : Begun g) → indices_left c.into_iter-key-iterator.result
+    ≡ half_of (events_in c.args.plan.now.given) Keys c.args.index
+begun g c = cc (c.into_iter-key-iterator.ensures.into_iter_gives, c.new-key-items.ensures)
+
+pub loop-key-init : goal.loop-key-init
+loop-key-init g c = record {
+  long = c.requires.long;
+  rest = λ answer after all. all;
+  items = subst (AllByRecursion (HasItem _))
+      (sym (begun g (goal.at.loop-key-init g c).After-into_iter-key-iterator))
+      (are_items _ Keys c.args.index);
+}
+
+pub loop-key-preserved : goal.loop-key-preserved
+loop-key-preserved g c =
+    let i = c.loop-key.invariant in
+    let one = c.begin_object.ensures.put c.if-begin_object.false in
+    let next = c.in-Some.ensures.steps in
+    record {
+      long = one.long ∙ i.long;
+      rest = λ answer after more.
+          i.rest answer after (puts_same (sym next) (puts_both answer one more));
+      items = (subst (AllByRecursion (HasItem _)) next i.items).1;
+    }
+
+pub loop-key-preserved-in-Continue-1 : goal.loop-key-preserved-in-Continue-1
+loop-key-preserved-in-Continue-1 g c =
+    let i = c.loop-key.invariant in
+    let one = c.begin_object.ensures.begun c.if-begin_object.true (Ok tt) _
+    c.in_ok-put_object.ensures in
+    let next = c.in-Some.ensures.steps in
+    record {
+      long = one.long ∙ i.long;
+      rest = λ answer after more.
+          i.rest answer after (puts_same (sym next) (puts_both answer one more));
+      items = (subst (AllByRecursion (HasItem _)) next i.items).1;
+    }
+
+pub returns-in_err-put_object : goal.returns-in_err-put_object
+returns-in_err-put_object g c =
+    let p = err_from_is_err_and c.from_residual.result c.from_residual.ensures.1 in
+    rw (p.1, p.2)
+    (puts_same (begun g (goal.at.returns-in_err-put_object g c).After-into_iter-key-iterator)
+    (c.loop-key.invariant.rest (Err _) _
+    (puts_part _
+    (c.begin_object.ensures.begun c.if-begin_object.true (Err _) _ c.in_err-put_object.ensures))))
+
+pub returns : goal.returns
+returns g c =
+    puts_same (begun g (goal.at.returns g c).After-into_iter-key-iterator)
+    (c.loop-key.invariant.rest (Ok tt) _
+    (puts_same (sym c.in-None.ensures.steps.0) (puts_before tt)))

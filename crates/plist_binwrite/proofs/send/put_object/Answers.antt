@@ -1,0 +1,25 @@
+use Rattle.std.proofs.Common.{refl}
+use Rattle.plist_base.proofs.SinkSteps.{puts_as}
+use Rattle.plist_binwrite.proofs.TreeObjects.{array_is, dictionary_is, of_array, of_dictionary, of_nothing, scalar_there}
+use Rattle.plist_binwrite.specs.inner.Layout.{number_of_event}
+use Rattle.plist_binwrite.proofs.send.put_object.Goals as goal
+
+pub returns-in-StartArray : goal.returns-in-StartArray
+returns-in-StartArray g c =
+    of_array c.kind_at.ensures _ c.in-StartArray.is
+    (λ ts s. puts_as (array_is c.args.plan.now s) c.put_collection.ensures)
+
+pub returns-in-StartDictionary : goal.returns-in-StartDictionary
+returns-in-StartDictionary g c =
+    of_dictionary c.kind_at.ensures _ c.in-StartDictionary.is
+    (λ ms s. puts_as (dictionary_is c.args.plan.now s) c.put_collection-in-StartDictionary.ensures)
+
+pub returns-in-Some : goal.returns-in-Some
+returns-in-Some g c = λ tree s.
+    let plan = c.args.plan.now in
+    puts_as (scalar_there (number_of_event plan) plan.width _ c.in-Some.ensures.some tree s)
+    c.put_scalar.ensures
+
+pub returns-in-None : goal.returns-in-None
+returns-in-None g c =
+    of_nothing c.kind_at.ensures _ c.in-Scalar.is (c.in-None.ensures.none refl)
