@@ -1,9 +1,10 @@
 //! Values in files.
 
-ghost use Rattle.std.specs.Prelude.{IfOk, IsNone, IsSome, OnOk, false, true};
+ghost use Rattle.std.specs.Prelude.{◌≡◌, IfOk, IsNone, IsSome, OnOk, false, true};
 ghost use Rattle.std.specs.Io.{WritesAtMost};
-ghost use Rattle.std.specs.Io.KnownBytes.{WriteAppends};
+ghost use Rattle.std.specs.Io.KnownBytes.{Keeps, WriteAppends};
 ghost use Rattle.plist_base.specs.Outcomes.{IfFault, OnlyDevice};
+ghost use Rattle.plist_base.specs.Seeking.{failures_of};
 ghost use Rattle.plist.specs.Collecting.{built_tree};
 ghost use Rattle.plist.specs.LimitedValues.{IsWithinLimits};
 ghost use Rattle.plist.specs.Outputs.{WritesFirst, contents_of};
@@ -40,7 +41,8 @@ impl<'a, R: Files> Write for LazyFile<'a, R> {
             (contents_of R.File.contents self.new.file) result buf.now }
         ensures first { IsNone self.old.file
             → WritesFirst R.File.contents result buf.now self.new.file }
-        ensures kept { OnOk result (IsSome self.new.file) }
+        ensures opened { OnOk result (IsSome self.new.file) }
+        ensures kept { IsSome self.old.file → IsSome self.new.file }
     {
         match &mut self.file {
             Some(file) => file.write(buf),
@@ -53,7 +55,12 @@ impl<'a, R: Files> Write for LazyFile<'a, R> {
         }
     }
 
-    fn flush(&mut self) -> io::Result<()> {
+    fn flush(&mut self) -> io::Result<()>
+        ensures bytes { Keeps (contents_of R.File.contents self.old.file)
+            (contents_of R.File.contents self.new.file) }
+        ensures kept { IsSome self.old.file → IsSome self.new.file }
+        ensures none { IsNone self.old.file → IsNone self.new.file }
+    {
         match &mut self.file {
             Some(file) => file.flush(),
             None => Ok(()),
@@ -63,8 +70,8 @@ impl<'a, R: Files> Write for LazyFile<'a, R> {
 
 // Returns whether a sync failed with this kind of error because the file is a pipe or a terminal,
 // which can't be synced.
-fn is_without_store<F: OpenFile>(file: &F, kind: io::ErrorKind) -> bool {
-    kind == io::ErrorKind::InvalidInput && file.metadata().is_ok_and(|it| !it.is_file())
+fn cannot_be_synced<F: OpenFile>(file: &F, kind: io::ErrorKind) -> bool {
+    kind == io::ErrorKind::InvalidInput && file.metadata().is_ok_and(|metadata| !metadata.is_file())
 }
 
 impl<'a, R: Files> LazyFile<'a, R> {
@@ -79,8 +86,9 @@ impl<'a, R: Files> LazyFile<'a, R> {
         }
     }
 
-    /// Syncs the file, so that the system stores what was written. Pipes and terminals store
-    /// nothing, and their sync succeeds.
+    /// Syncs the file, so that the system stores what was written. If nothing was written, no file
+    /// is open, and the call returns `Ok`. Pipes and terminals store nothing, and their sync
+    /// succeeds.
     ///
     /// # Errors
     ///
@@ -93,7 +101,7 @@ impl<'a, R: Files> LazyFile<'a, R> {
         };
         match file.sync_all() {
             Ok(()) => Ok(()),
-            Err(failure) if is_without_store(file, failure.kind()) => Ok(()),
+            Err(failure) if cannot_be_synced(file, failure.kind()) => Ok(()),
             Err(failure) => Err(ErrorKind::Io(failure).without_position()),
         }
     }
@@ -111,6 +119,17 @@ impl<'a, R: Files> LazyFile<'a, R> {
     {
         value.to_writer_binary(alloc, self)?;
         self.sync()
+    }
+}
+
+// Opens the file of this name, and reads it in windows of 8 KiB.
+fn open_source<R: Files>(rt: &R, alloc: Global, path: &str) -> Result<Seeking<R::File>, Error>
+    ensures failures { IfOk result (λ source. failures_of source ≡ 0) }
+    ensures refused { OnlyDevice result }
+{
+    match fs::open(rt, path) {
+        Ok(file) => Ok(Seeking::with_windows(alloc, file)),
+        Err(failure) => Err(ErrorKind::Io(failure).without_position()),
     }
 }
 
@@ -145,13 +164,8 @@ impl Value {
         ensures read { IsReadFromFile R.File dialect (built_tree result) }
         ensures fault { IfFault result (IsFileFault false) }
     {
-        match fs::open(rt, path) {
-            Ok(file) => {
-                let source = Seeking::with_windows(alloc, file);
-                Value::from_reader_with_dialect(alloc, source, dialect)
-            }
-            Err(failure) => Err(ErrorKind::Io(failure).without_position()),
-        }
+        let source = open_source(rt, alloc, path)?;
+        Value::from_reader_with_dialect(alloc, source, dialect)
     }
 
     /// Like [`Value::from_file`], but fails once a limit is exceeded. The value nests at most
@@ -171,13 +185,8 @@ impl Value {
         ensures fault { IfFault result (IsFileFault true) }
         ensures within { IfOk (built_tree result) (IsWithinLimits limits) }
     {
-        match fs::open(rt, path) {
-            Ok(file) => {
-                let source = Seeking::with_windows(alloc, file);
-                Value::from_reader_with_limits(alloc, source, limits)
-            }
-            Err(failure) => Err(ErrorKind::Io(failure).without_position()),
-        }
+        let source = open_source(rt, alloc, path)?;
+        Value::from_reader_with_limits(alloc, source, limits)
     }
 
     /// Writes the value as a binary property list to the file of this name, and syncs the file. If

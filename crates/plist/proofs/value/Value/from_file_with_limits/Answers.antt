@@ -1,9 +1,9 @@
 use Rattle.std.proofs.Common.{inr}
 use Rattle.plist.proofs.value.Value.from_file_with_limits.Goals as goal
 
-pub returns-in-Ok-clause-read : goal.returns-in-Ok-clause-read
-returns-in-Ok-clause-read g c = inr (
-  c.with_windows-source.result,
-  c.with_windows-source.ensures.failures,
+pub returns-clause-read : goal.returns-clause-read
+returns-clause-read g c = inr (
+  c.in_ok-source.source,
+  c.in_ok-source.ensures.failures,
   c.from_reader_with_limits.ensures.read,
 )
