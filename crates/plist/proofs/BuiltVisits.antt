@@ -1,5 +1,5 @@
 -- A value that is built from the events of a visit.
-use Rattle.std.proofs.Common.{◌≡◌, inl, inr, List, [], ◌∷◌, ◌++◌, Option, None, Some, Result, Ok, Err, map, refl, sym, ap, subst, IfOk, IfErr}
+use Rattle.std.proofs.Common.{◌≡◌, inl, inr, List, [], ◌∷◌, ◌++◌, Option, None, Some, Result, Ok, Err, map, refl, sym, ap, ◌∙◌, subst, IfOk, IfErr}
 use Rattle.std.proofs.iter.Next as it
 use Rattle.std.proofs.lemmas.Option.{none-some, same_Some}
 use Rattle.std.specs.Iterator.{Yields}
@@ -17,7 +17,7 @@ use Rattle.plist.specs.declared.collect.ValueVisitor.{ValueVisitor}
 use Rattle.plist.specs.declared.value.Value.{Value}
 use Rattle.plist.specs.Builder.{built_of}
 use Rattle.plist.specs.Building.{IsUnfinished, complete_tree, nothing_built}
-use Rattle.plist.specs.Collecting.{Collects, CollectsTo, IsBuiltFrom, built_tree, item_by}
+use Rattle.plist.specs.Collecting.{Collects, CollectsTo, IsBuiltFrom, RefusesOne, built_tree, item_by}
 use Rattle.plist.specs.ValueTrees.{tree_of}
 use Rattle.plist.specs.ValueVisits.{BuildsEvent}
 use Rattle.plist.proofs.BuilderItems.{TookAll, finished, refused-last, seen-more, took-more, took-none}
@@ -32,6 +32,7 @@ module _ {I : Type 0} (yields : I → PlainItem → I → Type 0) where
     pub taken : List (Result PlainEvent Error)
     pub gave : Yields yields first taken now.0
     pub holds : TookAll (map see taken) (built_of now.1.builder)
+    pub fine : now.1.result ≡ Ok tt
 
   -- one more event is taken
   taken_next : (first : I) (now new : I × ValueVisitor) (event : PlainEvent) → HasTaken first now
@@ -41,30 +42,35 @@ module _ {I : Type 0} (yields : I → PlainItem → I → Type 0) where
     gave = it.Yields-more yields first here.taken now.0 (Ok event) new.0 here.gave one.given;
     holds = seen-more see here.taken (Ok event) (λ xs. TookAll xs (built_of new.1.builder))
         (took-more (map see here.taken) (Ok event) (built_of now.1.builder) (built_of new.1.builder)
-        here.holds one.taken);
+        here.holds one.taken.0);
+    fine = one.taken.1 ∙ here.fine;
   }
 
   -- all events that were handed over were taken
   taken_all : (old left : I × ValueVisitor) (events : List PlainEvent)
-      → built_of old.1.builder ≡ nothing_built → HandsOverAll yields BuildsEvent old events left
-      → HasTaken old.0 left
-  taken_all old left events empty handed = kept_all yields BuildsEvent (HasTaken old.0)
+      → built_of old.1.builder ≡ nothing_built → old.1.result ≡ Ok tt
+      → HandsOverAll yields BuildsEvent old events left → HasTaken old.0 left
+  taken_all old left events empty fine handed = kept_all yields BuildsEvent (HasTaken old.0)
       (λ now new event here one. taken_next old.0 now new event here one) old left events
       (record {
         taken = [];
         gave = refl;
         holds = took-none (built_of old.1.builder) empty;
+        fine = fine;
       }) handed
 
-  module _ (old new : I × ValueVisitor) (empty : built_of old.1.builder ≡ nothing_built) where
-    -- the result of the builder after the last event
-    pub collected_end : (value : Result Value Error) (visited : Visited) → visited ≡ Ended
-        → Visits yields BuildsEvent old (Ok visited) new → IfOk value (λ v. complete_tree (built_of new.1.builder).unfinished ≡ Some (tree_of v))
+  module _ (old new : I × ValueVisitor) (empty : built_of old.1.builder ≡ nothing_built)
+      (fine : old.1.result ≡ Ok tt) where
+    -- if the builder rejected no event, the result is that of the builder after the last event
+    pub collected_end : (value : Result Value Error) (visited : Visited)
+        → Visits yields BuildsEvent old (Ok visited) new → new.1.result ≡ Ok tt
+        → IfOk value (λ v. complete_tree (built_of new.1.builder).unfinished ≡ Some (tree_of v))
         → IfErr value (λ error. IsUnfinished (built_of new.1.builder) (fault_of error))
         → CollectsTo (λ (event : PlainEvent). event) yields old.0 (built_tree value) new.0
-    collected_end value visited is ends complete unfinished =
-        let visit = subst (λ v. Visits yields BuildsEvent old (Ok v) new) is ends in
-        let all = taken_all old visit.left visit.events empty visit.handed in (
+    collected_end value Stopped visit works complete unfinished =
+        let rejected = visit.ended.1.taken.1 in absurd (cc (rejected, works))
+    collected_end value Ended visit works complete unfinished =
+        let all = taken_all old visit.left visit.events empty fine visit.handed in (
           all.taken,
           visit.left.0,
           all.gave,
@@ -74,30 +80,36 @@ module _ {I : Type 0} (yields : I → PlainItem → I → Type 0) where
               (sym visit.ended.1) all.holds) complete unfinished,
         )
 
-    -- the builder rejected the last event
-    pub collected_stop : (visited : Visited) → visited ≡ Stopped
-        → Visits yields BuildsEvent old (Ok visited) new
-        → CollectsTo (λ (event : PlainEvent). event) yields old.0 (Err (fault_of new.1.refusal)) new.0
-    collected_stop visited is stops =
-        let visit = subst (λ v. Visits yields BuildsEvent old (Ok v) new) is stops in
-        let all = taken_all old visit.left visit.events empty visit.handed in
+    -- the builder rejected the last event with this error
+    pub collected_stop : (error : Error) (visited : Visited)
+        → Visits yields BuildsEvent old (Ok visited) new → new.1.result ≡ Err error
+        → CollectsTo (λ (event : PlainEvent). event) yields old.0 (Err (fault_of error)) new.0
+    collected_stop error Ended visit is =
+        let all = taken_all old visit.left visit.events empty fine visit.handed in
+        let same = ap (λ (v : ValueVisitor). v.result) visit.ended.1 in
+        absurd (cc (all.fine, same, is))
+    collected_stop error Stopped visit is =
+        let all = taken_all old visit.left visit.events empty fine visit.handed in
         let (event, one) = visit.ended in
+        let (given, was, refused) = one.taken in
+        let same : given ≡ error = cc (was, is) in
         let ends = yields new.0 None new.0 in (
           all.taken ++ Ok event ∷ [],
           new.0,
           it.Yields-more yields old.0 all.taken visit.left.0 (Ok event) new.0 all.gave one.given,
           seen-more see all.taken (Ok event)
-              (λ xs. IsBuiltFrom (new.0 ≡ new.0) ends xs (Err (fault_of new.1.refusal)))
+              (λ xs. IsBuiltFrom (new.0 ≡ new.0) ends xs (Err (fault_of error)))
               (refused-last (new.0 ≡ new.0) ends (map see all.taken) (Ok event)
-              (built_of visit.left.1.builder) (fault_of new.1.refusal) refl all.holds
-              (one.taken all.holds.2)),
+              (built_of visit.left.1.builder) (fault_of error) refl all.holds
+              (subst (λ e. RefusesOne (built_of visit.left.1.builder).unfinished (Ok event)
+              (fault_of e)) same (refused all.holds.2))),
         )
 
     -- an error replaced an event
     pub collected_error : (error : Error) → Visits yields BuildsEvent old (Err error) new
         → CollectsTo (λ (event : PlainEvent). event) yields old.0 (Err (fault_of error)) new.0
     collected_error error visit =
-        let all = taken_all old visit.left visit.events empty visit.handed in
+        let all = taken_all old visit.left visit.events empty fine visit.handed in
         let ends = yields new.0 None new.0 in (
           all.taken ++ Err error ∷ [],
           new.0,

@@ -6,12 +6,12 @@ ghost use Rattle.plist.specs.ValueOfItems.{AnswersAsPredicted};
 
 use crate::Value;
 use crate::stream::builder::{AnyEvent, Builder};
-use plist_base::{Error, ErrorKind, Event, EventSource, EventVisitor, Visited};
+use plist_base::{Error, Event, EventSource, EventVisitor};
 use std::alloc::Global;
 use std::ops::ControlFlow;
 
 // Builds a value from an iterator's items. It fails at the first item that is an error, or whose
-// event can't come next, and takes no item after that one.
+// event can't follow the preceding ones, and takes no item after that one.
 fn collect_from<E: AnyEvent, I: Iterator<Item = Result<E, Error>>>(
     alloc: Global,
     rest: &mut I,
@@ -28,7 +28,7 @@ fn collect_from<E: AnyEvent, I: Iterator<Item = Result<E, Error>>>(
 }
 
 /// Builds a value from an iterator's items. It fails at the first item that is an error, or whose
-/// event can't come next.
+/// event can't follow the preceding ones.
 pub(crate) fn collect<E: AnyEvent, I: Iterator<Item = Result<E, Error>> + Drop>(
     alloc: Global,
     items: I,
@@ -46,8 +46,8 @@ pub(crate) fn collect<E: AnyEvent, I: Iterator<Item = Result<E, Error>> + Drop>(
 #[derive(Drop)]
 struct ValueVisitor {
     builder: Builder,
-    // The error of the event that the builder rejected. It is unspecified until then.
-    refusal: Error,
+    // The error of the event that the builder rejected, or `Ok`.
+    result: Result<(), Error>,
 }
 
 impl EventVisitor for ValueVisitor {
@@ -59,7 +59,7 @@ impl EventVisitor for ValueVisitor {
         match self.builder.take(event) {
             Ok(()) => ControlFlow::Continue(()),
             Err(error) => {
-                self.refusal = error;
+                self.result = Err(error);
                 ControlFlow::Break(())
             }
         }
@@ -67,17 +67,20 @@ impl EventVisitor for ValueVisitor {
 }
 
 /// Builds a value from the events that a source hands over. It fails at the first error that
-/// replaces an event, or at the first event that can't come next, and visits no further.
+/// replaces an event, or at the first event that can't follow the preceding ones, and visits no
+/// further.
 pub(crate) fn collect_visited<S: EventSource>(alloc: Global, source: &mut S) -> Result<Value, Error>
     ensures { CollectsTo (λ event. event) S.yields source.old (built_tree result) source.new }
 {
     let mut visitor = ValueVisitor {
         builder: Builder::new(alloc),
-        refusal: ErrorKind::OutOfMemory.without_position(),
+        result: Ok(()),
     };
-    match source.visit(&mut visitor) {
-        Ok(Visited::Ended) => visitor.builder.finish(),
-        Ok(Visited::Stopped) => Err(visitor.refusal),
-        Err(error) => Err(error),
-    }
+    source.visit(&mut visitor)?;
+    let ValueVisitor {
+        mut builder,
+        result,
+    } = visitor;
+    result?;
+    builder.finish()
 }
