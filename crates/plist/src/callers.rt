@@ -85,7 +85,7 @@ pub fn are_equal_dictionaries(pairs: &Dictionary, others: &Dictionary) -> bool
         (pair_trees (pairs_of others.now)) }
     ensures pairs { result ≡ same_values_at (pairs_of pairs.now) (pairs_of others.now) }
 {
-    let _counts = (pairs.pair_count(), others.pair_count());
+    let _counts = (pairs.len(), others.len());
     pairs == others
 }
 

@@ -142,9 +142,10 @@ impl Dictionary {
         self.pairs.remove(key)
     }
 
-    /// Returns the number of pairs.
+    /// Returns the number of pairs. The contract also states that their keys are distinct.
     pub fn len(&self) -> usize
-        ensures { result ≡ length (pairs_of self.now) }
+        ensures count { result ≡ length (pairs_of self.now) }
+        ensures distinct { IsDistinct bytes_eq (keys_of (pairs_of self.now)) }
     {
         self.pairs.len()
     }
@@ -201,14 +202,6 @@ impl Dictionary {
     /// Returns the allocator of the pairs.
     pub fn allocator(&self) -> Global {
         self.pairs.allocator()
-    }
-
-    /// Returns the number of pairs. The contract also states that their keys are distinct.
-    pub fn pair_count(&self) -> usize
-        ensures count { result ≡ length (pairs_of self.now) }
-        ensures distinct { IsDistinct bytes_eq (keys_of (pairs_of self.now)) }
-    {
-        self.pairs.pair_count()
     }
 
     /// Returns the pair at an index, which must be less than the number of pairs.

@@ -203,8 +203,8 @@ impl<'a> DeferredPairs<'a> {
         ensures { ComparesPairs (pairs_of pairs.now)
             (pairs_of others.now) self.old result self.new }
     {
-        let count = pairs.pair_count();
-        if count != others.pair_count() {
+        let count = pairs.len();
+        if count != others.len() {
             return false;
         }
         for i in 0..count {

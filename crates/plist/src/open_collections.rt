@@ -80,7 +80,7 @@ fn add_pair(dictionaries: &mut Vec<OpenDictionary>, value: Value) -> Result<(), 
         Some(OpenDictionary::AfterKey(mut pairs, key)) => {
             let set = pairs.set(key, value);
             // This is called only for its contract, which says that the keys are distinct.
-            let _ = pairs.pair_count();
+            let _ = pairs.len();
             dictionaries.push_reserved(OpenDictionary::Pairs(pairs));
             match set {
                 Ok(()) => Ok(()),

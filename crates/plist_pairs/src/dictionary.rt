@@ -118,7 +118,7 @@ impl<V> Pairs<V> {
     /// Returns a mutable reference to the key's value, or `None` if the key isn't present.
     pub fn get_mut(&mut self, key: &str) -> Option<&mut V>
         ensures value { option_copied_mut result ≡ lookup (bytes_eq key.now) self.old }
-        ensures member { IfSome result (λ lent. IsAmong (values_of self.old) lent.now) }
+        ensures member { IfSome result (λ borrowed. IsAmong (values_of self.old) borrowed.now) }
         ensures* writes_back { sem 𝓛 (LendsAtKey V.row self.entry key.now result) }
     {
         match &mut self.store {
@@ -162,11 +162,16 @@ impl<V> Pairs<V> {
         self.store.as_mut()?.remove(key)
     }
 
-    /// Returns the number of pairs.
+    /// Returns the number of pairs. The contract also states that their keys are distinct.
+    #[tactic(auto, using(crate::proofs::PairColumns::no_keys))]
     pub fn len(&self) -> usize
-        ensures { result ≡ length self.now }
+        ensures count { result ≡ length self.now }
+        ensures distinct { IsDistinct bytes_eq (keys_of self.now) }
     {
-        self.pair_count()
+        match &self.store {
+            None => 0,
+            Some(store) => store.len(),
+        }
     }
 
     /// Returns whether there are no pairs.
@@ -214,7 +219,7 @@ impl<V> Pairs<V> {
         }
     }
 
-    // Returns the store, or a new one if there is none. A new store has no allocation.
+    // Returns the store, or a new one if there is none. A new store allocates no memory.
     fn into_store(self) -> Store<V>
         ensures { result ≡ self }
     {

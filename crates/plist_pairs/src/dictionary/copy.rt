@@ -34,7 +34,7 @@ fn copy_pairs<V: TryCopy + Discard>(
     ensures copy { OnOk result (with_shown V.shown copies.new ≡ with_shown V.shown pairs.now) }
     ensures memory { OnlyMemory result }
 {
-    let count = pairs.pair_count();
+    let count = pairs.len();
     for i in 0..count {
         let (key, value) = pairs.pair_at(i);
         let name = String::from_str(alloc, key)?;

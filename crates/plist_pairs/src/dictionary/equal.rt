@@ -13,8 +13,8 @@ impl<V: PartialEq> PartialEq for Pairs<V> {
     ghost laws = { same_pairs_partial V.laws };
 
     fn eq(&self, other: &Pairs<V>) -> bool {
-        let count = self.pair_count();
-        if count != other.pair_count() {
+        let count = self.len();
+        if count != other.len() {
             return false;
         }
         for i in 0..count {

@@ -1,7 +1,6 @@
 //! Access to pairs by index, so that a caller has to look up a key only once.
 
 ghost use Rattle.std.specs.Prelude.{◌≡◌, ◌<◌, ◌++◌, ◌∷◌, Some, MatchOption, slice_get, swap, take, [], length, string_bytes, OnOk, IfErr, OnErr};
-ghost use Rattle.std.specs.Str.{bytes_eq};
 ghost use Rattle.std.specs.Map.{keys_of, values_of};
 ghost use Rattle.plist_pairs.specs.Keys.{HasNone, IsAbsent, IsIndexOf};
 
@@ -10,7 +9,6 @@ use std::alloc::Global;
 
 impl<V> Pairs<V> {
     ghost use Rattle.std.specs.Borrow.{sem};
-    ghost use Rattle.std.specs.List.{IsDistinct};
     ghost use Rattle.plist_pairs.specs.EntryLends.{IsRemovedAt, LendsIndex};
 
     /// Returns the index of a key, or `None` if the key isn't present.
@@ -83,18 +81,6 @@ impl<V> Pairs<V> {
     /// Returns the allocator that the pairs use.
     pub fn allocator(&self) -> Global {
         self.alloc
-    }
-
-    /// Returns the number of pairs. The contract also states that their keys are distinct.
-    #[tactic(auto, using(crate::proofs::PairColumns::no_keys))]
-    pub fn pair_count(&self) -> usize
-        ensures count { result ≡ length self.now }
-        ensures distinct { IsDistinct bytes_eq (keys_of self.now) }
-    {
-        match &self.store {
-            None => 0,
-            Some(store) => store.pair_count(),
-        }
     }
 
     /// Returns the pair at an index, which must be less than the number of pairs.

@@ -47,7 +47,7 @@ impl<V> Store<V> {
     ghost use Rattle.plist_pairs.specs.Keys.{HasNone, IsIndexOf};
     ghost use Rattle.plist_pairs.specs.inner.StoreLends.{StoreLendsAtKey, StoreLendsIndex};
 
-    // Makes a store without pairs, which has no allocation.
+    // Creates a store without pairs. It allocates no memory.
     pub(crate) fn new(alloc: Global) -> Store<V>
         ensures { result ≡ [] }
     {
@@ -228,7 +228,7 @@ impl<V> Store<V> {
     }
 
     // Returns the number of pairs. The contract also states that their keys are distinct.
-    pub(crate) fn pair_count(&self) -> usize
+    pub(crate) fn len(&self) -> usize
         ensures count { result ≡ length self.now }
         ensures distinct { IsDistinct bytes_eq (keys_of self.now) }
     {

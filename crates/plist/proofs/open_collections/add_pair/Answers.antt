@@ -7,4 +7,4 @@ returns-in-Ok-clause-added c =
     let found = c.in-Some-AfterKey in
     pair_added _ _ _ _ _ _ _ _ c.pop.ensures.items (found.is ∙ ap Some found.field-0-is)
     c.push_reserved-in-Some-AfterKey.ensures.items c.in-Ok.ensures.pairs
-    c.pair_count.ensures.distinct
+    c.len.ensures.distinct

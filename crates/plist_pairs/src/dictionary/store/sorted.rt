@@ -33,7 +33,7 @@ impl<V: Drop> Store<V> {
         ensures pairs { OnOk result (IsPermutation self.old self.new) }
         ensures unchanged { OnErr result (self.new ≡ self.old) }
     {
-        let capacity = capacity_for(alloc, self.pair_count())?;
+        let capacity = capacity_for(alloc, self.len())?;
         *self = sorted(mem::replace(self, Store::new(alloc)), capacity);
         Ok(())
     }

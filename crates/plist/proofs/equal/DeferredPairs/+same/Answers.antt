@@ -56,16 +56,16 @@ compare_items-returns t c =
       omega arith,
     )
 
-pub compare_pairs-returns-then-count-pair_count : goal.compare_pairs-returns-then-count-pair_count
-compare_pairs-returns-then-count-pair_count t c =
+pub compare_pairs-returns-then-count-len : goal.compare_pairs-returns-then-count-len
+compare_pairs-returns-then-count-len t c =
     let ps = pairs_of c.args.pairs.now in
     let qs = pairs_of c.args.others.now in
-    let a = c.pair_count-count.ensures in
-    let b = c.pair_count.ensures in
+    let a = c.len-count.ensures in
+    let b = c.len.ensures in
     at-once c.args.self.now (same (Dictionary (pair_trees ps)) (Dictionary (pair_trees qs))) false
     (weights (values_of ps))
     (unequal_len bytes_eq nat_list_eq_equiv same_values (as_map ps) (as_map qs) a.distinct
-    b.distinct (λ e. c.if-count-pair_count.true (a.count ∙ e ∙ sym b.count))
+    b.distinct (λ e. c.if-count-len.true (a.count ∙ e ∙ sym b.count))
     ∙ same_dictionaries ps qs a.distinct b.distinct)
 
 pub compare_pairs-compare-requires : goal.compare_pairs-compare-requires
@@ -78,18 +78,18 @@ compare_pairs-compare-requires t c = (
 
 pub compare_pairs-returns-in-None : goal.compare_pairs-returns-in-None
 compare_pairs-returns-in-None t c =
-    pairs-lack _ _ c.pair_count-count.ensures.distinct c.pair_count.ensures.distinct (omega arith)
+    pairs-lack _ _ c.len-count.ensures.distinct c.len.ensures.distinct (omega arith)
     _ _ _ c.args.self.now c.loop-i.self c.pair_at.ensures c.loop-i.invariant c.in-None.ensures.value
 
 pub compare_pairs-returns-then-not-compare : goal.compare_pairs-returns-then-not-compare
 compare_pairs-returns-then-not-compare t c =
-    (pairs-next _ _ c.pair_count-count.ensures.distinct c.pair_count.ensures.distinct (omega arith)
+    (pairs-next _ _ c.len-count.ensures.distinct c.len.ensures.distinct (omega arith)
     _ _ _ c.args.self.now c.loop-i.self c.pair_at.ensures c.loop-i.invariant _ _ c.compare.new.self
     c.in-Some.ensures.value c.compare.ensures).0 c.if-not-compare.true
 
 pub compare_pairs-loop-i-preserved : goal.compare_pairs-loop-i-preserved
 compare_pairs-loop-i-preserved t c =
-    (pairs-next _ _ c.pair_count-count.ensures.distinct c.pair_count.ensures.distinct (omega arith)
+    (pairs-next _ _ c.len-count.ensures.distinct c.len.ensures.distinct (omega arith)
     _ _ _ c.args.self.now c.loop-i.self c.pair_at.ensures c.loop-i.invariant _ _ c.compare.new.self
     c.in-Some.ensures.value c.compare.ensures).1 c.if-not-compare.false
 
@@ -98,8 +98,8 @@ compare_pairs-returns t c =
     let ps = pairs_of c.args.pairs.now in
     let qs = pairs_of c.args.others.now in
     let i = c.loop-i.i in
-    let a = c.pair_count-count.ensures in
-    let b = c.pair_count.ensures in
+    let a = c.len-count.ensures in
+    let b = c.len.ensures in
     let count : length ps ≡ length qs = omega arith in
     let past : length ps ≤ i = omega arith in
     let start = are_same (waiting c.args.self.now) in

@@ -23,6 +23,6 @@ loop-i-preserved g c =
     ∙ (λ j. insert_entry bytes_eq (take i (with_shown shown ps)) (c.in_ok-name.ensures.ok j)
     (c.in_ok-copy.ensures j))
     ∙ next-last (with_shown shown ps) i k (shown v)
-    (subst (IsDistinct _) (sym (keys_of-map_values _ ps)) c.pair_count-count.ensures.distinct)
+    (subst (IsDistinct _) (sym (keys_of-map_values _ ps)) c.len-count.ensures.distinct)
     (get-map _ ps i (k, v) c.pair_at.ensures)
     ∙ ap (λ n. take n (with_shown shown ps)) one

@@ -12,6 +12,6 @@ returns-in_ok-open-in-Array c = (
 pub returns-in_ok-open-in-Dictionary : goal.returns-in_ok-open-in-Dictionary
 returns-in_ok-open-in-Dictionary c = (
   dictionary_begins _ _ _ _ _ _ c.in-Dictionary.is c.iter.ensures.rest c.iter.ensures.distinct
-      c.len-in-Dictionary.ensures c.in_ok-open-in-Dictionary.ensures.opened,
+      c.len-in-Dictionary.ensures.count c.in_ok-open-in-Dictionary.ensures.opened,
   tt,
 )

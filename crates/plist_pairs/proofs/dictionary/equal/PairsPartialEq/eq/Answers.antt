@@ -7,13 +7,13 @@ use Rattle.std_collections.proofs.HashMapEq.{key_at, own_value, unequal_at, uneq
 use Rattle.plist_pairs.specs.inner.PairsSame.{as_map}
 use Rattle.plist_pairs.proofs.dictionary.equal.PairsPartialEq.eq.Goals as goal
 
-pub returns-then-count-pair_count : goal.returns-then-count-pair_count
-returns-then-count-pair_count g c =
-    let a = c.pair_count-count.ensures in
-    let b = c.pair_count.ensures in
+pub returns-then-count-len : goal.returns-then-count-len
+returns-then-count-len g c =
+    let a = c.len-count.ensures in
+    let b = c.len.ensures in
     unequal_len bytes_eq nat_list_eq_equiv g.V.PartialEq.eq (as_map c.args.self.now)
     (as_map c.args.other.now) a.distinct b.distinct
-    (λ e. c.if-count-pair_count.true (a.count ∙ e ∙ sym b.count))
+    (λ e. c.if-count-len.true (a.count ∙ e ∙ sym b.count))
 
 -- at a key of the first pairs, the values of both are compared
 at-key : {V : Type 0} (eq : V → V → Bool) (ps qs : List (List ℕ × V)) (i n : ℕ) (k : List ℕ) (v : V)
@@ -26,7 +26,7 @@ at-key eq ps qs i n k v found at distinct count within is =
 
 pub returns-then-not-eq : goal.returns-then-not-eq
 returns-then-not-eq g c =
-    let a = c.pair_count-count.ensures in
+    let a = c.len-count.ensures in
     unequal_at bytes_eq nat_list_eq_equiv g.V.PartialEq.eq (as_map c.args.self.now)
     (as_map c.args.other.now) c.pair_at.result.0.now
     (at-key g.V.PartialEq.eq _ _ _ _ _ _ _ c.pair_at.ensures a.distinct a.count c.loop-i-test.true
@@ -34,7 +34,7 @@ returns-then-not-eq g c =
 
 pub returns-in-None : goal.returns-in-None
 returns-in-None g c =
-    let a = c.pair_count-count.ensures in
+    let a = c.len-count.ensures in
     unequal_at bytes_eq nat_list_eq_equiv g.V.PartialEq.eq (as_map c.args.self.now)
     (as_map c.args.other.now) c.pair_at.result.0.now
     (at-key g.V.PartialEq.eq _ _ _ _ _ _ _ c.pair_at.ensures a.distinct a.count c.loop-i-test.true
@@ -43,7 +43,7 @@ returns-in-None g c =
 pub loop-i-preserved : goal.loop-i-preserved
 loop-i-preserved g c =
     let i = c.loop-i.i in
-    let a = c.pair_count-count.ensures in
+    let a = c.len-count.ensures in
     let agree = λ (x : List ℕ). option_eq g.V.PartialEq.eq (lookup (bytes_eq x) c.args.self.now)
     (lookup (bytes_eq x) c.args.other.now) ≡ true in
     let here : agree c.pair_at.result.0.now =
@@ -56,8 +56,8 @@ loop-i-preserved g c =
 
 pub returns : goal.returns
 returns g c =
-    let a = c.pair_count-count.ensures in
-    let b = c.pair_count.ensures in
+    let a = c.len-count.ensures in
+    let b = c.len.ensures in
     equal_by_keys bytes_eq nat_list_eq_equiv g.V.PartialEq.eq (as_map c.args.self.now)
     (as_map c.args.other.now) a.distinct b.distinct
     (omega arith)

@@ -5,7 +5,7 @@ use Rattle.plist_pairs.proofs.dictionary.store.Store.sort_keys.Goals as goal
 pub sorted-requires : goal.sorted-requires
 sorted-requires g c =
     subst (λ n. HasCapacity n c.in_ok-capacity.capacity)
-    (c.pair_count.ensures.count ∙ ap length (sym c.replace.ensures.value)) c.in_ok-capacity.ensures
+    (c.len.ensures.count ∙ ap length (sym c.replace.ensures.value)) c.in_ok-capacity.ensures
 
 pub returns-clause-pairs : goal.returns-clause-pairs
 returns-clause-pairs g c =
