@@ -6,7 +6,7 @@ use Rattle.std.proofs.lemmas.List.{map_push}
 use Rattle.std.proofs.lemmas.Option.{none-some}
 use Rattle.plist_base.specs.declared.error.Error.{Error}
 use Rattle.plist_base.specs.Events.{PlainEvent, Item}
-use Rattle.plist_base.specs.Faults.{FaultKind, Fault, MatchFault, fault_of}
+use Rattle.plist_base.specs.Faults.{FaultKind, Fault, MatchFault, OutOfMemory, fault_of, fault_without_offset}
 use Rattle.plist_base.specs.Trees.{Tree}
 use Rattle.plist_base.specs.Bracketing.{bracketing, without_length, AreAlike}
 use Rattle.plist.specs.Building.{Unfinished, events_so_far, refusal_at, IsNested}
@@ -112,6 +112,29 @@ stops-there plain all left after events unfinished (Err error) fault ok alike is
     ))
     (subst (λ k. MatchFault k ⊤ ⊤ (left ≡ Err why ∷ after)) (ap (λ (f : Fault). f.kind) (sym r)) b)
 
+-- an event of a tree isn't rejected after those before it
+never-rejected : {E : Type 0} (plain : E → PlainEvent) (tree : Tree) (left after : List Item)
+    (events : List PlainEvent) (unfinished : Unfinished) (item : Result E Error)
+    (event : PlainEvent) (fault : Fault) → IsNested unfinished
+    → AreAlike (events_so_far unfinished) events
+    → map Ok (bracketing tree) ≡ map Ok events ++ left → item_by plain item ≡ Ok event
+    → GivesFirst plain left (Some item) after → IsRefusal (refusal_at unfinished event) fault
+    → fault ≡ fault_without_offset OutOfMemory
+never-rejected plain tree left after events unfinished (Err error) event fault ok alike is same b r =
+    absurd (cc same)
+never-rejected plain tree left after events unfinished (Ok given) event fault ok alike is same b r =
+    by (refusal_at unfinished event) refl r
+  where
+    here : map Ok (bracketing tree) ≡ map Ok events ++ Ok event ∷ after
+    here = is ∙ ap (λ l. map Ok events ++ l) (b ∙ ap (λ i. i ∷ after) same)
+
+    by : (o : Option FaultKind) → refusal_at unfinished event ≡ o → IsRefusal o fault
+        → fault ≡ fault_without_offset OutOfMemory
+    by None q h = h
+    by (Some kind) q h =
+        absurd (no-tree-event (map Ok (bracketing tree)) events unfinished event kind after here ok
+        alike q tree (bracketing tree, refl, refl))
+
 -- ---- what was collected is the value of the items
 
 module _ {E I : Type 0} (plain : E → PlainEvent)
@@ -183,6 +206,45 @@ module _ {E I : Type 0} (plain : E → PlainEvent)
         (events, [], unfinished, e ∙ sym (append-nil _), ok, alike, (why, none)),
         no-tree-end all events e none,
       )
+
+  -- the error that was yielded last
+  last-error : (events : List PlainEvent) (taken : List (Result E Error)) (iter t : I)
+      (fault : Fault) → Yields gives iter taken t
+      → map (item_by plain) taken ≡ map Ok events ++ Err fault ∷ []
+      → (error : Error) × (fault_of error ≡ fault) × (old : I) × (new : I)
+      × gives old (Some (Err error)) new
+  last-error [] [] iter t fault y e = absurd (cc e)
+  last-error [] (x ∷ taken) iter t fault (mid, s, y) e = by x (cc e) s
+    where
+      by : (x : Result E Error) → item_by plain x ≡ Err fault → gives iter (Some x) mid
+          → (error : Error) × (fault_of error ≡ fault) × (old : I) × (new : I)
+          × gives old (Some (Err error)) new
+      by (Ok event) same given = absurd (cc same)
+      by (Err error) same given = (error, cc same, iter, mid, given)
+  last-error (d ∷ events) [] iter t fault y e = absurd (cc e)
+  last-error (d ∷ events) (x ∷ taken) iter t fault (mid, s, y) e =
+      last-error events taken mid t fault y (cc e)
+
+  -- if the items are the events of a tree, and the iterator yields no error except `OutOfMemory`,
+  -- the result is no other error
+  pub only-memory : (tree : Tree) (iter : I) → coming iter ≡ Some (map Ok (bracketing tree))
+      → ((old new : I) (error : Error) → gives old (Some (Err error)) new
+      → fault_of error ≡ fault_without_offset OutOfMemory) → (fault : Fault)
+      → Collects plain gives iter (Err fault) → fault ≡ fault_without_offset OutOfMemory
+  only-memory tree iter c errors fault
+      (u, (taken, t, y, (events, unfinished, ok, alike, inl (is, stop)))) =
+      let (error, same, old, new, given) = last-error events taken iter t fault y is in
+      sym same ∙ errors old new error given
+  only-memory tree iter c errors fault
+      (u, (taken, t, y, (events, unfinished, ok, alike, inr (inl (event, is, stop, r))))) =
+      let all = map Ok (bracketing tree) in
+      let (x, same, left, after, split, given) = following events taken iter t (Ok event) all c y is in
+      never-rejected plain tree left after events unfinished x event fault ok alike split same given r
+  only-memory tree iter c errors fault
+      (u, (taken, t, y, (events, unfinished, ok, alike, inr (inr (is, end, why, none))))) =
+      let all = map Ok (bracketing tree) in
+      absurd (no-tree-end all events (drained events taken iter t u all c y end is) none tree
+      (bracketing tree, refl, refl))
 
   pub as-seen : (iter : I) (answer : Result Tree Fault) → Collects plain gives iter answer
       → IsReadIfKnown (coming iter) answer

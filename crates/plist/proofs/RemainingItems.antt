@@ -4,6 +4,7 @@ use Rattle.plist_base.specs.declared.error.Error.{Error}
 use Rattle.plist_base.specs.declared.event.Event.{Event}
 use Rattle.plist_base.specs.Events.{Item, event_of}
 use Rattle.plist_base.specs.Faults.{Fault, fault_of}
+use Rattle.plist_base.specs.Outcomes.{OnlyMemory}
 use Rattle.plist_base.specs.Trees.{Tree}
 use Rattle.plist_ascii.specs.declared.reader.AsciiReader.{AsciiReader}
 use Rattle.plist_ascii.specs.Ascii.{items_of_ascii}
@@ -17,6 +18,8 @@ use Rattle.plist_reader.specs.Reader.{items_of_dialect}
 use Rattle.plist_decode.specs.Formats.{input_front, format_of}
 use Rattle.plist_reader.proofs.AsciiItems.{ascii-goes}
 use Rattle.plist.specs.declared.stream.events.Events.{Events}
+use Rattle.plist.specs.Collecting.{Collects, built_tree}
+use Rattle.plist.specs.declared.value.Value.{Value}
 use Rattle.plist.specs.ValueOfItems.{IsValueOf, IsReadIfKnown}
 use Rattle.plist_base.specs.FirstItems.{GivesFirst, GivesFirstIfKnown}
 use Rattle.plist_base.proofs.FirstItems.{first_of_known}
@@ -29,7 +32,7 @@ use Rattle.plist_format.specs.Container.{magic}
 use Rattle.plist_binwrite.specs.Written.{IsWrittenAs}
 use Rattle.plist.specs.ReadingBack.{ReadsBack}
 use Rattle.plist.specs.ValueTrees.{tree_of}
-use Rattle.plist.proofs.PredictedItems.{back}
+use Rattle.plist.proofs.PredictedItems.{back, only-memory}
 use Rattle.plist.proofs.ValueLastWins.{itself}
 use Rattle.plist_ascii.specs.AsciiReader as ascii
 use Rattle.plist_binread.specs.BinaryReader as binary
@@ -131,6 +134,16 @@ pub events-show : (before after : Events) (item : Given) → GivesEvent before i
     → GivesFirstIfKnown event_of (events_coming before) item (events_coming after)
 events-show before after item h =
     (map Ok (remaining_events after), refl, event-item before after item h)
+
+-- building a value from a value's events fails only with `OutOfMemory`
+pub memory-alone : (tree : Tree) (events : Events) (answer : Result Value Error)
+    → remaining_events events ≡ bracketing tree
+    → Collects event_of GivesEvent events (built_tree answer) → OnlyMemory answer
+memory-alone tree events (Ok value) is collected = tt
+memory-alone tree events (Err error) is collected =
+    only-memory event_of GivesEvent events_coming
+    (λ old item new gives. events-show old new item gives) tree events
+    (ap (λ l. Some (map Ok l)) is) (λ old new why gives. gives.0) (fault_of error) collected
 
 begins-binary : (file rest : List ℕ) → file ≡ magic ++ rest → format_of file ≡ format.Binary
 unfolding format_of

@@ -1,13 +1,17 @@
 -- Writing events: which of them a writer took, and why it didn't take the next one.
-use Rattle.std.specs.Prelude.{◌≡◌, ◌⊎◌, List, [], ◌∷◌, ◌++◌, Result, Ok, Err}
+use Rattle.std.specs.Prelude.{◌≡◌, ◌⊎◌, List, [], ◌∷◌, ◌++◌, None, Result, Ok, Err, ⊤}
 use Rattle.plist_base.specs.declared.error.Error.{Error}
 use Rattle.plist_base.specs.Bracketing.{bracketing}
 use Rattle.plist_base.specs.Events.{PlainEvent, Item}
 use Rattle.plist_base.specs.Faults.{Fault, fault_without_offset, OutOfMemory}
-use Rattle.plist_base.specs.Writing.{Answer, answer_of}
+use Rattle.plist_base.specs.Writing.{Answer, MatchKind, answer_of}
 use Rattle.plist.specs.Events.{BeginsWithStart}
 use Rattle.plist.specs.declared.value.Value.{Value}
 use Rattle.plist.specs.ValueTrees.{tree_of}
+
+-- the fault is `PlistTooLarge`, `OutOfMemory` or `Io`, without an offset
+abbrev pub StopsWriter : Fault → Type 0
+StopsWriter fault = (fault.offset ≡ None) × MatchKind fault.kind ⊥ ⊤ ⊥
 
 module _ {S : Type 0} (Step : S → PlainEvent → Answer → S → Type 0) where
   -- the writer took these events, one step for each
@@ -21,13 +25,13 @@ module _ {S : Type 0} (Step : S → PlainEvent → Answer → S → Type 0) wher
   RefusesNext before [] fault after = ⊥
   RefusesNext before (event ∷ events) fault after = Step before event (Err fault) after
 
-  -- memory ran out at a start, which wasn't written
+  -- an allocation failed for a start, which wasn't written
   abbrev pub StopsForMemory : (before : S) → List PlainEvent → Fault → (after : S) → Type 0
   StopsForMemory before events fault after =
       (fault ≡ fault_without_offset OutOfMemory) × BeginsWithStart events × (after ≡ before)
 
   -- The writer took all events; or it took the first ones, and then returned an error for the next
-  -- one, or memory ran out.
+  -- one, or an allocation failed.
   abbrev pub WritesEvents : (before : S) → List PlainEvent → Answer → (after : S) → Type 0
   WritesEvents before events (Ok done) after = TakesAll before events after
   WritesEvents before events (Err fault) after =

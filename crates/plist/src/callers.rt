@@ -6,6 +6,7 @@
 ghost use Rattle.std.specs.Prelude.{◌≡◌, IfOk, IfSome, option_map, string_bytes, true};
 ghost use Rattle.std.specs.Map.{lookup};
 ghost use Rattle.std.specs.Str.{bytes_eq};
+ghost use Rattle.plist_base.specs.Outcomes.{IfFault, OnlyMemory};
 ghost use Rattle.plist_base.specs.Trees.{Tree};
 ghost use Rattle.plist_format.specs.Unfolding.{items_of_file};
 ghost use Rattle.plist.specs.Collecting.{built_tree};
@@ -13,6 +14,7 @@ ghost use Rattle.plist.specs.ValueOfItems.{IsReadBack, ReadsItems};
 ghost use Rattle.plist_pairs.specs.TreeEquality.{same, IsTransitive, DecidesScalars, DecidesDictionaries, same_members};
 ghost use Rattle.plist.specs.Dictionaries.{pairs_of};
 ghost use Rattle.plist.specs.ValueTrees.{pair_trees, tree_of};
+ghost use Rattle.plist.specs.WrittenEvents.{StopsWriter};
 ghost use Rattle.plist.specs.inner.DeferredPairs.{same_values_at};
 
 use crate::dictionary::Entry;
@@ -42,6 +44,7 @@ pub fn value_of_binary<R: Source>(alloc: Global, source: R) -> Result<Value, Err
 /// `OutOfMemory`, without an offset, if an allocation fails.
 pub fn value_again(alloc: Global, value: &Value) -> Result<Value, Error>
     ensures value { IsReadBack (tree_of value.now) (built_tree result) }
+    ensures memory { OnlyMemory result }
 {
     Value::from_events(alloc, value.events(alloc))
 }
@@ -51,9 +54,10 @@ pub fn value_again(alloc: Global, value: &Value) -> Result<Value, Error>
 ///
 /// # Errors
 ///
-/// The errors are those of [`write_value`].
+/// `PlistTooLarge`, `OutOfMemory` or `Io`, without an offset.
 pub fn file_by_events<S: Sharing>(alloc: Global, value: &Value) -> Result<Vec<u8>, Error>
     ensures file { IfOk result (λ file. S.kind.IsFile (tree_of value.now) file.items) }
+    ensures refused { IfFault result StopsWriter }
 {
     let mut writer = FileWriter::<Vec<u8>, S>::new(alloc, Vec::new(alloc));
     write_value(alloc, value, &mut writer)?;
