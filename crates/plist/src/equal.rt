@@ -136,48 +136,13 @@ impl<'a> DeferredPairs<'a> {
                 };
                 self.compare_pairs(pairs, others, levels)
             }
-            Value::Boolean(content) => {
-                let Value::Boolean(another) = other else {
-                    return false;
-                };
-                *content == *another
-            }
-            Value::Data(content) => {
-                let Value::Data(another) = other else {
-                    return false;
-                };
-                content.as_slice() == another.as_slice()
-            }
-            Value::Date(content) => {
-                let Value::Date(another) = other else {
-                    return false;
-                };
-                *content == *another
-            }
-            Value::Real(content) => {
-                let Value::Real(another) = other else {
-                    return false;
-                };
-                *content == *another
-            }
-            Value::Integer(content) => {
-                let Value::Integer(another) = other else {
-                    return false;
-                };
-                *content == *another
-            }
-            Value::String(content) => {
-                let Value::String(another) = other else {
-                    return false;
-                };
-                content.as_str() == another.as_str()
-            }
-            Value::Uid(content) => {
-                let Value::Uid(another) = other else {
-                    return false;
-                };
-                *content == *another
-            }
+            Value::Boolean(a) => matches!(other, Value::Boolean(b) if a == b),
+            Value::Data(a) => matches!(other, Value::Data(b) if a.as_slice() == b.as_slice()),
+            Value::Date(a) => matches!(other, Value::Date(b) if a == b),
+            Value::Real(a) => matches!(other, Value::Real(b) if a == b),
+            Value::Integer(a) => matches!(other, Value::Integer(b) if a == b),
+            Value::String(a) => matches!(other, Value::String(b) if a.as_str() == b.as_str()),
+            Value::Uid(a) => matches!(other, Value::Uid(b) if a == b),
         }
     }
 
