@@ -130,12 +130,12 @@ abbrev pub if_refused : Transition → FaultKind → Option FaultKind
 if_refused Refused kind = Some kind
 if_refused change kind = None
 
--- the fault of an event that can't come next where this is expected
+-- the fault of an event that can't follow the preceding ones where this is expected
 abbrev pub refusal_of : Expect → PlainEvent → Option FaultKind
 refusal_of expect event = if_refused (transition_of expect event)
     (UnexpectedEventType (kind_expected expect) (kind_of_event event))
 
--- the fault of an event that can't come next
+-- the fault of an event that can't follow the preceding ones
 abbrev pub refusal_at : Unfinished → PlainEvent → Option FaultKind
 refusal_at NotBegun event = refusal_of OneValue event
 refusal_at (Within collection outer) event = refusal_of (expected_within collection) event

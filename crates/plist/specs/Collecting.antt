@@ -22,7 +22,8 @@ abbrev pub built_tree : Result Value Error → Result Tree Fault
 built_tree (Ok value) = Ok (tree_of value)
 built_tree (Err error) = Err (fault_of error)
 
--- the fault is that of an event that can't come next, or `OutOfMemory` for one that can
+-- the fault is that of an event that can't follow the preceding ones, or `OutOfMemory` for one that
+-- can
 abbrev pub IsRefusal : (refusal : Option FaultKind) → Fault → Type 0
 IsRefusal None fault = fault ≡ fault_without_offset OutOfMemory
 IsRefusal (Some kind) fault = fault ≡ fault_without_offset kind
@@ -31,7 +32,7 @@ IsRefusal (Some kind) fault = fault ≡ fault_without_offset kind
 abbrev pub EndsInError : (stops : Type 0) → (events : List PlainEvent) → List Item → Fault → Type 0
 EndsInError stops events items fault = (items ≡ map Ok events ++ Err fault ∷ []) × stops
 
--- the items are these events and then one that can't follow them, or for which memory runs out
+-- the items are these events and then one that can't follow them, or for which an allocation fails
 abbrev pub EndsInRefusal : (stops : Type 0) → Unfinished → (events : List PlainEvent) → List Item
     → Fault → Type 0
 EndsInRefusal stops unfinished events items fault =
@@ -78,7 +79,7 @@ TakesOne before (Ok event) after =
     (and_event with_pair before.unfinished event ≡ Some after.unfinished) × (after.failed ≡ false)
 TakesOne before (Err fault) after = ⊥
 
--- an item is an error, or its event is rejected, or memory runs out for the event
+-- an item is an error, or its event is rejected, or an allocation fails for the event
 abbrev pub RefusesOne : Unfinished → Item → Fault → Type 0
 RefusesOne unfinished (Ok event) fault = IsRefusal (refusal_at unfinished event) fault
 RefusesOne unfinished (Err error) fault = fault ≡ error

@@ -50,8 +50,8 @@ BeginsWithStart (StartDictionary length ∷ events) = ⊤
 BeginsWithStart events = ⊥
 
 -- The first remaining event is yielded, with its string or data borrowed, and the others remain.
--- Nothing is yielded only if nothing remains. If memory runs out, `OutOfMemory` is yielded in place
--- of a start, and nothing remains.
+-- Nothing is yielded only if nothing remains. If an allocation fails, `OutOfMemory` is yielded in
+-- place of a start, and nothing remains.
 abbrev pub GivesEvent : Events → Option (Result Event Error) → Events → Type 0
 GivesEvent before None after = (remaining_events before ≡ []) × (remaining_events after ≡ [])
 GivesEvent before (Some (Ok given)) after =
@@ -72,7 +72,7 @@ ComesNext before (next.Value value) after =
     × (after.value ≡ None)
 
 -- the first event of a tree is yielded, and the tree's other events remain, followed by those that
--- remained before; or memory runs out at a start
+-- remained before; or an allocation fails at a start
 abbrev pub BeginsValue : Tree → Events → Result Event Error → Events → Type 0
 BeginsValue tree before (Ok given) after =
     (bracketing tree ++ remaining_events before ≡ event_of given ∷ remaining_events after)

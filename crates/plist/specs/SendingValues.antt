@@ -11,7 +11,7 @@ use Rattle.plist_binwrite.specs.Sizes.{file_size}
 use Rattle.plist.specs.declared.value.Value.{Value}
 use Rattle.plist.specs.ValueTrees.{tree_of}
 
--- why no file of the tree is made: its size is 2^64 or more, or memory runs out
+-- why no file of the tree is made: its size is 2^64 or more, or an allocation fails
 abbrev pub StopsFile : FaultKind → Tree → Type 0
 StopsFile PlistTooLarge tree = 2 ^ 64 ≤ file_size tree
 StopsFile OutOfMemory tree = ⊤

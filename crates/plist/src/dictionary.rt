@@ -106,8 +106,8 @@ impl Dictionary {
     ///
     /// # Errors
     ///
-    /// If memory runs out, which is only possible for a new key, the pairs are unchanged, and the
-    /// key and the value are returned.
+    /// If an allocation fails, which is only possible for a new key, the pairs are unchanged, and
+    /// the error is the key and the value.
     pub fn insert(&mut self, key: String, value: Value) -> Result<Option<Value>, (String, Value)>
         // Result.
         ensures old { IfOk result (λ old.
@@ -123,8 +123,8 @@ impl Dictionary {
         self.pairs.insert(key, value)
     }
 
-    // Sets the key's value, and drops the value that it had. If memory runs out, the new value is
-    // dropped.
+    // Sets the key's value, and drops the value that it had. If an allocation fails, the new value
+    // is dropped.
     pub(crate) fn set(&mut self, key: String, value: Value) -> Result<(), Error>
         ensures pairs { OnOk result (IsSetAt (pairs_of self.old) (string_bytes key) value
             (pairs_of self.new)) }

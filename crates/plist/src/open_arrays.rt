@@ -72,7 +72,7 @@ impl OpenArrays {
         Ok(())
     }
 
-    /// Appends an item to the innermost array. If memory runs out, the item is dropped without
+    /// Appends an item to the innermost array. If an allocation fails, the item is dropped without
     /// recursion.
     pub(crate) fn push(&mut self, item: Value) -> Result<(), AllocError>
         ensures pushed { OnOk result (self.new ≡ with_item self.old item) }

@@ -62,8 +62,8 @@ impl Model for OpenCollections {
         collections.arrays (reverse collections.dictionaries.items) };
 }
 
-// Adds a value to the innermost dictionary, in a pair with the last key. If memory runs out, the
-// value is dropped.
+// Adds a value to the innermost dictionary, in a pair with the last key. If an allocation fails,
+// the value is dropped.
 fn add_pair(dictionaries: &mut Vec<OpenDictionary>, value: Value) -> Result<(), AllocError>
     ensures added { OnOk result (AddsPair (reverse dictionaries.old.items) value
         (reverse dictionaries.new.items)) }
@@ -187,7 +187,7 @@ impl OpenCollections {
         add_key(&mut self.dictionaries, key);
     }
 
-    /// Adds a value to the innermost collection. If memory runs out, the value is dropped.
+    /// Adds a value to the innermost collection. If an allocation fails, the value is dropped.
     pub(crate) fn add(&mut self, value: Value) -> Result<(), AllocError>
         requires { 0 < length self.old }
         ensures { OnOk result (within self.new

@@ -80,7 +80,8 @@ impl UnfinishedValue {
         }
     }
 
-    /// Returns the kind of error for an event that can't come next, or `None` if it can.
+    /// Returns the kind of error for an event that can't follow the preceding ones, or `None` if it
+    /// can.
     pub(crate) fn refusal(&self, event: &Event<'_>) -> Option<ErrorKind>
         ensures { option_map kind_of result
             ≡ refusal_at (unfinished_of self.now) (event_of event.now) }
@@ -152,7 +153,7 @@ impl UnfinishedValue {
         }
     }
 
-    /// Adds an event that can come next.
+    /// Adds an event that can follow the preceding ones.
     ///
     /// After a failure the contents are unspecified.
     pub(crate) fn take(&mut self, alloc: Global, event: Event<'_>) -> Result<(), AllocError>

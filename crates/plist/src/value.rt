@@ -137,14 +137,14 @@ impl Value {
     /// Builds a value from these events. A key that is repeated keeps its first position and takes
     /// its last value. The lengths of starts are ignored.
     ///
-    /// Items are taken up to the first one that is an error, or that can't come next. The caller
-    /// has to prove that the iterator ends.
+    /// Items are taken up to the first one that is an error, or that can't follow the preceding
+    /// ones. The caller has to prove that the iterator ends.
     ///
     /// # Errors
     ///
     /// - The first error among the items.
-    /// - `UnexpectedEventType` for an event that can't come next, and `ExpectedEndOfEventStream`
-    ///   for one after a whole value.
+    /// - `UnexpectedEventType` for an event that can't follow the preceding ones, and
+    ///   `ExpectedEndOfEventStream` for one after a whole value.
     /// - `UnexpectedEndOfEventStream` if the events end before the value does.
     /// - `OutOfMemory` if an allocation fails.
     pub fn from_events<E: AnyEvent, I: IntoIterator<Item = Result<E, Error>>>(
@@ -187,8 +187,8 @@ impl Value {
     /// # Errors
     ///
     /// - The first error among the source's items, which is one of the errors of [`Reader`].
-    /// - `UnexpectedEventType` for an event that can't come next, and `ExpectedEndOfEventStream`
-    ///   for one after a whole value.
+    /// - `UnexpectedEventType` for an event that can't follow the preceding ones, and
+    ///   `ExpectedEndOfEventStream` for one after a whole value.
     /// - `UnexpectedEndOfEventStream` if the items end before the value does.
     /// - `OutOfMemory` if an allocation fails.
     pub fn from_reader<R: Source>(alloc: Global, source: R) -> Result<Value, Error>

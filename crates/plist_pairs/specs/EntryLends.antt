@@ -5,7 +5,7 @@ pub use Rattle.indexmap.specs.IndexMap.{set_value_at}
 use denote.RattleType.{RattleType}
 use Rattle.plist_pairs.specs.contracts.dictionary.Pairs.{the_row}
 
--- the last value of the reference becomes the value at the index
+-- when the borrow ends, the pair at the index has the value that the reference had last
 abbrev pub LendsIndex : (V : RattleType) → MutBor (List (List ℕ × V.Denot)) → ℕ → MutBor V.Denot
     → Fml
 LendsIndex V pairs index value = Lends (the_row V) V pairs value (set_value_at pairs.now index)

@@ -27,8 +27,8 @@ has_keys (MemberAnd key tree members) others =
     is_some (first_value key others) && has_keys members others
 
 abbrev mutual
-  -- two trees of one kind are the same: arrays index by index, and dictionaries if they have the
-  -- same keys with the same values
+  -- whether two trees are the same: equal scalars, arrays whose items are the same index by index,
+  -- or dictionaries that have the same keys with the same values
   pub same : Tree → Tree → Bool
   same (Leaf a) (Leaf b) = scalar_eq a b
   same (Array items) (Array others) = same_items items others

@@ -18,7 +18,8 @@ module _ (add : TreePairs → List ℕ → Tree → TreePairs) where
   and_tree tree (InDictionary pairs ∷ outer) = Within (InDictionary pairs) outer
   and_tree tree (AfterKey pairs key ∷ outer) = Within (InDictionary (add pairs key tree)) outer
 
-  -- the unfinished tree after an event where a value is expected, or `None` if it can't come next
+  -- the unfinished tree after an event where a value is expected, or `None` if it can't follow the
+  -- preceding ones
   abbrev pub at_value : (outer : List OpenCollection) → PlainEvent → Option Unfinished
   at_value outer (StartArray length) = Some (Within (InArray []) outer)
   at_value outer (StartDictionary length) = Some (Within (InDictionary []) outer)
@@ -32,14 +33,14 @@ module _ (add : TreePairs → List ℕ → Tree → TreePairs) where
   in_array items outer event = at_value (InArray items ∷ outer) event
 
   -- the unfinished tree after an event where a key or a dictionary's end is expected, or `None` if
-  -- it can't come next
+  -- it can't follow the preceding ones
   abbrev pub in_dictionary : (pairs : TreePairs) → (outer : List OpenCollection) → PlainEvent
       → Option Unfinished
   in_dictionary pairs outer EndCollection = Some (and_tree (Dictionary (members_of pairs)) outer)
   in_dictionary pairs outer (ScalarEvent (String key)) = Some (Within (AfterKey pairs key) outer)
   in_dictionary pairs outer event = None
 
-  -- the unfinished tree after the event, or `None` if it can't come next
+  -- the unfinished tree after the event, or `None` if it can't follow the preceding ones
   abbrev pub and_event : Unfinished → PlainEvent → Option Unfinished
   and_event NotBegun event = at_value [] event
   and_event (Within (InArray items) outer) event = in_array items outer event

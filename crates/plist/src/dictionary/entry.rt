@@ -137,7 +137,7 @@ impl<'a> VacantEntry<'a> {
     ///
     /// # Errors
     ///
-    /// If memory runs out, the dictionary is unchanged, and the key and the value are returned.
+    /// If an allocation fails, the dictionary is unchanged, and the error is the key and the value.
     pub fn insert(self, value: Value) -> Result<&'a mut Value, (String, Value)>
         ensures value { IfOk result (λ borrowed. borrowed.now ≡ value) }
         ensures handed_back { IfErr result (HandsBack (Vacant self.entry) (λ v. v ≡ value)) }

@@ -15,10 +15,10 @@ use std::alloc::Global;
 /// Builds a value from its events.
 ///
 /// A key that is repeated keeps its first position and takes its last value. The lengths of starts
-/// are ignored. An event that can't come next changes nothing. It is rejected with
+/// are ignored. An event that can't follow the preceding ones changes nothing. It is rejected with
 /// `UnexpectedEventType` before the root is complete, and with `ExpectedEndOfEventStream` after
-/// that. If memory runs out, the builder has failed: its contents are dropped, and each later call
-/// returns `WriterFailed`.
+/// that. If an allocation fails, the builder has failed: its contents are dropped, and each later
+/// call returns `WriterFailed`.
 #[derive(Drop)]
 pub struct Builder {
     alloc: Global,

@@ -83,7 +83,7 @@ impl<'a> Events<'a> {
         }
     }
 
-    // Opens a collection. If memory for that runs out, no events remain.
+    // Opens a collection. If an allocation fails, no events remain.
     fn open(&mut self, level: Level<'a>) -> Result<(), Error>
         requires { self.old.value ≡ None }
         ensures opened { OnOk result (OpensLevel self.old level.entry self.new) }

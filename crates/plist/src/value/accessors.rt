@@ -135,7 +135,7 @@ impl Value {
         Some(text.as_str())
     }
 
-    /// Returns the identifier, or `None` if the value isn't one.
+    /// Returns the Uid, or `None` if the value isn't one.
     pub fn into_uid(self) -> Option<Uid>
         ensures { result ≡ uid_in (tree_of self) }
     {
@@ -148,7 +148,7 @@ impl Value {
         }
     }
 
-    /// Returns the identifier, or `None` if the value isn't one.
+    /// Returns the Uid, or `None` if the value isn't one.
     pub fn as_uid(&self) -> Option<&Uid>
         ensures { option_copied result ≡ uid_in (tree_of self.now) }
     {
@@ -160,12 +160,10 @@ impl Value {
 
     // Returns the allocator of a collection.
     pub(crate) fn allocator(&self) -> Option<Global> {
-        if let Value::Array(items) = self {
-            return Some(*items.allocator());
+        match self {
+            Value::Array(items) => Some(*items.allocator()),
+            Value::Dictionary(pairs) => Some(pairs.allocator()),
+            _ => None,
         }
-        let Value::Dictionary(pairs) = self else {
-            return None;
-        };
-        Some(pairs.allocator())
     }
 }

@@ -1,7 +1,6 @@
 //! Drops values without recursion. One list contains all values that are still to be dropped. When
 //! a collection is dropped, its values have to be joined with that list. No memory is allocated for
-//! that: the list moves into the collection's own list, as an array in the place of its first
-//! value.
+//! that: the list moves into the collection's own list, as an array that replaces its first value.
 
 ghost use Rattle.std.specs.Prelude.{◌<◌, vec_len};
 ghost use Rattle.std.specs.Vec.{vec_capacity};

@@ -6,13 +6,14 @@ use Rattle.indexmap.specs.IndexMap.{set_value_at}
 use denote.RattleType.{RattleType}
 use Rattle.plist_pairs.specs.contracts.dictionary.store.Store.{the_row}
 
--- the last value of the reference becomes the key's; without a reference no pair changes
+-- when the borrow ends, the key has the value that the reference had last; without a reference no
+-- pair changes
 abbrev pub StoreLendsAtKey : (V : RattleType) → MutBor (List (List ℕ × V.Denot)) → List ℕ
     → Option (MutBor V.Denot) → Fml
 StoreLendsAtKey V pairs key value =
     LendsIf (the_row V) V pairs value (set_value (bytes_eq key) pairs.now) pairs.now
 
--- the last value of the reference becomes the value at the index
+-- when the borrow ends, the pair at the index has the value that the reference had last
 abbrev pub StoreLendsIndex : (V : RattleType) → MutBor (List (List ℕ × V.Denot)) → ℕ
     → MutBor V.Denot → Fml
 StoreLendsIndex V pairs index value = Lends (the_row V) V pairs value (set_value_at pairs.now index)

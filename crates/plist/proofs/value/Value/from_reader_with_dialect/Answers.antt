@@ -1,7 +1,6 @@
-use Rattle.std.proofs.Common.{List, Option}
 use Rattle.plist_base.specs.Events.{event_of}
 use Rattle.plist_reader.specs.Reader.{Gives, items_of_dialect, reader_items}
-use Rattle.plist.specs.Collecting.{Collects, built_tree}
+use Rattle.plist.specs.Collecting.{built_tree}
 use Rattle.plist.proofs.BuiltVisits.{collects_items}
 use Rattle.plist.proofs.PredictedItems.{as-seen}
 use Rattle.plist.proofs.ReadFaults.{reader-tells}
