@@ -1,12 +1,13 @@
-//! Proved callers of the property-list crates: small functions. Each is proved only from the
-//! clauses of the functions that it calls, so that none of these clauses can be weakened unnoticed.
+//! Proved callers of the property-list crates: small functions. Each is proved from the clauses of
+//! the functions that it calls, so that none of these clauses can be weakened unnoticed. Only the
+//! proofs of `lemmas` cite lemmas of the libraries as well.
 //!
 //! They are listed from the lowest layer up: `faults`, `texts`, `dates`, `reals`, `hashes`,
 //! `events`, `sources`, `limits`, `data`; `decoding`, of objects; the readers `binary` (also over
 //! `small_files`), `ascii` and `either`, and the `writer`; `values` and their `contents`;
 //! `writers`, for values that are written; `stored`, for files; `pairs`, `entries` and
-//! `iterators`, for dictionaries; `depths`, for recursions over dictionaries; `archives`; and
-//! `commands`.
+//! `iterators`, for dictionaries; `depths`, for recursions over dictionaries; `archives`;
+//! `commands`; and `lemmas`.
 //!
 //! A caller that is named after a bug returns whether the library has that bug, or it has a clause
 //! about the result or the state that the bug would change. Unless its documentation names other
@@ -28,6 +29,7 @@ pub mod events;
 pub mod faults;
 pub mod hashes;
 pub mod iterators;
+pub mod lemmas;
 pub mod limits;
 pub mod pairs;
 pub mod reals;

@@ -12,7 +12,7 @@ ghost use Rattle.plist.specs.FromReader.{IsReadWithinBudget, items_of_text};
 ghost use Rattle.plist.specs.Dictionaries.{pairs_of};
 ghost use Rattle.plist.specs.ValueTrees.{tree_of, tree_pairs};
 
-use plist::callers::are_equal;
+use crate::lemmas::are_equal;
 use plist::{Builder, Dialect, Dictionary, Limits, Value};
 use plist_base::{Error, ErrorKind, Event, Source, Writer};
 use std::alloc::Global;

@@ -9,7 +9,7 @@ ghost use Rattle.plist_share.specs.SharedFiles.{IsLeastOfAll, IsSharedFileOf, di
 ghost use Rattle.plist.specs.ValueTrees.{tree_of};
 ghost use Rattle.plist_callers.specs.ReadBackFaults.{PreventsReadBack};
 
-use plist::callers::{are_equal, file_by_events};
+use crate::lemmas::{are_equal, file_by_events};
 use plist::{Error, Value};
 use plist_binwrite::EqualScalars;
 use plist_share::EqualTrees;

@@ -3,7 +3,6 @@
 //! The main contract is that each call of [`Pairs`] is an operation on the list of the pairs.
 #![tactic(auto)]
 
-pub mod callers;
 pub mod dictionary;
 
 pub use dictionary::Pairs;

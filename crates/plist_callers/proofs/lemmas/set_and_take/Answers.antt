@@ -1,5 +1,5 @@
 use Rattle.plist_pairs.proofs.EntrySteps.{read_set}
-use Rattle.plist.proofs.callers.set_and_take.Goals as goal
+use Rattle.plist_callers.proofs.lemmas.set_and_take.Goals as goal
 
 pub returns-in-Occupied-clause-next : goal.returns-in-Occupied-clause-next
 returns-in-Occupied-clause-next c =

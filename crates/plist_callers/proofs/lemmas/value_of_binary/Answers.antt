@@ -1,6 +1,6 @@
 use Rattle.plist.specs.Collecting.{built_tree}
 use Rattle.plist.proofs.RemainingItems.{binary_coming, binary-shows, of-binary}
-use Rattle.plist.proofs.callers.value_of_binary.Goals as goal
+use Rattle.plist_callers.proofs.lemmas.value_of_binary.Goals as goal
 
 pub returns : goal.returns
 returns g c =

@@ -5,7 +5,7 @@ use Rattle.plist.specs.ValueTrees.{tree_of}
 use Rattle.plist.proofs.PredictedItems.{back}
 use Rattle.plist.proofs.ValueLastWins.{itself}
 use Rattle.plist.proofs.RemainingItems.{events_coming, events-show, memory-alone}
-use Rattle.plist.proofs.callers.value_again.Goals as goal
+use Rattle.plist_callers.proofs.lemmas.value_again.Goals as goal
 
 pub returns-clause-value : goal.returns-clause-value
 returns-clause-value c =

@@ -1,6 +1,6 @@
 use Rattle.std.proofs.Common.{◌∙◌, ap, bytes_eq}
 use Rattle.plist_pairs.proofs.RetainLoop.{where_true}
-use Rattle.plist_pairs.proofs.callers.keep_only.Goals as goal
+use Rattle.plist_callers.proofs.lemmas.keep_only.Goals as goal
 
 pub returns : goal.returns
 returns g c =

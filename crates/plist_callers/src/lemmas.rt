@@ -1,30 +1,66 @@
-//! Proved callers whose proofs cite lemmas of this crate. They build values from events, write
-//! files from a value's events, write values through entries, and use `==` and its laws. The
-//! callers of pairs are in `plist_pairs`, and those whose proofs need only clauses are in
-//! `plist_callers`.
+//! Proved callers whose proofs cite lemmas of the libraries. They insert the pairs of lists, build
+//! values from events, write files from a value's events, write values through entries, and use `==`
+//! and its laws.
 
-ghost use Rattle.std.specs.Prelude.{◌≡◌, IfOk, IfSome, option_map, string_bytes, true};
+ghost use Rattle.std.specs.Prelude.{◌≡◌, [], IfOk, IfSome, OnOk, filter, map, option_map, string_bytes, true};
 ghost use Rattle.std.specs.Map.{lookup};
 ghost use Rattle.std.specs.Str.{bytes_eq};
+ghost use Rattle.indexmap.specs.IndexMap.{insert_all};
 ghost use Rattle.plist_base.specs.Outcomes.{IfFault, OnlyMemory};
 ghost use Rattle.plist_base.specs.Trees.{Tree};
 ghost use Rattle.plist_format.specs.Unfolding.{items_of_file};
-ghost use Rattle.plist.specs.Collecting.{built_tree};
-ghost use Rattle.plist.specs.ValueOfItems.{IsReadBack, ReadsItems};
+ghost use Rattle.plist_pairs.specs.Shown.{shown_owned_pair};
 ghost use Rattle.plist_pairs.specs.TreeEquality.{same, IsTransitive, DecidesScalars, DecidesDictionaries, same_members};
+ghost use Rattle.plist.specs.Collecting.{built_tree};
 ghost use Rattle.plist.specs.Dictionaries.{pairs_of};
+ghost use Rattle.plist.specs.ValueOfItems.{IsReadBack, ReadsItems};
 ghost use Rattle.plist.specs.ValueTrees.{pair_trees, tree_of};
 ghost use Rattle.plist.specs.WrittenEvents.{StopsWriter};
 ghost use Rattle.plist.specs.inner.DeferredPairs.{same_values_at};
 
-use crate::dictionary::Entry;
-use crate::{Dictionary, Value, write_value};
+use plist::dictionary::Entry;
+use plist::{Dictionary, Value, write_value};
 use plist_base::{Error, Source};
 use plist_binread::BinaryReader;
 use plist_binwrite::{FileWriter, Sharing};
-pub use plist_pairs::callers::{insert_each, keep_only, of_list};
+use plist_pairs::Pairs;
+use plist_pairs::dictionary::Discard;
 use std::alloc::Global;
 use std::mem;
+
+/// Inserts the pairs of a list, in their order.
+///
+/// # Errors
+///
+/// `OutOfMemory`, without an offset, if an allocation fails. The pairs are as [`Pairs::extend`]
+/// leaves them after an error.
+pub fn insert_each<V: Discard>(to: &mut Pairs<V>, all: Vec<(String, V)>) -> Result<(), Error>
+    ensures { OnOk result (to.new ≡ insert_all bytes_eq to.old (map shown_owned_pair all.items)) }
+{
+    to.extend(all)
+}
+
+/// Makes a `Pairs` from a list, whose pairs are inserted in their order.
+///
+/// # Errors
+///
+/// `OutOfMemory`, without an offset, if an allocation fails. All pairs are dropped then.
+pub fn of_list<V: Discard>(alloc: Global, all: Vec<(String, V)>) -> Result<Pairs<V>, Error>
+    ensures { IfOk result (λ made. made ≡ insert_all bytes_eq [] (map shown_owned_pair all.items)) }
+{
+    Pairs::from_pairs(alloc, all)
+}
+
+/// Drops all pairs except the one with this key.
+pub fn keep_only<V: Discard>(pairs: &mut Pairs<V>, name: &str)
+    ensures { pairs.new ≡ filter (λ pair. bytes_eq pair.0 name.now) pairs.old }
+{
+    pairs.retain(
+        |key: &String, _value: &V| -> bool
+            ensures { result ≡ bytes_eq (string_bytes key.now) name.entry.now }
+        { key.as_str() == name },
+    );
+}
 
 /// Returns the value of a binary property list, which a [`BinaryReader`] reads.
 ///
@@ -68,7 +104,7 @@ pub fn file_by_events<S: Sharing>(alloc: Global, value: &Value) -> Result<Vec<u8
 /// of a dictionary's pairs. The laws say that `same`, which compares trees in this way, is an
 /// equivalence. Two scalars are the same if and only if they are equal, and two dictionaries are
 /// the same if and only if they have the same values at all keys.
-#[tactic(auto, using(crate::proofs::SameTrees::sameness))]
+#[tactic(auto, using(plist::proofs::SameTrees::sameness))]
 pub fn are_equal(value: &Value, other: &Value) -> bool
     // Result.
     ensures same { result ≡ same (tree_of value.now) (tree_of other.now) }
@@ -83,7 +119,7 @@ pub fn are_equal(value: &Value, other: &Value) -> bool
 }
 
 /// Returns whether two dictionaries are equal, that is, whether they are equal as values.
-#[tactic(auto, using(crate::proofs::SameTrees::same_dictionaries))]
+#[tactic(auto, using(plist::proofs::SameTrees::same_dictionaries))]
 pub fn are_equal_dictionaries(pairs: &Dictionary, others: &Dictionary) -> bool
     ensures same { result ≡ same_members (pair_trees (pairs_of pairs.now))
         (pair_trees (pairs_of others.now)) }

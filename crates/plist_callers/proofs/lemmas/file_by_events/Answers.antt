@@ -4,7 +4,7 @@ use Rattle.std.proofs.lemmas.Result.{err_from_is_err_and}
 use Rattle.plist_base.specs.Faults.{fault_of}
 use Rattle.plist.specs.ValueTrees.{tree_of}
 use Rattle.plist.proofs.WriterFiles.{all-sent, all-stopped}
-use Rattle.plist.proofs.callers.file_by_events.Goals as goal
+use Rattle.plist_callers.proofs.lemmas.file_by_events.Goals as goal
 
 pub returns-in_err-write_value : goal.returns-in_err-write_value
 returns-in_err-write_value g c =

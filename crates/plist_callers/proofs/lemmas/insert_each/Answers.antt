@@ -1,5 +1,5 @@
 use Rattle.plist_pairs.proofs.Inserts.{list-added}
-use Rattle.plist_pairs.proofs.callers.insert_each.Goals as goal
+use Rattle.plist_callers.proofs.lemmas.insert_each.Goals as goal
 
 pub returns : goal.returns
 returns g c =
