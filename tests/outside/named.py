@@ -50,7 +50,7 @@ def imported(text, kit):
 def passed_on(sources):
     """Returns the names that `plist` exports, and the files of which it exports everything."""
     names, whole_files = set(), set()
-    for module in ("lib", "dictionary", "stream", "value", "stream/builder", "stream/events", "stream/reading", "stream/writing", "callers"):
+    for module in ("lib", "dictionary", "stream", "value", "stream/builder", "stream/events", "stream/reading", "stream/writing"):
         text = sources[f"plist/{module}"]
         names |= set(re.findall(r"(?m)^pub (?:struct|enum|trait|type) (\w+)", text))
         names |= set(re.findall(r"(?m)^pub fn (\w+)", text))
