@@ -22,9 +22,9 @@ use std::alloc::{AllocError, Global};
 #[derive(Drop)]
 pub struct TreeClasses {
     /// The class of each event, at the event's index.
-    pub of: CompactNumbers,
+    pub by_event: CompactNumbers,
     /// An exclusive upper bound of the classes.
-    pub count: usize,
+    pub bound: usize,
 }
 
 /// A collection, described by its kind and the classes of its children.
@@ -37,17 +37,20 @@ pub struct Collection {
 }
 
 // Returns the index of a collection in the set, and inserts it if the set contains no equal one.
-fn index_of(seen: &mut IndexSet<Collection>, collection: Collection) -> Result<usize, AllocError>
+fn index_of(
+    collections: &mut IndexSet<Collection>,
+    collection: Collection,
+) -> Result<usize, AllocError>
     // Result.
-    ensures stored { IfOk result (λ index. slice_get (map node_of seen.new.keys) index
+    ensures stored { IfOk result (λ index. slice_get (map node_of collections.new.keys) index
         ≡ Some (node_of collection)) }
-    ensures below { IfOk result (λ index. index < length (map node_of seen.new.keys)) }
+    ensures below { IfOk result (λ index. index < length (map node_of collections.new.keys)) }
     // State afterwards.
     ensures extends { OnOk result
-        (Extends (map node_of seen.old.keys) (map node_of seen.new.keys)) }
-    ensures apart { OnOk result (AreDistinct (map node_of seen.new.keys)) }
+        (Extends (map node_of collections.old.keys) (map node_of collections.new.keys)) }
+    ensures apart { OnOk result (AreDistinct (map node_of collections.new.keys)) }
 {
-    match seen.insert_full(collection) {
+    match collections.insert_full(collection) {
         Ok((index, _)) => return Ok(index),
         Err(_) => return Err(AllocError),
     }
@@ -103,61 +106,61 @@ fn begins_dictionary(events: &EventTable<'_>, index: usize) -> bool
     }
 }
 
-// Returns the class of the collection that begins at an index. It is at least `found.count`, which
+// Returns the class of the collection that begins at an index. It is at least `found.bound`, which
 // is above the classes of all scalars.
 fn class_of_collection(
     alloc: Global,
     events: &EventTable<'_>,
     found: &TreeClasses,
     index: usize,
-    seen: &mut IndexSet<Collection>,
+    collections: &mut IndexSet<Collection>,
 ) -> Result<usize, AllocError>
     requires index { index < length (plain_events events.now) }
-    requires long { length found.now.of ≡ length (plain_events events.now) }
+    requires long { length found.now.by_event ≡ length (plain_events events.now) }
     // Result.
-    ensures class { IfOk result (IsClassAt events.now found.now.of found.now.count
-        (map node_of seen.new.keys) index) }
-    ensures below { IfOk result (λ class. class < found.now.count
-        + length (map node_of seen.new.keys)) }
+    ensures class { IfOk result (IsClassAt events.now found.now.by_event found.now.bound
+        (map node_of collections.new.keys) index) }
+    ensures below { IfOk result (λ class. class < found.now.bound
+        + length (map node_of collections.new.keys)) }
     // State afterwards.
     ensures extends { OnOk result
-        (Extends (map node_of seen.old.keys) (map node_of seen.new.keys)) }
-    ensures apart { OnOk result (AreDistinct (map node_of seen.new.keys)) }
+        (Extends (map node_of collections.old.keys) (map node_of collections.new.keys)) }
+    ensures apart { OnOk result (AreDistinct (map node_of collections.new.keys)) }
 {
-    let children = classes_within(alloc, events, &found.of, index)?;
+    let children = classes_within(alloc, events, &found.by_event, index)?;
     let collection = Collection {
         is_dictionary: begins_dictionary(events, index),
         children,
     };
-    let node = index_of(seen, collection)?;
-    let class = found.count.checked_add(node).ok_or(AllocError)?;
+    let node = index_of(collections, collection)?;
+    let class = found.bound.checked_add(node).ok_or(AllocError)?;
     Ok(class)
 }
 
 // Sets the class of the tree that begins at an index, if it is a collection. A scalar already has
 // one.
-fn give_class(
+fn assign_class(
     alloc: Global,
     events: &EventTable<'_>,
     index: usize,
     found: &mut TreeClasses,
-    seen: &mut IndexSet<Collection>,
+    collections: &mut IndexSet<Collection>,
 ) -> Result<(), AllocError>
     requires index { index < length (plain_events events.now) }
-    requires long { length found.old.of ≡ length (plain_events events.now) }
-    requires classes { AreClassesFrom events.now found.old.count found.old.of
-        (map node_of seen.old.keys) (index + 1) }
-    requires apart { AreDistinct (map node_of seen.old.keys) }
-    ensures classes { OnOk result (AreClassesFrom events.now found.new.count found.new.of
-        (map node_of seen.new.keys) index) }
-    ensures long { OnOk result (length found.new.of ≡ length (plain_events events.now)) }
-    ensures apart { OnOk result (AreDistinct (map node_of seen.new.keys)) }
+    requires long { length found.old.by_event ≡ length (plain_events events.now) }
+    requires classes { AreClassesFrom events.now found.old.bound found.old.by_event
+        (map node_of collections.old.keys) (index + 1) }
+    requires apart { AreDistinct (map node_of collections.old.keys) }
+    ensures classes { OnOk result (AreClassesFrom events.now found.new.bound found.new.by_event
+        (map node_of collections.new.keys) index) }
+    ensures long { OnOk result (length found.new.by_event ≡ length (plain_events events.now)) }
+    ensures apart { OnOk result (AreDistinct (map node_of collections.new.keys)) }
 {
     match events.kind_at(index) {
         EventShape::Scalar | EventShape::EndCollection => Ok(()),
         EventShape::StartArray | EventShape::StartDictionary => {
-            let class = class_of_collection(alloc, events, found, index, seen)?;
-            found.of.set(index, class)?;
+            let class = class_of_collection(alloc, events, found, index, collections)?;
+            found.by_event.set(index, class)?;
             Ok(())
         }
     }
@@ -165,26 +168,26 @@ fn give_class(
 
 // Sets the class of each tree among these events. The walk goes backwards, so that the classes of a
 // collection's children are known before its own class is determined.
-fn give_classes(
+fn assign_classes(
     alloc: Global,
     events: &EventTable<'_>,
     found: &mut TreeClasses,
-    seen: &mut IndexSet<Collection>,
+    collections: &mut IndexSet<Collection>,
 ) -> Result<(), AllocError>
-    requires long { length found.old.of ≡ length (plain_events events.now) }
-    requires classes { AreClassesFrom events.now found.old.count found.old.of
-        (map node_of seen.old.keys) (length found.old.of) }
-    requires apart { AreDistinct (map node_of seen.old.keys) }
+    requires long { length found.old.by_event ≡ length (plain_events events.now) }
+    requires classes { AreClassesFrom events.now found.old.bound found.old.by_event
+        (map node_of collections.old.keys) (length found.old.by_event) }
+    requires apart { AreDistinct (map node_of collections.old.keys) }
     ensures { OnOk result (SeparatesAll events.now found.new) }
 {
-    let mut index = found.of.len();
+    let mut index = found.by_event.len();
     'back: while index > 0 {
         index -= 1;
-        give_class(alloc, events, index, found, seen)?;
+        assign_class(alloc, events, index, found, collections)?;
     }
-    match found.count.checked_add(seen.len()) {
-        Some(count) => {
-            found.count = count;
+    match found.bound.checked_add(collections.len()) {
+        Some(bound) => {
+            found.bound = bound;
             Ok(())
         }
         None => Err(AllocError),
@@ -193,38 +196,22 @@ fn give_classes(
 
 // Returns a class for each event: equal scalars share a class, and any other event has its own.
 fn event_classes(alloc: Global, events: &EventTable<'_>) -> Result<TreeClasses, AllocError>
-    ensures long { IfOk result (λ r. length r.of ≡ length (plain_events events.now)) }
-    ensures classes { IfOk result (λ r. AreIdentities (plain_events events.now) (nth_number r.of)
-        r.count) }
+    ensures long { IfOk result (λ r. length r.by_event ≡ length (plain_events events.now)) }
+    ensures classes { IfOk result (λ r. AreIdentities (plain_events events.now) (nth_number r.by_event)
+        r.bound) }
 {
     let given = Classed {
         events,
         classes: &Classes::EqualScalars,
     };
-    let mut of = CompactNumbers::with_capacity(alloc, events.len())?;
+    let mut by_event = CompactNumbers::with_capacity(alloc, events.len())?;
     for index in 0..events.len() {
-        of.push(given.class_at(index))?;
+        by_event.push(given.class_at(index))?;
     }
     Ok(TreeClasses {
-        of,
-        count: given.bound(),
+        by_event,
+        bound: given.bound(),
     })
-}
-
-// Sets the class of each tree. Before the call, equal scalars share a class, and any other event
-// has a class of its own.
-fn give_trees(
-    alloc: Global,
-    events: &EventTable<'_>,
-    found: &mut TreeClasses,
-) -> Result<(), AllocError>
-    requires long { length found.old.of ≡ length (plain_events events.now) }
-    requires classes { AreIdentities (plain_events events.now) (nth_number found.old.of)
-        found.old.count }
-    ensures { OnOk result (SeparatesAll events.now found.new) }
-{
-    let mut seen = IndexSet::new(alloc);
-    give_classes(alloc, events, found, &mut seen)
 }
 
 /// Returns a class for each event. Two events at which trees begin have the same class if and only
@@ -233,6 +220,7 @@ pub fn tree_classes(alloc: Global, events: &EventTable<'_>) -> Result<TreeClasse
     ensures { IfOk result (SeparatesAll events.now) }
 {
     let mut found = event_classes(alloc, events)?;
-    give_trees(alloc, events, &mut found)?;
+    let mut collections = IndexSet::new(alloc);
+    assign_classes(alloc, events, &mut found, &mut collections)?;
     Ok(found)
 }

@@ -6,8 +6,8 @@
 #![tactic(auto)]
 
 mod classes;
-mod completion;
+mod sharing;
 mod writer;
 
-pub use completion::EqualTrees;
+pub use sharing::EqualTrees;
 pub use writer::SharingWriter;

@@ -1,6 +1,6 @@
 //! The writer that shares collections.
 
-use crate::completion::EqualTrees;
+use crate::sharing::EqualTrees;
 use plist_binwrite::FileWriter;
 
 /// Writes binary property lists, one after another, to a writer. A file contains each different

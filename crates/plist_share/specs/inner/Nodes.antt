@@ -67,10 +67,10 @@ abbrev pub SeparatesTrees : List PlainEvent → (class : ℕ → ℕ) → Type 0
 SeparatesTrees es class =
     (t u : Tree) (p q : ℕ) → OccursAt es t p → OccursAt es u q → (class p ≡ class q) ↔ (t ≡ u)
 
--- each event has a class below the count, and two have the same class if and only if the same tree
+-- each event has a class below the bound, and two have the same class if and only if the same tree
 -- begins at both
 pub record SeparatesAll (held : EventTable) (found : TreeClasses) : Type 0 where
-  pub objects : AreClasses (plain_events held) (nth_number found.of)
-  pub trees : SeparatesTrees (plain_events held) (nth_number found.of)
-  pub long : length found.of ≡ length (plain_events held)
-  pub below : AllBelow found.count found.of
+  pub objects : AreClasses (plain_events held) (nth_number found.by_event)
+  pub trees : SeparatesTrees (plain_events held) (nth_number found.by_event)
+  pub long : length found.by_event ≡ length (plain_events held)
+  pub below : AllBelow found.bound found.by_event

@@ -7,11 +7,11 @@ use Rattle.plist_share.proofs.classes.class_of_collection.Goals as goal
 pub returns-clause-class : goal.returns-clause-class
 returns-clause-class c t s =
     let es = plain_events c.args.events.now in
-    let class = nth_number c.args.found.now.of in
+    let class = nth_number c.args.found.now.by_event in
     let is = c.in_ok-children.ensures ∙ (λ i. map class (keys_are_in es t c.args.index s i)
     ++ map class (values_are_in es t c.args.index s i)) in
-    let class : c.in_ok-class.class ≡ c.args.found.now.count + c.in_ok-node.node = search rules in
-    by_collection es (nth_number c.args.found.now.of) c.args.found.now.count _
+    let class : c.in_ok-class.class ≡ c.args.found.now.bound + c.in_ok-node.node = search rules in
+    by_collection es (nth_number c.args.found.now.by_event) c.args.found.now.bound _
     c.begins_dictionary.result t c.args.index c.in_ok-class.class s
     c.begins_dictionary.ensures (
       c.in_ok-node.node,

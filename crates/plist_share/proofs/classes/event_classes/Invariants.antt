@@ -5,5 +5,5 @@ use Rattle.plist_binwrite.specs.declared.classes.Classes.TheVariants.{EqualScala
 use Rattle.plist_share.proofs.classes.event_classes.Given as goal
 
 abbrev pub invariant-loop-index : goal.invariant-loop-index
-invariant-loop-index l = (length l.of ≡ l.index)
-    × ((p : ℕ) → p < l.index → nth_number l.of p ≡ class_of EqualScalars l.events p)
+invariant-loop-index l = (length l.by_event ≡ l.index)
+    × ((p : ℕ) → p < l.index → nth_number l.by_event p ≡ class_of EqualScalars l.events p)

@@ -2,7 +2,7 @@ use Rattle.std.proofs.Common.{arith}
 use Rattle.std.proofs.lemmas.List.{length-map}
 use Rattle.plist_share.specs.inner.Nodes.{Node, node_of}
 use Rattle.plist_share.proofs.ClassTrees.{found_classes, separate_trees}
-use Rattle.plist_share.proofs.classes.give_classes.Goals as goal
+use Rattle.plist_share.proofs.classes.assign_classes.Goals as goal
 
 pub returns-in-Some : goal.returns-in-Some
 returns-in-Some c =
@@ -16,7 +16,7 @@ returns-in-Some c =
       below = λ i h. omega (
         arith,
         have.2.below i (omega (arith, long, h)),
-        length-map {B = Node} c.back.seen.keys node_of,
+        length-map {B = Node} c.back.collections.keys node_of,
         c.in-Some.ensures,
         c.len.ensures,
       );

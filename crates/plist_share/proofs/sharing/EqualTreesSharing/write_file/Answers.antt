@@ -3,12 +3,12 @@ use Rattle.std.proofs.lemmas.Result.{err_from_is_err_and}
 use Rattle.plist_base.specs.Writing.{answer_of}
 use Rattle.plist_buffer.specs.EventTable.{nth_number}
 use Rattle.plist_share.proofs.SharedFile.{sends_shared, sends_nothing}
-use Rattle.plist_share.proofs.completion.EqualTreesSharing.write_file.Goals as goal
+use Rattle.plist_share.proofs.sharing.EqualTreesSharing.write_file.Goals as goal
 
 pub returns : goal.returns
 returns g c =
     sends_shared g.W.Write.contents c.args.events.now
-    (nth_number c.in_ok-found.found.of) c.in_ok-found.ensures.trees
+    (nth_number c.in_ok-found.found.by_event) c.in_ok-found.ensures.trees
     (answer_of c.write_file_by_class.result) c.args.writer.now c.write_file_by_class.new.writer
     c.write_file_by_class.ensures
 

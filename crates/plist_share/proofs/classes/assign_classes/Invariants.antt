@@ -2,14 +2,14 @@ use Rattle.std.proofs.Common.{◌≡◌, ◌≤◌, length, map}
 use Rattle.plist_buffer.specs.EventTable.{plain_events}
 use Rattle.plist_buffer.specs.inner.Entries.{AreDistinct}
 use Rattle.plist_share.specs.inner.Nodes.{AreClassesFrom, node_of}
-use Rattle.plist_share.proofs.classes.give_classes.Given as goal
+use Rattle.plist_share.proofs.classes.assign_classes.Given as goal
 
 abbrev pub invariant-back : goal.invariant-back
 invariant-back l = record {
-  have : AreClassesFrom l.events l.found.count l.found.of (map node_of l.seen.keys) l.index;
-  long : length l.found.of ≡ length (plain_events l.events);
+  have : AreClassesFrom l.events l.found.bound l.found.by_event (map node_of l.collections.keys) l.index;
+  long : length l.found.by_event ≡ length (plain_events l.events);
   within : l.index ≤ length (plain_events l.events);
-  apart : AreDistinct (map node_of l.seen.keys);
+  apart : AreDistinct (map node_of l.collections.keys);
 }
 
 abbrev pub decreases-back : goal.decreases-back

@@ -25,8 +25,8 @@ impl Sharing for EqualTrees {
     ) -> Result<(), Error> {
         let found = tree_classes(alloc, events)?;
         let classes = Classes::Listed {
-            by_event: found.of,
-            bound: found.count,
+            by_event: found.by_event,
+            bound: found.bound,
         };
         let given = Classed {
             events,
