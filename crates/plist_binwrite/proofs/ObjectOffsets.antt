@@ -34,18 +34,18 @@ pub length-magic : (xs : List ℕ) → length (magic ++ xs) ≡ 8 + length xs
 length-magic xs = length-append magic xs
 
 -- object k lies among these bytes, of which the first is at the offset `at`
-pub record Lies (w : ℕ) (objects : ℕ → Object) (places bytes : List ℕ) (at k : ℕ) : Type 0 where
+pub record Lies (w : ℕ) (objects : ℕ → Object) (offsets bytes : List ℕ) (at k : ℕ) : Type 0 where
   pub before : List ℕ
   pub after : List ℕ
   pub is : bytes ≡ before ++ (form w (objects k) ++ after)
-  pub at_place : get_or places k 0 ≡ at + length before
+  pub at_place : get_or offsets k 0 ≡ at + length before
   pub good : IsWritable w (objects k)
 
 module _ (w : ℕ) (objects : ℕ → Object) where
-  found : (places order : List ℕ) (at k : ℕ) → Laid w objects places order at → list_any
-      (eqb k) order ≡ true → Lies w objects places (object_table w objects order) at k
-  found places [] at k l any = cc
-  found places (j ∷ order) at k l any =
+  found : (offsets order : List ℕ) (at k : ℕ) → Laid w objects offsets order at → list_any
+      (eqb k) order ≡ true → Lies w objects offsets (object_table w objects order) at k
+  found offsets [] at k l any = cc
+  found offsets (j ∷ order) at k l any =
       elim (eqb_tells k j) [
         | inl e ↦ rw e.1
             (record {
@@ -56,7 +56,7 @@ module _ (w : ℕ) (objects : ℕ → Object) where
                   (arith, l.0);
               good = l.1;
             })
-        | inr d ↦ let f = found places order _ k l.2
+        | inr d ↦ let f = found offsets order _ k l.2
             (sym (ap (λ b. b || list_any (eqb k) order) d.0) ∙ any) in
             record {
               before = form w (objects j) ++ f.before;
@@ -70,11 +70,11 @@ module _ (w : ℕ) (objects : ℕ → Object) where
             }
       ]
 
-  module _ (order places : List ℕ) (k : ℕ) (l : Laid w objects places order 8)
+  module _ (order offsets : List ℕ) (k : ℕ) (l : Laid w objects offsets order 8)
       (any : list_any (eqb k) order ≡ true) where
     -- object k stays where it is when something is appended
     pub object_there : (more : List ℕ)
-        → Lies w objects places (laid_out w objects order ++ more) 0 k
+        → Lies w objects offsets (laid_out w objects order ++ more) 0 k
     object_there more =
         let f = found _ _ 8 k l any in
         record {
@@ -89,9 +89,9 @@ module _ (w : ℕ) (objects : ℕ → Object) where
         }
 
     -- its offset is within the file
-    pub found_place : get_or places k 0 ≤ length (laid_out w objects order)
+    pub found_place : get_or offsets k 0 ≤ length (laid_out w objects order)
     found_place =
-        let f = found places order 8 k l any in
+        let f = found offsets order 8 k l any in
         omega (
           arith,
           f.at_place,
@@ -100,19 +100,19 @@ module _ (w : ℕ) (objects : ℕ → Object) where
           length-append f.before (form w (objects k) ++ f.after),
         )
 
-  pub laid_snoc : (places order : List ℕ) (at k v : ℕ) → k < length places
+  pub laid_snoc : (offsets order : List ℕ) (at k v : ℕ) → k < length offsets
       → list_any (eqb k) order ≡ false → IsWritable w (objects k)
       → v ≡ at + length (object_table w objects order)
-      → Laid w objects places order at → Laid w objects (set places k v) (order ++ k ∷ []) at
-  laid_snoc places [] at k v h new good e l =
+      → Laid w objects offsets order at → Laid w objects (set offsets k v) (order ++ k ∷ []) at
+  laid_snoc offsets [] at k v h new good e l =
       (get_or-set_same _ k v 0 h ∙ omega arith, good, tt)
-  laid_snoc places (j ∷ order) at k v h new good e l =
+  laid_snoc offsets (j ∷ order) at k v h new good e l =
       elim (eqb_tells k j) [
         | inl same ↦ cc ((or_parts (eqb k j) (list_any (eqb k) order) new).0)
         | inr d ↦ (
-          get_or-set_other places k j v 0 (λ x. d.1 (sym x)) ∙ l.0,
+          get_or-set_other offsets k j v 0 (λ x. d.1 (sym x)) ∙ l.0,
           l.1,
-          laid_snoc places order (at + length (form w (objects j))) k v h
+          laid_snoc offsets order (at + length (form w (objects j))) k v h
               (sym (ap (λ b. b || list_any (eqb k) order) d.0) ∙ new) good
               (omega (arith, e, length-append (form w (objects j)) (object_table w objects order))) l.2,
         )
@@ -246,7 +246,7 @@ module _ {plan : FilePlan} (r : IsFilePlan plan) (objects : ℕ → Object)
   body order = object_table plan.width objects order
 
   -- an offset is less than 2^64
-  pub laid_below : {order places : List ℕ} → IsOrder count order places
+  pub laid_below : {order offsets : List ℕ} → IsOrder count order offsets
       → length (laid_out plan.width objects order) < 2 ^ 64
   laid_below {order} o =
       omega (
@@ -258,31 +258,31 @@ module _ {plan : FilePlan} (r : IsFilePlan plan) (objects : ℕ → Object)
       )
 
   -- one more object is put
-  module _ {order places : List ℕ} (l : IsLayout plan objects order places) (k v : ℕ)
-      (h : k < count) (z : get_or places k 0 ≡ 0)
+  module _ {order offsets : List ℕ} (l : IsLayout plan objects order offsets) (k v : ℕ)
+      (h : k < count) (z : get_or offsets k 0 ≡ 0)
       (is : v ≡ length (laid_out plan.width objects order)) where
     positive : 0 < v
     positive = omega (arith, is, length-magic (body order))
 
-    pub next_layout : IsLayout plan objects (order ++ k ∷ []) (set places k v)
+    pub next_layout : IsLayout plan objects (order ++ k ∷ []) (set offsets k v)
     next_layout = record {
       ordered = order_more k v l.ordered h z positive;
-      laid = laid_snoc plan.width objects places order 8 k v (omega (arith, h, l.ordered.long))
+      laid = laid_snoc plan.width objects offsets order 8 k v (omega (arith, h, l.ordered.long))
           (not_in_order k v l.ordered h z positive) (r.writable objects d k h)
           (is ∙ length-magic (body order)) l.laid;
     }
 
-    pub next_kept : KeepsOffsets plan places (set places k v)
+    pub next_kept : KeepsOffsets plan offsets (set offsets k v)
     next_kept = keeps_more k v l.ordered h z positive
 
-    pub next_placed : get_or (set places k v) k 0 ≢ 0
+    pub next_placed : get_or (set offsets k v) k 0 ≢ 0
     next_placed = marked_more k v l.ordered h z positive
 
   -- a layout of all objects that goes on from a layout of some of them
   pub record Continues (order : List ℕ) (n : ℕ) : Type 0 where
     pub more : List ℕ
-    pub places : List ℕ
-    pub layout : IsLayout plan objects (order ++ more) places
+    pub offsets : List ℕ
+    pub layout : IsLayout plan objects (order ++ more) offsets
     pub all : (k : ℕ) → k < n → list_any (eqb k) (order ++ more) ≡ true
 
   in_more : (order more : List ℕ) (k : ℕ) → list_any (eqb k) order ≡ true
@@ -295,25 +295,25 @@ module _ {plan : FilePlan} (r : IsFilePlan plan) (objects : ℕ → Object)
         | inr t ↦ or_right (eqb k x) rest (in_more order more k t)
       ]
 
-  pub continued : {order places : List ℕ} → IsLayout plan objects order places → (n : ℕ)
+  pub continued : {order offsets : List ℕ} → IsLayout plan objects order offsets → (n : ℕ)
       → n ≤ count → Continues order n
-  continued {order} {places} l zero h = record {
+  continued {order} {offsets} l zero h = record {
     more = [];
-    places = places;
+    offsets = offsets;
     layout = rw append-nil l;
     all = λ k low. absurd (omega (arith, low));
   }
   continued {order} l (suc n) h =
       let c = continued l n (omega (arith, h)) in
-      elim (eqb_tells (get_or c.places n 0) 0) [
+      elim (eqb_tells (get_or c.offsets n 0) 0) [
         | inl free ↦
             let next = next_layout c.layout n _ (omega (arith, h)) free.1 refl in
             let is = append_assoc order c.more (n ∷ []) in
-            let places = set c.places n (length (laid_out plan.width objects (order ++ c.more))) in
+            let offsets = set c.offsets n (length (laid_out plan.width objects (order ++ c.more))) in
             record {
               more = c.more ++ n ∷ [];
-              places = places;
-              layout = subst (λ order. IsLayout plan objects order places) is next;
+              offsets = offsets;
+              layout = subst (λ order. IsLayout plan objects order offsets) is next;
               all = λ k low. subst (λ order. list_any (eqb k) order ≡ true) is (elim (eqb_tells k n) [
                 | inl same ↦ any_snoc k (order ++ c.more) n ∙ or_right (list_any (eqb k) (order ++ c.more)) (eqb k n) same.0
                 | inr other ↦ in_more _ _ k (c.all k (omega (arith, low, other.1)))
@@ -321,10 +321,10 @@ module _ {plan : FilePlan} (r : IsFilePlan plan) (objects : ℕ → Object)
             }
         | inr some ↦ record {
           more = c.more;
-          places = c.places;
+          offsets = c.offsets;
           layout = c.layout;
           all = λ k low. elim (eqb_tells k n) [
-            | inl same ↦ in_order k c.layout.ordered (λ none. some.1 (ap (λ j. get_or c.places j 0) (sym same.1) ∙ none))
+            | inl same ↦ in_order k c.layout.ordered (λ none. some.1 (ap (λ j. get_or c.offsets j 0) (sym same.1) ∙ none))
             | inr other ↦ c.all k (omega (arith, low, other.1))
           ];
         }

@@ -68,10 +68,10 @@ module _ {es : List PlainEvent} {class : ℕ → ℕ} {by_class : List ℕ} {cou
       ∙ ap (λ c. 8 + objects_by class (reference_width c) t)
       (planned_count planned t e)
 
-  module _ (places : List ℕ) (laid : Laid (reference_width (length places)) objects places order 8)
-      (long : length places ≡ count) (fits : size_by class t < 2 ^ 64) where
+  module _ (offsets : List ℕ) (laid : Laid (reference_width (length offsets)) objects offsets order 8)
+      (long : length offsets ≡ count) (fits : size_by class t < 2 ^ 64) where
     abbrev w : ℕ
-    w = reference_width (length places)
+    w = reference_width (length offsets)
 
     abbrev body : List ℕ
     body = object_table w objects order
@@ -85,7 +85,7 @@ module _ {es : List PlainEvent} {class : ℕ → ℕ} {by_class : List ℕ} {cou
     made : Numbered es num
     made = numbered planned
 
-    count_is : length places ≡ count_by class t
+    count_is : length offsets ≡ count_by class t
     count_is = long ∙ planned_count planned t e
 
     place_is : length file ≡ 8 + objects_by class (reference_width (count_by class t)) t
@@ -94,73 +94,73 @@ module _ {es : List PlainEvent} {class : ℕ → ℕ} {by_class : List ℕ} {cou
     short : length file < 2 ^ 64
     short = omega (arith, place_is, fits)
 
-    whole : AllOnce (length places) order
+    whole : AllOnce (length offsets) order
     whole = rw long all
 
     -- ---- the contents of the file's offset table
 
     abbrev before : List ℕ
-    before = take (last body places) (with_table_and_trailer file places)
+    before = take (last body offsets) (with_table_and_trailer file offsets)
 
     abbrev entries : List TableEntry
-    entries = table_of before w places
+    entries = table_of before w offsets
 
-    entry_read : (k : ℕ) → k < length places
-        → slice_get entries k ≡ Some (record { place = get_or places k 0; object = objects k })
+    entry_read : (k : ℕ) → k < length offsets
+        → slice_get entries k ≡ Some (record { place = get_or offsets k 0; object = objects k })
     entry_read k h =
-        let o = object_there w objects order places k laid ((whole.numbered k).1 h)
-        (table_form (least_width (length file)) places) in
-        slice_get-map _ places k ∙ ap (option_map _) (slice_get-get_or places k 0 h)
-        ∙ ap (λ object. Some (record { place = get_or places k 0; object = object }))
-        (ap (λ bytes. object_in w (drop (get_or places k 0) bytes)) (front_is body places ∙ o.is)
+        let o = object_there w objects order offsets k laid ((whole.numbered k).1 h)
+        (table_form (least_width (length file)) offsets) in
+        slice_get-map _ offsets k ∙ ap (option_map _) (slice_get-get_or offsets k 0 h)
+        ∙ ap (λ object. Some (record { place = get_or offsets k 0; object = object }))
+        (ap (λ bytes. object_in w (drop (get_or offsets k 0) bytes)) (front_is body offsets ∙ o.is)
         ∙ ap (object_in w) (drop_front o.before (form w (objects k) ++ o.after) _
         (omega (arith, o.at_place)))
-        ∙ form_read w (width_positive (length places - 1)) (objects k) o.after o.good)
+        ∙ form_read w (width_positive (length offsets - 1)) (objects k) o.after o.good)
 
-    fit : AllFit (least_width (length file)) places
+    fit : AllFit (least_width (length file)) offsets
     fit =
         let Fits : ℕ → Type 0 = λ n. n < 256 ^ least_width (length file) in
-        recursion_from_All Fits places (All-from_get_or Fits places 0 (λ k h. omega (
+        recursion_from_All Fits offsets (All-from_get_or Fits offsets 0 (λ k h. omega (
           arith,
-          found_place w objects order places k laid ((whole.numbered k).1 h),
+          found_place w objects order offsets k laid ((whole.numbered k).1 h),
           width_holds (length file) short,
         )))
 
-    head_found : head_of (with_table_and_trailer file places) ≡ Ok
-        (record { trailer = last body places; reference_width = w; root = 0; places = places })
-    head_found = head_is body places (omega (arith, long, planned.numbered.small)) short fit
+    head_found : head_of (with_table_and_trailer file offsets) ≡ Ok
+        (record { trailer = last body offsets; reference_width = w; root = 0; places = offsets })
+    head_found = head_is body offsets (omega (arith, long, planned.numbered.small)) short fit
 
-    shows : Shows num (unfolding_of entries (length places) [] (last body places) 0)
-        (visits_of entries (length places) [] 0) (bracketing t) (positions t 0)
+    shows : Shows num (unfolding_of entries (length offsets) [] (last body offsets) 0)
+        (visits_of entries (length offsets) [] 0) (bracketing t) (positions t 0)
     shows =
-        let buffer : length entries - 0 ≡ length places = omega
-        (arith, length-table_of before places w)
+        let buffer : length entries - 0 ≡ length offsets = omega
+        (arith, length-table_of before offsets w)
         in
         let all = unfolds_whole entries es num made.rank made.ranked
         (λ u p s. (
-          get_or places (num p) 0,
+          get_or offsets (num p) 0,
           entry_read (num p) (omega (arith, number_below planned u p s))
-              ∙ ap (λ o. Some (record { place = get_or places (num p) 0; object = o }))
+              ∙ ap (λ o. Some (record { place = get_or offsets (num p) 0; object = o }))
               (describes u p s),
         ))
-        t (last body places) (occurs_whole e) in
+        t (last body offsets) (occurs_whole e) in
         rw (buffer, planned.root) at all
 
-    items_are : items_of_file (with_table_and_trailer file places) ≡ map Ok (bracketing t)
+    items_are : items_of_file (with_table_and_trailer file offsets) ≡ map Ok (bracketing t)
     unfolding items_of_file
     items_are =
-        ap (items_with (with_table_and_trailer file places)) head_found ∙ ap until_fault shows.items
+        ap (items_with (with_table_and_trailer file offsets)) head_found ∙ ap until_fault shows.items
         ∙ no_fault (bracketing t)
 
-    visits_are : visits (with_table_and_trailer file places) ≡ map (λ one. num one.0) (collections_in t)
+    visits_are : visits (with_table_and_trailer file offsets) ≡ map (λ one. num one.0) (collections_in t)
     unfolding visits
-    visits_are = ap (visits_with (with_table_and_trailer file places)) head_found ∙ shows.visits
+    visits_are = ap (visits_with (with_table_and_trailer file offsets)) head_found ∙ shows.visits
 
-    ok_same : (a b : Head) → Ok a ≡ head_of (with_table_and_trailer file places)
-        → head_of (with_table_and_trailer file places) ≡ Ok b → b ≡ a
+    ok_same : (a b : Head) → Ok a ≡ head_of (with_table_and_trailer file offsets)
+        → head_of (with_table_and_trailer file offsets) ≡ Ok b → b ≡ a
     ok_same a b p q = cc
 
-    pub finished : IsFileBy class t (with_table_and_trailer file places)
+    pub finished : IsFileBy class t (with_table_and_trailer file offsets)
     finished = record {
       numbers = num;
       apart = λ u v p q s r. number_apart planned u v p q (rw e s) (rw e r);
@@ -168,7 +168,7 @@ module _ {es : List PlainEvent} {class : ℕ → ℕ} {by_class : List ℕ} {cou
       written = record {
         order = order;
         objects = objects;
-        places = places;
+        offsets = offsets;
         distinct = all.distinct;
         numbered = whole.numbered;
         laid = laid;
@@ -179,7 +179,7 @@ module _ {es : List PlainEvent} {class : ℕ → ℕ} {by_class : List ℕ} {cou
           λ head is. ap (λ (h : Head). length h.places) (ok_same _ head (sym head_found) is)
           ∙ count_is;
       size =
-          length_closed body places
+          length_closed body offsets
           ∙ (λ i. place_is i + count_is i * least_width (place_is i) + 32);
       fits = fits;
     }
@@ -277,20 +277,20 @@ module _ {plan : FilePlan} (r : IsFilePlan plan) {W : Type 0} {contents : W → 
   -- the file of a plan is that of its tree
   pub file_made : {answer : Answer} {sink : Sink W} (p : PutsFile plan contents start answer sink)
       → AreTreeEvents (events_in plan.given) → IsOfTree (events_in plan.given)
-      (λ tree. IsFileBy (class_in plan.given) tree (file_with plan.width p.objects p.places p.order))
+      (λ tree. IsFileBy (class_in plan.given) tree (file_with plan.width p.objects p.offsets p.order))
   file_made p tree = (
     complete_of_whole (events_in plan.given) tree,
     λ t alike.
         let e = plain_lengthless plan.given.events.now t alike in
         let o = p.layout.ordered in
-        let wide : plan.width ≡ reference_width (length p.places) =
+        let wide : plan.width ≡ reference_width (length p.offsets) =
         r.width ∙ ap reference_width (sym o.long) in
         let once : AllOnce plan.numbering.count p.order =
         record { distinct = o.distinct; numbered = λ k. (o.below k, p.all k) } in
         subst
-        (λ w. IsFileBy (class_in plan.given) t (file_with w p.objects p.places p.order))
+        (λ w. IsFileBy (class_in plan.given) t (file_with w p.objects p.offsets p.order))
         (sym wide)
-        (finished r.numbered.planned t e p.objects p.described p.order once p.places
+        (finished r.numbered.planned t e p.objects p.described p.order once p.offsets
         (rw wide at p.layout.laid) o.long (r.small t e)),
   )
 

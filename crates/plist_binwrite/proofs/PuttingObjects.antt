@@ -29,19 +29,19 @@ use Rattle.plist_binwrite.proofs.ObjectOffsets.{all_zero, continued, in_order, l
 module _ {plan : FilePlan} (r : IsFilePlan plan) {W : Type 0} {contents : W → Option (List ℕ)}
     {start : Sink W} where
   -- nothing but the magic is put
-  pub start_put : {places : List ℕ} {answer : Answer} {sink : Sink W}
-      → places ≡ replicate plan.numbering.count 0 → PutsBytes contents start magic answer sink
-      → ArePut plan contents start places answer sink
-  start_put {places} zeros put =
+  pub start_put : {offsets : List ℕ} {answer : Answer} {sink : Sink W}
+      → offsets ≡ replicate plan.numbering.count 0 → PutsBytes contents start magic answer sink
+      → ArePut plan contents start offsets answer sink
+  start_put {offsets} zeros put =
       let of = numbered r.numbered.planned in
       let count = plan.numbering.count in
-      let long : length places ≡ count = ap length zeros ∙ length-replicate count 0 in
+      let long : length offsets ≡ count = ap length zeros ∙ length-replicate count 0 in
       record {
         objects = of.objects;
         described = of.describes;
         order = [];
         layout = record {
-          ordered = order_none count places long (all_zero places count long
+          ordered = order_none count offsets long (all_zero offsets count long
               (λ k h. ap (λ l. get_or l k 0) zeros ∙ get_or-replicate count k 0 0 h));
           laid = tt;
         };
@@ -49,8 +49,8 @@ module _ {plan : FilePlan} (r : IsFilePlan plan) {W : Type 0} {contents : W → 
       }
 
   -- a file goes on with objects that weren't put before a write failed
-  pub part_put : {places : List ℕ} {fault : Fault} {sink : Sink W}
-      → ArePut plan contents start places (Err fault) sink
+  pub part_put : {offsets : List ℕ} {fault : Fault} {sink : Sink W}
+      → ArePut plan contents start offsets (Err fault) sink
       → PutsFile plan contents start (Err fault) sink
   part_put a =
       let c = continued r a.objects a.described a.layout plan.numbering.count (omega arith) in
@@ -59,22 +59,22 @@ module _ {plan : FilePlan} (r : IsFilePlan plan) {W : Type 0} {contents : W → 
         objects = a.objects;
         described = a.described;
         order = a.order ++ c.more;
-        places = c.places;
+        offsets = c.offsets;
         layout = c.layout;
         all = c.all;
-        put = puts_as (sym (goes_on w a.objects c.places a.order c.more)) (puts_front _ a.put);
+        put = puts_as (sym (goes_on w a.objects c.offsets a.order c.more)) (puts_front _ a.put);
       }
     where
-      goes_on : (w : ℕ) (objects : ℕ → Object) (places order more : List ℕ)
-          → file_with w objects places (order ++ more) ≡ laid_out w objects order
+      goes_on : (w : ℕ) (objects : ℕ → Object) (offsets order more : List ℕ)
+          → file_with w objects offsets (order ++ more) ≡ laid_out w objects order
           ++ (object_table w objects more
-          ++ table_and_trailer places (length (laid_out w objects (order ++ more))))
-      goes_on w objects places order more =
-          let rest = table_and_trailer places (length (laid_out w objects (order ++ more))) in
+          ++ table_and_trailer offsets (length (laid_out w objects (order ++ more))))
+      goes_on w objects offsets order more =
+          let rest = table_and_trailer offsets (length (laid_out w objects (order ++ more))) in
           ap (λ l. l ++ rest) (laid_more w objects order more)
           ∙ append_assoc (laid_out w objects order) (object_table w objects more) rest
 
-  module _ {places : List ℕ} {sink : Sink W} (a : ArePut plan contents start places (Ok tt) sink)
+  module _ {offsets : List ℕ} {sink : Sink W} (a : ArePut plan contents start offsets (Ok tt) sink)
       (none : HasPut start 0) where
     -- this number of bytes was put
     pub position_is : (v : ℕ) → ((n : ℕ) → HasPut sink n → n < 2 ^ 64 → v ≡ n)
@@ -84,22 +84,22 @@ module _ {plan : FilePlan} (r : IsFilePlan plan) {W : Type 0} {contents : W → 
         (laid_below r a.objects a.described a.layout.ordered)
 
     -- the offset table and the trailer follow all objects
-    pub all_put : ((k : ℕ) → k < plan.numbering.count → get_or places k 0 ≢ 0) → (v : ℕ)
+    pub all_put : ((k : ℕ) → k < plan.numbering.count → get_or offsets k 0 ≢ 0) → (v : ℕ)
         → ((n : ℕ) → HasPut sink n → n < 2 ^ 64 → v ≡ n) → (answer : Answer) (new : Sink W)
-        → PutsBytes contents sink (table_and_trailer places v) answer new
+        → PutsBytes contents sink (table_and_trailer offsets v) answer new
         → PutsFile plan contents start answer new
     all_put all v is answer new put = record {
       objects = a.objects;
       described = a.described;
       order = a.order;
-      places = places;
+      offsets = offsets;
       layout = a.layout;
       all = λ k h. in_order k a.layout.ordered (all k h);
       put = puts_then a.put (rw (position_is v is) at put);
     }
 
     module _ (p : ℕ) (item : HasItem (events_in plan.given) p)
-        (free : get_or places (number_of_event plan p) 0 ≡ 0) (v : ℕ)
+        (free : get_or offsets (number_of_event plan p) 0 ≡ 0) (v : ℕ)
         (is : (n : ℕ) → HasPut sink n → n < 2 ^ 64 → v ≡ n) where
       abbrev k : ℕ
       k = number_of_event plan p
@@ -111,7 +111,7 @@ module _ {plan : FilePlan} (r : IsFilePlan plan) {W : Type 0} {contents : W → 
       pub put_next : {answer : Answer} {new : Sink W}
           → ((t : Tree) → OccursAt (events_in plan.given) t p
           → PutsBytes contents sink (form plan.width (object_of (number_of_event plan) t p)) answer new)
-          → ArePut plan contents start (set places k v) answer new
+          → ArePut plan contents start (set offsets k v) answer new
       put_next put =
           let u = occurs_at (events_in plan.given) r.numbered.planned.whole p item.0 item.1 in
           record {
@@ -123,10 +123,10 @@ module _ {plan : FilePlan} (r : IsFilePlan plan) {W : Type 0} {contents : W → 
                 (puts_then a.put (rw (← a.described u.0 p u.1) at (put u.0 u.1)));
           }
 
-      pub put_kept : KeepsOffsets plan places (set places k v)
+      pub put_kept : KeepsOffsets plan offsets (set offsets k v)
       put_kept = next_kept r a.objects a.described a.layout k v below free (position_is v is)
 
-      pub put_placed : HasOffset plan (set places k v) p
+      pub put_placed : HasOffset plan (set offsets k v) p
       put_placed = next_placed r a.objects a.described a.layout k v below free (position_is v is)
 
 -- nothing is claimed
@@ -146,14 +146,14 @@ number_told None default v is n large small = absurd (omega (arith, large, small
 number_told (Some m) default v is n same small = is ∙ same
 
 module _ {plan : FilePlan} (r : IsFilePlan plan) {W : Type 0}
-    {contents : W → Option (List ℕ)} {places : List ℕ} {sink : Sink W} (p : ℕ)
-    (item : HasItem (events_in plan.given) p) (free : get_or places (number_of_event plan p) 0 ≡ 0)
+    {contents : W → Option (List ℕ)} {offsets : List ℕ} {sink : Sink W} (p : ℕ)
+    (item : HasItem (events_in plan.given) p) (free : get_or offsets (number_of_event plan p) 0 ≡ 0)
     (v : ℕ) (is : (n : ℕ) → HasPut sink n → n < 2 ^ 64 → v ≡ n) where
   -- the offset of an event's object is stored, and the object is put
   pub puts_first : (answer : Answer) {new : Sink W} → PutsObject plan contents p sink answer new
-      → PutsObjects plan contents (p ∷ []) (places, sink) answer (set places (number_of_event plan p) v, new)
+      → PutsObjects plan contents (p ∷ []) (offsets, sink) answer (set offsets (number_of_event plan p) v, new)
   puts_first answer put = record {
-    long = length-set places (number_of_event plan p) v;
+    long = length-set offsets (number_of_event plan p) v;
     step = λ start none a. (
       put_next r a none p item free v is put,
       put_kept r a none p item free v is,
@@ -163,7 +163,7 @@ module _ {plan : FilePlan} (r : IsFilePlan plan) {W : Type 0}
 
   -- the offset of an event's object is stored, and nothing is put
   pub lacks_first : {same : Sink W} → PutsNothing sink same
-      → LacksObject plan contents p (places, sink) (set places (number_of_event plan p) v, same)
+      → LacksObject plan contents p (offsets, sink) (set offsets (number_of_event plan p) v, same)
   lacks_first n answer after put = puts_first answer (λ t o. puts_after n (put t o))
 
 module _ {plan : FilePlan} {W : Type 0} {contents : W → Option (List ℕ)} {one : List ℕ}

@@ -178,8 +178,8 @@ width_positive n =
     at_width n (λ w. 0 < w) (λ a. omega arith) (λ a. omega arith) (λ a. omega arith) (omega arith)
 
 -- a file with its offset table and trailer
-abbrev pub with_table_and_trailer : (file places : List ℕ) → List ℕ
-with_table_and_trailer file places = file ++ table_and_trailer places (length file)
+abbrev pub with_table_and_trailer : (file offsets : List ℕ) → List ℕ
+with_table_and_trailer file offsets = file ++ table_and_trailer offsets (length file)
 
 trailer_back : (ow rf count at : ℕ) → count < 2 ^ 64 → at < 2 ^ 64
     → trailer_in (0 ∷ 0 ∷ 0 ∷ 0 ∷ 0 ∷ 0 ∷ ow ∷ rf
@@ -193,13 +193,13 @@ trailer_back ow rf count at few short =
     let t = number_back 8 at (omega arith) in
     λ i. record { offset_width = a i; reference_width = b i; count = c i; root = z i; table = t i }
 
-head_with_is : (bytes places : List ℕ) (trailer ow rf count at : ℕ) → is_width ow ≡ true
+head_with_is : (bytes offsets : List ℕ) (trailer ow rf count at : ℕ) → is_width ow ≡ true
     → is_width rf ≡ true → at + count * ow ≤ trailer
-    → numbers_spelled ow (take (count * ow) (drop at bytes)) ≡ places
+    → numbers_spelled ow (take (count * ow) (drop at bytes)) ≡ offsets
     → head_with bytes trailer
     (record { offset_width = ow; reference_width = rf; count = count; root = 0; table = at })
-    ≡ Ok (record { trailer = trailer; reference_width = rf; root = 0; places = places })
-head_with_is bytes places trailer ow rf count at a b h e =
+    ≡ Ok (record { trailer = trailer; reference_width = rf; root = 0; places = offsets })
+head_with_is bytes offsets trailer ow rf count at a b h e =
     rw (a, b, le-ltb _ _ h, e) refl
 
 head_whole : (bytes : List ℕ) → starts_with nat_eq bytes magic ≡ true → 32 ≤ length bytes
@@ -210,7 +210,7 @@ head_whole bytes e h =
     let big : 8 ≤ length bytes = omega arith in
     rw (le-ltb _ 8 big, e, le-ltb _ 32 h) refl
 
-module _ (body places : List ℕ) where
+module _ (body offsets : List ℕ) where
   abbrev file : List ℕ
   file = magic ++ body
 
@@ -218,55 +218,55 @@ module _ (body places : List ℕ) where
   wide = least_width (length file)
 
   abbrev table : List ℕ
-  table = table_form wide places
+  table = table_form wide offsets
 
   abbrev trailer : List ℕ
-  trailer = trailer_of (length places) (length file)
+  trailer = trailer_of (length offsets) (length file)
 
   -- the offset of the trailer
   abbrev pub last : ℕ
-  last = length file + length places * wide
+  last = length file + length offsets * wide
 
   length_front : length (file ++ table) ≡ last
   length_front =
-      omega (arith, length-append file table, length-table wide places)
+      omega (arith, length-append file table, length-table wide offsets)
 
-  regroup : with_table_and_trailer file places ≡ (file ++ table) ++ trailer
+  regroup : with_table_and_trailer file offsets ≡ (file ++ table) ++ trailer
   regroup = sym (append_assoc file _ _)
 
-  pub length_closed : length (with_table_and_trailer file places) ≡ last + 32
+  pub length_closed : length (with_table_and_trailer file offsets) ≡ last + 32
   length_closed =
       let n : length trailer ≡ 32 = refl in
       omega (arith, n, ap length regroup, length-append (file ++ table) trailer, length_front)
 
-  pub front_is : take last (with_table_and_trailer file places) ≡ file ++ table
+  pub front_is : take last (with_table_and_trailer file offsets) ≡ file ++ table
   front_is = ap (take _) regroup ∙ take_front _ trailer last length_front
 
-  pub head_is : length places < 2 ^ 64 → length file < 2 ^ 64 → AllFit wide places
-      → head_of (with_table_and_trailer file places)
+  pub head_is : length offsets < 2 ^ 64 → length file < 2 ^ 64 → AllFit wide offsets
+      → head_of (with_table_and_trailer file offsets)
       ≡ Ok (record {
         trailer = last;
         reference_width = reference_width
-            (length places);
+            (length offsets);
         root = 0;
-        places = places;
+        places = offsets;
       })
   head_is few short fit =
-      let at : length (with_table_and_trailer file places) - 32 ≡ last = omega (arith, length_closed) in
+      let at : length (with_table_and_trailer file offsets) - 32 ≡ last = omega (arith, length_closed) in
       let back : numbers_spelled wide
-      (take (length places * wide) (drop (length file) (with_table_and_trailer file places)))
-      ≡ places
-      = ap (λ l. numbers_spelled wide (take (length places * wide) l))
+      (take (length offsets * wide) (drop (length file) (with_table_and_trailer file offsets)))
+      ≡ offsets
+      = ap (λ l. numbers_spelled wide (take (length offsets * wide) l))
       (drop-append_seam file (table ++ trailer))
-      ∙ ap (numbers_spelled wide) (take_front table trailer _ (length-table wide places))
-      ∙ numbers_back wide places (width_positive (length file)) fit in
-      head_whole (with_table_and_trailer file places) refl (omega (arith, length_closed))
-      ∙ (λ i. head_with (with_table_and_trailer file places) (at i) (trailer_in (drop (at i) (with_table_and_trailer file places))))
-      ∙ ap (λ r. head_with (with_table_and_trailer file places) last (trailer_in r))
+      ∙ ap (numbers_spelled wide) (take_front table trailer _ (length-table wide offsets))
+      ∙ numbers_back wide offsets (width_positive (length file)) fit in
+      head_whole (with_table_and_trailer file offsets) refl (omega (arith, length_closed))
+      ∙ (λ i. head_with (with_table_and_trailer file offsets) (at i) (trailer_in (drop (at i) (with_table_and_trailer file offsets))))
+      ∙ ap (λ r. head_with (with_table_and_trailer file offsets) last (trailer_in r))
       (ap (drop last) regroup ∙ drop_front (file ++ table) trailer last length_front)
-      ∙ ap (head_with (with_table_and_trailer file places) last)
-      (trailer_back wide (reference_width (length places)) (length places)
+      ∙ ap (head_with (with_table_and_trailer file offsets) last)
+      (trailer_back wide (reference_width (length offsets)) (length offsets)
       (length file) few short)
-      ∙ head_with_is (with_table_and_trailer file places) places last wide
-      (reference_width (length places)) (length places) (length file) (width_is (length file))
-      (width_is (length places - 1)) (omega arith) back
+      ∙ head_with_is (with_table_and_trailer file offsets) offsets last wide
+      (reference_width (length offsets)) (length offsets) (length file) (width_is (length file))
+      (width_is (length offsets - 1)) (omega arith) back

@@ -26,12 +26,12 @@ use Rattle.plist_binwrite.specs.inner.ObjectSizes.{total_below}
 
 -- `order` contains numbers below the count, none of them twice, and exactly these have an offset
 -- other than 0
-pub record IsOrder (count : ℕ) (order places : List ℕ) : Type 0 where
-  pub long : length places ≡ count
+pub record IsOrder (count : ℕ) (order offsets : List ℕ) : Type 0 where
+  pub long : length offsets ≡ count
   pub distinct : IsDistinct eqb order
   pub below : (k : ℕ) → list_any (eqb k) order ≡ true → k < count
-  pub marked : (k : ℕ) → list_any (eqb k) order ≡ true → slice_index places k ≢ 0
-  pub others : (k : ℕ) → list_any (eqb k) order ≡ false → slice_index places k ≡ 0
+  pub marked : (k : ℕ) → list_any (eqb k) order ≡ true → slice_index offsets k ≢ 0
+  pub others : (k : ℕ) → list_any (eqb k) order ≡ false → slice_index offsets k ≡ 0
 
 -- the UTF-16 units of the first characters of a string are pushed; `old` and `new` are the buffer
 -- and the rest of the string
@@ -83,25 +83,25 @@ module _ (plan : FilePlan) where
     pub fewer : room new.0 + plan.width * length front ≡ room old.0
 
   -- the object of the event at this index has an offset
-  abbrev pub HasOffset : (places : List ℕ) → (index : ℕ) → Type 0
-  HasOffset places index = slice_index places (number_of_event index) ≢ 0
+  abbrev pub HasOffset : (offsets : List ℕ) → (index : ℕ) → Type 0
+  HasOffset offsets index = slice_index offsets (number_of_event index) ≢ 0
 
   -- each object that had an offset has one
   abbrev pub KeepsOffsets : (old new : List ℕ) → Type 0
   KeepsOffsets old new = (k : ℕ) → slice_index old k ≢ 0 → slice_index new k ≢ 0
 
   -- the objects lie back to back in this order, and have these offsets
-  pub record IsLayout (objects : ℕ → Object) (order places : List ℕ) : Type 0 where
-    pub ordered : IsOrder plan.numbering.count order places
-    pub laid : Laid plan.width objects places order 8
+  pub record IsLayout (objects : ℕ → Object) (order offsets : List ℕ) : Type 0 where
+    pub ordered : IsOrder plan.numbering.count order offsets
+    pub laid : Laid plan.width objects offsets order 8
 
   module _ {W : Type 0} (contents : W → Option (List ℕ)) (start : Sink W) where
     -- the magic and some of the objects are put
-    pub record ArePut (places : List ℕ) (answer : Answer) (sink : Sink W) : Type 0 where
+    pub record ArePut (offsets : List ℕ) (answer : Answer) (sink : Sink W) : Type 0 where
       pub objects : ℕ → Object
       pub described : AreObjectsOf objects
       pub order : List ℕ
-      pub layout : IsLayout objects order places
+      pub layout : IsLayout objects order offsets
       pub put : PutsBytes contents start (laid_out plan.width objects order) answer sink
 
     -- a file of all objects is put
@@ -109,10 +109,10 @@ module _ (plan : FilePlan) where
       pub objects : ℕ → Object
       pub described : AreObjectsOf objects
       pub order : List ℕ
-      pub places : List ℕ
-      pub layout : IsLayout objects order places
+      pub offsets : List ℕ
+      pub layout : IsLayout objects order offsets
       pub all : (k : ℕ) → k < plan.numbering.count → list_any (eqb k) order ≡ true
-      pub put : PutsBytes contents start (file_with plan.width objects places order) answer sink
+      pub put : PutsBytes contents start (file_with plan.width objects offsets order) answer sink
 
   -- a call puts the object of the tree that begins at an index, with this result
   abbrev pub PutsObject : {W : Type 0} (contents : W → Option (List ℕ)) (index : ℕ) (old : Sink W)

@@ -14,7 +14,27 @@ pub returns-in-Data : goal.returns-in-Data
 returns-in-Data g c =
     rw c.in-Data.is (puts_then c.in_ok-make_room.ensures.put c.put_data.ensures)
 
+pub returns-in-Boolean : goal.returns-in-Boolean
+returns-in-Boolean g c =
+    rw c.in-Boolean.is (puts_then c.in_ok-make_room.ensures.put
+    (puts_pending (record { writer = refl; buffer = refl }) refl c.push_boolean.ensures.pushed refl))
+
 pub returns-in-Date : goal.returns-in-Date
 returns-in-Date g c =
     rw c.in-Date.is (puts_then c.in_ok-make_room.ensures.put
     (puts_pending (record { writer = refl; buffer = refl }) refl c.push_date.ensures.pushed refl))
+
+pub returns-in-Integer : goal.returns-in-Integer
+returns-in-Integer g c =
+    rw c.in-Integer.is (puts_then c.in_ok-make_room.ensures.put
+    (puts_pending (record { writer = refl; buffer = refl }) refl c.push_integer.ensures.pushed refl))
+
+pub returns-in-Real : goal.returns-in-Real
+returns-in-Real g c =
+    rw c.in-Real.is (puts_then c.in_ok-make_room.ensures.put
+    (puts_pending (record { writer = refl; buffer = refl }) refl c.push_real.ensures.pushed refl))
+
+pub returns-in-Uid : goal.returns-in-Uid
+returns-in-Uid g c =
+    rw c.in-Uid.is (puts_then c.in_ok-make_room.ensures.put
+    (puts_pending (record { writer = refl; buffer = refl }) refl c.push_uid.ensures.pushed refl))
