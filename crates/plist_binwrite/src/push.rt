@@ -159,8 +159,7 @@ pub fn push_integer(buffer: &mut FixedBuffer, value: Integer)
         (None, Some(number)) => {
             push_marked_number(buffer, Marker::Integer8, 8, number.cast_unsigned())
         }
-        // No integer is neither an `i64` nor a `u64`.
-        (None, None) => {}
+        (None, None) => unreachable!(),
     }
 }
 
