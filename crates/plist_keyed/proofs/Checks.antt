@@ -1,34 +1,21 @@
 -- The walk that finds the first fault, over lists of events and of Uids: what remains of it, and what
 -- is true before each step.
-use Rattle.std.proofs.Common.{◌≡◌, ℕ, zero, suc, ◌+◌, ◌-◌, ◌*◌, ◌<◌, ◌≤◌, Bool, true, false, nat_eq, inl, inr, List, [], ◌∷◌, ◌++◌, length, drop, reverse, ◌||◌, Option, Some, None, Result, Ok, Err, refl, ap, sym, ◌∙◌, append_assoc, append-nil, arith, subst, true≢false, cond, is_some, map}
-use Rattle.std.specs.Prelude.{slice_get, ◌⊎◌, ⊤, if◌then◌else◌, option_map}
+use Rattle.std.proofs.Common.{◌≡◌, ℕ, zero, suc, ◌+◌, ◌-◌, ◌*◌, ◌<◌, ◌≤◌, false, nat_eq, inl, inr, List, [], ◌∷◌, ◌++◌, length, drop, Option, Some, None, Result, Ok, Err, refl, ap, sym, ◌∙◌, append_assoc, append-nil, arith, subst}
+use Rattle.std.specs.Prelude.{slice_get, ◌⊎◌, ⊤}
 use Rattle.std.specs.List.{list_any}
 use Rattle.std.specs.Option.{option_and_then, option_map_or}
-use Rattle.std.specs.Map.{keys_of, lookup}
-use Rattle.indexmap.specs.IndexMap.{IndexMap, get, insert_entry}
-use Rattle.indexmap.specs.IndexSet.{insert_key}
-use Rattle.indexmap.proofs.CallerLemmas.{insert_entry-new}
 use Rattle.std.proofs.lemmas.Bool.{false_from_ne_true}
 use Rattle.std.proofs.lemmas.Bool.Decides.{eqb_tells}
-use Rattle.std.proofs.lemmas.List.{reverse-append, map-append}
-use Rattle.std.proofs.lemmas.List.Folds.{list_any-append}
-use Rattle.std.proofs.lemmas.Option.{none-some, same_Some, slice_get-map, slice_get_within}
+use Rattle.std.proofs.lemmas.Option.{same_Some, slice_get_within}
 use Rattle.plist_base.specs.Bracketing.{bracketing}
-use Rattle.plist_base.specs.Events.{PlainEvent, ScalarEvent}
-use Rattle.plist_base.specs.Trees.{Tree, Uid}
+use Rattle.plist_base.specs.Events.{PlainEvent}
+use Rattle.plist_base.specs.Trees.{Tree}
 use Rattle.plist_base.specs.inner.Paths.{IsPath}
 use Rattle.plist_base.proofs.Paths.{path_fuel, path_none, path_push}
-use Rattle.plist.specs.declared.stream.events.Events.{Events}
-use Rattle.plist.specs.declared.value.Value.{Value}
-use Rattle.plist.specs.Events.{remaining_events}
-use Rattle.plist.specs.ValueTrees.{tree_of}
-use Rattle.plist_keyed.specs.declared.error.WalkError.{WalkError}
-use Rattle.plist_keyed.specs.declared.error.WalkError.TheVariants as walk_error
-use Rattle.plist_keyed.specs.declared.state.ArchiveWalk.{ArchiveWalk}
-use Rattle.plist_keyed.specs.Archives.{ArchiveFault, IsFaultOf, UidOutOfRange, RecursiveUid, error_of_walk, resolved_tree}
-use Rattle.plist_keyed.specs.inner.Walks.{AreSettled, FollowsUid, IsIn, NameOnly, end_in, events_at, objects_in, settled_in, uid_of_event, uid_of_tree}
-use Rattle.plist_keyed.proofs.Replaced.{Outcome, collected, events_in, join, join-assoc, join-nil, join-none, outcome}
-use Rattle.plist_keyed.proofs.Settled.{AreApart, first-in, found_in, found-parts, from-top, later-in, named-append, named-more, named-outcome, opened_in, refused_in, resolved_in, settled-same, uid-events}
+use Rattle.plist_keyed.specs.Archives.{ArchiveFault, resolved_tree}
+use Rattle.plist_keyed.specs.inner.Walks.{AreSettled, IsIn, NameOnly, events_at, uid_of_event, uid_of_tree}
+use Rattle.plist_keyed.proofs.Replaced.{Outcome, collected, events_in, join, join-assoc, join-nil, outcome}
+use Rattle.plist_keyed.proofs.Settled.{AreApart, first-in, found_in, found-parts, later-in, named-append, named-more, named-outcome, opened_in, refused_in, resolved_in, settled-same, uid-events}
 
 module _ (objects : List Tree) where
   -- ---- what remains

@@ -1,4 +1,3 @@
-pub mod NotArchives
 pub mod Replaced
 pub mod KeysKept
 pub mod Settled

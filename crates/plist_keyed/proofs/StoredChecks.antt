@@ -1,33 +1,29 @@
 -- The walk that finds the first fault, as the code stores its state.
-use Rattle.std.proofs.Common.{◌≡◌, ℕ, zero, suc, ◌+◌, ◌-◌, ◌*◌, ◌<◌, ◌≤◌, Bool, true, false, nat_eq, inl, inr, List, [], ◌∷◌, ◌++◌, length, drop, reverse, ◌||◌, Option, Some, None, Result, Ok, Err, refl, ap, sym, ◌∙◌, append_assoc, append-nil, arith, subst, true≢false, cond, is_some, map}
-use Rattle.std.specs.Prelude.{slice_get, ◌⊎◌, ⊤, if◌then◌else◌, option_map}
+use Rattle.std.proofs.Common.{◌≡◌, ℕ, ◌<◌, Bool, true, false, nat_eq, inl, inr, List, [], ◌∷◌, ◌++◌, reverse, ◌||◌, Option, Some, None, Ok, Err, refl, ap, sym, ◌∙◌, subst, true≢false, cond, is_some, map}
+use Rattle.std.specs.Prelude.{slice_get, if◌then◌else◌, option_map}
 use Rattle.std.specs.List.{list_any}
 use Rattle.std.specs.Option.{option_and_then, option_map_or}
 use Rattle.std.specs.Map.{keys_of, lookup}
 use Rattle.indexmap.specs.IndexMap.{IndexMap, get, insert_entry}
 use Rattle.indexmap.specs.IndexSet.{insert_key}
 use Rattle.indexmap.proofs.CallerLemmas.{insert_entry-new}
-use Rattle.std.proofs.lemmas.Bool.{false_from_ne_true}
-use Rattle.std.proofs.lemmas.Bool.Decides.{eqb_tells}
 use Rattle.std.proofs.lemmas.List.{reverse-append, map-append}
 use Rattle.std.proofs.lemmas.List.Folds.{list_any-append}
-use Rattle.std.proofs.lemmas.Option.{none-some, same_Some, slice_get-map, slice_get_within}
+use Rattle.std.proofs.lemmas.Option.{none-some, same_Some, slice_get-map}
 use Rattle.plist_base.specs.Bracketing.{bracketing}
 use Rattle.plist_base.specs.Events.{PlainEvent, ScalarEvent}
 use Rattle.plist_base.specs.Trees.{Tree, Uid}
-use Rattle.plist_base.specs.inner.Paths.{IsPath}
-use Rattle.plist_base.proofs.Paths.{path_fuel, path_none, path_push}
 use Rattle.plist.specs.declared.stream.events.Events.{Events}
 use Rattle.plist.specs.declared.value.Value.{Value}
 use Rattle.plist.specs.Events.{remaining_events}
 use Rattle.plist.specs.ValueTrees.{tree_of}
-use Rattle.plist_keyed.specs.declared.error.WalkError.{WalkError}
-use Rattle.plist_keyed.specs.declared.error.WalkError.TheVariants as walk_error
+use Rattle.plist_keyed.specs.declared.error.KeyedError.{KeyedError}
+use Rattle.plist_keyed.specs.declared.error.KeyedError.TheVariants as keyed
 use Rattle.plist_keyed.specs.declared.state.ArchiveWalk.{ArchiveWalk}
-use Rattle.plist_keyed.specs.Archives.{ArchiveFault, IsFaultOf, UidOutOfRange, RecursiveUid, error_of_walk, resolved_tree}
-use Rattle.plist_keyed.specs.inner.Walks.{AreSettled, FollowsUid, IsIn, NameOnly, end_in, events_at, objects_in, settled_in, uid_of_event, uid_of_tree}
-use Rattle.plist_keyed.proofs.Replaced.{Outcome, collected, events_in, join, join-assoc, join-nil, join-none, outcome}
-use Rattle.plist_keyed.proofs.Settled.{AreApart, first-in, found_in, found-parts, from-top, later-in, named-append, named-more, named-outcome, opened_in, refused_in, resolved_in, settled-same, uid-events}
+use Rattle.plist_keyed.specs.Archives.{IsFaultOf, UidOutOfRange, RecursiveUid, resolved_tree}
+use Rattle.plist_keyed.specs.inner.Walks.{FollowsUid, IsIn, end_in, objects_in, settled_in, uid_of_event, uid_of_tree}
+use Rattle.plist_keyed.proofs.Replaced.{events_in, join, join-nil, join-none, outcome}
+use Rattle.plist_keyed.proofs.Settled.{first-in, found_in, found-parts, from-top, later-in, resolved_in}
 use Rattle.plist_keyed.proofs.Checks.{IsCheck, distance, leaves, opens, opens-nearer, outcome_of, passes, passes-nearer, read-passed, refuses, takes}
 
 or_comm : (a b : Bool) → a || (b || false) ≡ b || a
@@ -217,20 +213,21 @@ follows walk after path longer start e below rest n items o objects ends is
 
 -- a Uid is refused
 refused-by : (walk : ArchiveWalk) (path : List ℕ) (start : ℕ) (e : PlainEvent)
-    (levels : List (List PlainEvent)) (done : List PlainEvent) (n : ℕ) (error : WalkError)
+    (levels : List (List PlainEvent)) (done : List PlainEvent) (n : ℕ) (error : KeyedError)
     → events_in bracketing (resolved_tree (objects_in walk) start)
     ≡ join (Ok done) (join (outcome (resolved_in (objects_in walk) (reverse path)) e)
     (outcome_of (objects_in walk) levels (reverse path)))
     → uid_of_event e ≡ Some n
-    → IsFaultOf (found_in (objects_in walk) path n) (error_of_walk error)
-    → IsFaultOf (resolved_tree (objects_in walk) start) (error_of_walk error)
-refused-by walk path start e levels done n (walk_error.MissingObject uid) given is found =
+    → IsFaultOf (found_in (objects_in walk) path n) error
+    → IsFaultOf (resolved_tree (objects_in walk) start) error
+refused-by walk path start e levels done n (keyed.UidOutOfRange uid) given is found =
     refuses (objects_in walk) start (λ u. u) [] e levels (reverse path) done n _ given is
     (rw (any_reversed (nat_eq n) path) found)
-refused-by walk path start e levels done n (walk_error.OpenObject uid) given is found =
+refused-by walk path start e levels done n (keyed.RecursiveUid uid) given is found =
     refuses (objects_in walk) start (λ u. u) [] e levels (reverse path) done n _ given is
     (rw (any_reversed (nat_eq n) path) found)
-refused-by walk path start e levels done n walk_error.OutOfMemory given is h = tt
+refused-by walk path start e levels done n keyed.OutOfMemory given is h = tt
+refused-by walk path start e levels done n keyed.NotAnArchive given is h = absurd h
 
 -- the innermost Uid, whose object has no events left, is settled
 pub settles : (walk after : ArchiveWalk) (path shorter : List ℕ) (start uid : ℕ) (left : Events)
@@ -266,9 +263,9 @@ popped-distance walk path below left is =
     ap (λ levels. distance_in walk levels path) (ap levels_of is ∙ levels-snoc below left)
 
 -- the first Uid is refused
-pub first-refused : (walk : ArchiveWalk) (path : List ℕ) (start : ℕ) (error : WalkError) → path ≡ []
-    → IsFaultOf (found_in (objects_in walk) path start) (error_of_walk error)
-    → IsFaultOf (resolved_tree (objects_in walk) start) (error_of_walk error)
+pub first-refused : (walk : ArchiveWalk) (path : List ℕ) (start : ℕ) (error : KeyedError) → path ≡ []
+    → IsFaultOf (found_in (objects_in walk) path start) error
+    → IsFaultOf (resolved_tree (objects_in walk) start) error
 first-refused walk path start error none h =
     refused-by walk path start (ScalarEvent (Uid start)) [] [] start error (rw none
     (sym (join-nil _ ∙ join-none _ ∙ ap (events_in bracketing) (from-top (objects_in walk) start))))
@@ -276,11 +273,11 @@ first-refused walk path start error none h =
 
 -- a later Uid is refused
 pub later-refused : (walk : ArchiveWalk) (path : List ℕ) (start : ℕ) (e : PlainEvent)
-    (below : List Events) (rest : Events) (n : ℕ) (error : WalkError)
+    (below : List Events) (rest : Events) (n : ℕ) (error : KeyedError)
     → Checks start walk ((e ∷ remaining_events rest) ∷ levels_of below) (reverse path)
     → uid_of_event e ≡ Some n
-    → IsFaultOf (found_in (objects_in walk) path n) (error_of_walk error)
-    → IsFaultOf (resolved_tree (objects_in walk) start) (error_of_walk error)
+    → IsFaultOf (found_in (objects_in walk) path n) error
+    → IsFaultOf (resolved_tree (objects_in walk) start) error
 later-refused walk path start e below rest n error o is h =
     let trees = objects_in walk in
     refused-by walk path start e (remaining_events rest ∷ levels_of below) o.done n error

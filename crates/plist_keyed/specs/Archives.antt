@@ -16,8 +16,6 @@ use Rattle.plist.specs.ValueTrees.{tree_of}
 use Rattle.plist_keyed.specs.declared.archive.Archive.{Archive}
 use Rattle.plist_keyed.specs.declared.error.KeyedError.{KeyedError}
 use Rattle.plist_keyed.specs.declared.error.KeyedError.TheVariants as error
-use Rattle.plist_keyed.specs.declared.error.WalkError.{WalkError}
-use Rattle.plist_keyed.specs.declared.error.WalkError.TheVariants as walk
 
 -- the objects, by index
 abbrev pub objects_of : Archive → List Value
@@ -139,9 +137,3 @@ MatchError error.OutOfMemory closed memory fault = memory
 -- the error is the fault of this result, or `OutOfMemory`
 abbrev pub IsFaultOf : {A : Type 0} → Result A ArchiveFault → KeyedError → Type 0
 IsFaultOf answer e = MatchError e ⊥ ⊤ (λ fault. answer ≡ Err fault)
-
--- the error of an archive for an error of a walk over it
-abbrev pub error_of_walk : WalkError → KeyedError
-error_of_walk (walk.MissingObject uid) = error.UidOutOfRange uid
-error_of_walk (walk.OpenObject uid) = error.RecursiveUid uid
-error_of_walk walk.OutOfMemory = error.OutOfMemory

@@ -1,11 +1,8 @@
 //! An archive, with its objects and the names of its roots.
 
 ghost use Rattle.std.specs.Prelude.{◌≡◌, ℕ, Ok, IfErr, IfOk, IfSome, IsNone, slice_get};
-ghost use Rattle.std.specs.declared.alloc.Global.{Global};
-ghost use Rattle.std.specs.declared.vec.Vec.{Vec};
 ghost use Rattle.std.specs.Option.{option_copied};
-ghost use Rattle.plist_keyed.specs.Archives.{IsUidAt, IsValueAt, names_of, objects_of, trees_in, IsArchiveOf, IsNoArchive, resolved_tree, IsFaultOf};
-ghost use Rattle.plist.specs.Dictionaries.{pairs_of};
+ghost use Rattle.plist_keyed.specs.Archives.{IsUidAt, names_of, objects_of, trees_in, IsArchiveOf, IsNoArchive, resolved_tree, IsFaultOf};
 ghost use Rattle.plist.specs.ValueTrees.{tree_of};
 
 use crate::KeyedError;
@@ -23,32 +20,6 @@ pub struct Archive<'a> {
     names: &'a Dictionary,
 }
 
-// Returns the array at a key.
-fn array_at<'a>(pairs: &'a Dictionary, key: &str) -> Option<&'a Vec<Value>>
-    ensures found { IfSome result (λ array. IsValueAt key.now (pairs_of pairs.now)
-        (Value.Array array.now)) }
-    ensures missing { IsNone result → (array : Vec Value Global) → ¬ (IsValueAt key.now
-        (pairs_of pairs.now) (Value.Array array)) }
-{
-    let Some(Value::Array(array)) = pairs.get(key) else {
-        return None;
-    };
-    Some(array)
-}
-
-// Returns the dictionary at a key.
-fn dictionary_at<'a>(pairs: &'a Dictionary, key: &str) -> Option<&'a Dictionary>
-    ensures found { IfSome result (λ others. IsValueAt key.now (pairs_of pairs.now)
-        (Value.Dictionary others.now)) }
-    ensures missing { IsNone result → (others : Dictionary) → ¬ (IsValueAt key.now
-        (pairs_of pairs.now) (Value.Dictionary others)) }
-{
-    let Some(Value::Dictionary(others)) = pairs.get(key) else {
-        return None;
-    };
-    Some(others)
-}
-
 impl<'a> Archive<'a> {
     /// Opens an archive, given its property list. It allocates nothing.
     ///
@@ -64,16 +35,16 @@ impl<'a> Archive<'a> {
         let Value::Dictionary(pairs) = root else {
             return Err(KeyedError::NotAnArchive);
         };
-        let Some(objects) = array_at(pairs, "$objects") else {
+        let Some(Value::Array(objects)) = pairs.get("$objects") else {
             return Err(KeyedError::NotAnArchive);
         };
-        let Some(names) = dictionary_at(pairs, "$top") else {
+        let Some(Value::Dictionary(names)) = pairs.get("$top") else {
             return Err(KeyedError::NotAnArchive);
         };
         Ok(Archive { objects, names })
     }
 
-    /// Returns the Uid at a key of `$top`, or `None` if the key is missing or its value is no Uid.
+    /// Returns the Uid at a key of `$top`, or `None` if the key is missing or its value isn't a Uid.
     /// It allocates nothing.
     pub fn top(&self, key: &str) -> Option<Uid>
         ensures found { IfSome result (IsUidAt key.now (names_of self.now)) }
@@ -97,9 +68,9 @@ impl<'a> Archive<'a> {
     /// of the object that it names. An object that is reached more than once appears in the tree
     /// each time.
     ///
-    /// So the tree may be exponentially larger than the archive: thirty objects, each of which is
-    /// an array that names the next one twice, make a tree of 2^30 leaves. To walk over an archive
-    /// without making its tree, follow its Uids by [`Archive::get`].
+    /// So the tree may be exponentially larger than the archive: if each of thirty arrays names the
+    /// next object twice, and the last object is a string, the tree has 2^30 leaves. To walk over an
+    /// archive without making its tree, follow its Uids by [`Archive::get`].
     ///
     /// Each Uid is followed once to find a fault, before any part of the tree is made. So the time
     /// to find a fault depends on the objects only, and the time of the whole call on the objects
@@ -120,9 +91,6 @@ impl<'a> Archive<'a> {
         ensures value { IfOk result (λ v. resolved_tree (trees_in self.now) uid ≡ Ok (tree_of v)) }
         ensures fault { IfErr result (IsFaultOf (resolved_tree (trees_in self.now) uid)) }
     {
-        match value_at(alloc, self.objects.as_slice(), uid.get()) {
-            Ok(value) => Ok(value),
-            Err(error) => Err(KeyedError::of_walk(error)),
-        }
+        value_at(alloc, self.objects.as_slice(), uid.get())
     }
 }

@@ -6,36 +6,26 @@
 ghost use Rattle.std.specs.Prelude.{◌≡◌, [], ◌∷◌, IfErr, OnOk, ℕ, nat_eq, slice_get};
 ghost use Rattle.std.specs.List.{list_any};
 ghost use Rattle.std.specs.Option.{option_and_then, option_map_or};
-ghost use Rattle.plist_base.specs.Events.{event_of};
-ghost use Rattle.plist_keyed.specs.declared.error.WalkError.TheVariants.{OutOfMemory as NoMemory};
-ghost use Rattle.plist_keyed.specs.Archives.{IsFaultOf, error_of_walk, object_found, resolved_tree};
-ghost use Rattle.plist_keyed.specs.inner.Walks.{IsIn, end_in, settled_in, uid_of_event, uid_of_tree};
+ghost use Rattle.plist_keyed.specs.declared.error.KeyedError.TheVariants.{OutOfMemory as NoMemory};
+ghost use Rattle.plist_keyed.specs.Archives.{IsFaultOf, object_found, resolved_tree};
+ghost use Rattle.plist_keyed.specs.inner.Walks.{IsIn, end_in, settled_in, uid_of_tree};
 
-use crate::error::WalkError;
+use crate::KeyedError;
 use crate::state::{ArchiveWalk, uid_of};
 use indexmap::IndexSet;
-use plist::stream::Event;
-
-// Returns what `uid_of` returns, and drops the event.
-fn take_uid(event: Event<'_>) -> Option<u64>
-    ensures { result ≡ uid_of_event (event_of event.entry) }
-{
-    uid_of(&event)
-}
 
 impl<'a> ArchiveWalk<'a> {
     ghost use Rattle.plist_keyed.specs.inner.Walks.{AreAllSettled, FollowsUid, objects_in};
 
     // Opens the object of a Uid, unless the Uid is settled. The open Uids are those of the path,
     // outermost first.
-    fn follow(&mut self, path: &mut IndexSet<u64>, uid: u64) -> Result<(), WalkError>
+    fn follow(&mut self, path: &mut IndexSet<u64>, uid: u64) -> Result<(), KeyedError>
         // Result.
         ensures followed { OnOk result (FollowsUid self.old path.old.keys uid self.new
             path.new.keys) }
         // Errors.
-        ensures refused { IfErr result (λ error. IsFaultOf
-            (object_found (slice_get (objects_in self.old) uid)
-            (list_any (nat_eq uid) path.old.keys) uid) (error_of_walk error)) }
+        ensures refused { IfErr result (IsFaultOf (object_found (slice_get (objects_in self.old) uid)
+            (list_any (nat_eq uid) path.old.keys) uid)) }
         // State afterwards.
         ensures objects { OnOk result (self.new.objects ≡ self.old.objects) }
         ensures ends { OnOk result (self.new.ends ≡ self.old.ends) }
@@ -44,10 +34,10 @@ impl<'a> ArchiveWalk<'a> {
             return Ok(());
         }
         let Some(object) = self.look_up(uid) else {
-            return Err(WalkError::MissingObject(uid));
+            return Err(KeyedError::UidOutOfRange(uid));
         };
         if path.contains(&uid) {
-            return Err(WalkError::OpenObject(uid));
+            return Err(KeyedError::RecursiveUid(uid));
         }
         path.insert(uid)?;
         self.levels.push(object.events(self.alloc))?;
@@ -56,7 +46,7 @@ impl<'a> ArchiveWalk<'a> {
 
     // Settles a Uid whose object has no items left. If the object is a Uid, both have the same
     // end.
-    fn settle(&mut self, uid: u64) -> Result<(), WalkError>
+    fn settle(&mut self, uid: u64) -> Result<(), KeyedError>
         requires { IsIn uid (settled_in self.old.ends) → ⊥ }
         // Errors.
         ensures memory { IfErr result (λ e. e ≡ NoMemory) }
@@ -81,18 +71,17 @@ impl<'a> ArchiveWalk<'a> {
     ///
     /// # Errors
     ///
-    /// The first fault in depth-first order: `MissingObject` for a Uid that has no object, or
-    /// `OpenObject` for a Uid that is reached while its own object is open. `OutOfMemory` if an
+    /// The first fault in depth-first order: `UidOutOfRange` for a Uid that names no object, or
+    /// `RecursiveUid` for a Uid that is reached while its own object is open. `OutOfMemory` if an
     /// allocation fails.
-    pub(crate) fn check(&mut self, uid: u64) -> Result<(), WalkError>
+    pub(crate) fn check(&mut self, uid: u64) -> Result<(), KeyedError>
         requires levels { self.old.levels.items ≡ [] }
         requires ends { self.old.ends.entries ≡ [] }
         // Result.
         ensures settled { OnOk result (AreAllSettled self.new) }
         ensures reached { OnOk result (IsIn uid (settled_in self.new.ends)) }
         // Errors.
-        ensures refused { IfErr result (λ error. IsFaultOf
-            (resolved_tree (objects_in self.old) uid) (error_of_walk error)) }
+        ensures refused { IfErr result (IsFaultOf (resolved_tree (objects_in self.old) uid)) }
         // State afterwards.
         ensures levels { OnOk result (self.new.levels.items ≡ []) }
         ensures objects { OnOk result (self.new.objects ≡ self.old.objects) }
@@ -110,9 +99,9 @@ impl<'a> ArchiveWalk<'a> {
             };
             self.levels.push_reserved(left);
             let Ok(event) = item else {
-                return Err(WalkError::OutOfMemory);
+                return Err(KeyedError::OutOfMemory);
             };
-            let Some(found) = take_uid(event) else {
+            let Some(found) = uid_of(&event) else {
                 continue;
             };
             self.follow(&mut path, found)?;

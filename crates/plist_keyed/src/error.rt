@@ -1,8 +1,8 @@
 //! The errors of an archive.
 
 ghost use Rattle.std.specs.Prelude.{◌≡◌, Some};
-ghost use Rattle.plist_keyed.specs.Archives.{error_of_walk, text_of_error};
-ghost use Rattle.plist_keyed.specs.declared.error.WalkError.TheVariants.{OutOfMemory as NoMemory};
+ghost use Rattle.plist_keyed.specs.Archives.{text_of_error};
+ghost use Rattle.plist_keyed.specs.declared.error.KeyedError.TheVariants.{OutOfMemory as NoMemory};
 
 use std::alloc::{AllocError, AllocFailed};
 use std::fmt;
@@ -21,43 +21,19 @@ pub enum KeyedError {
     OutOfMemory,
 }
 
-/// The error of a walk over the objects of an archive.
-#[derive(Clone, Copy)]
-pub(crate) enum WalkError {
-    /// No object has this Uid.
-    MissingObject(u64),
-    /// The walk reached this Uid while its own object was open.
-    OpenObject(u64),
-    /// An allocation failed.
-    OutOfMemory,
-}
-
-impl From<AllocError> for WalkError {
+impl From<AllocError> for KeyedError {
     ghost from_gives = { λ _ e. e ≡ NoMemory };
 
-    fn from(_error: AllocError) -> WalkError {
-        WalkError::OutOfMemory
+    fn from(_error: AllocError) -> KeyedError {
+        KeyedError::OutOfMemory
     }
 }
 
-impl<T: Drop> From<AllocFailed<T>> for WalkError {
+impl<T: Drop> From<AllocFailed<T>> for KeyedError {
     ghost from_gives = { λ _ e. e ≡ NoMemory };
 
-    fn from(_failed: AllocFailed<T>) -> WalkError {
-        WalkError::OutOfMemory
-    }
-}
-
-impl KeyedError {
-    // Returns the error of an archive for an error of a walk over it.
-    pub(crate) fn of_walk(error: WalkError) -> KeyedError
-        ensures { result ≡ error_of_walk error }
-    {
-        match error {
-            WalkError::MissingObject(uid) => KeyedError::UidOutOfRange(uid),
-            WalkError::OpenObject(uid) => KeyedError::RecursiveUid(uid),
-            WalkError::OutOfMemory => KeyedError::OutOfMemory,
-        }
+    fn from(_failed: AllocFailed<T>) -> KeyedError {
+        KeyedError::OutOfMemory
     }
 }
 

@@ -3,12 +3,12 @@
 ghost use Rattle.std.specs.Prelude.{◌≡◌, ◌+◌, ◌<◌, ◌++◌, IfErr, IfOk, length, map, None, Ok, OnErr, OnOk, OnSome};
 ghost use Rattle.plist_base.specs.Bracketing.{bracketing};
 ghost use Rattle.plist_base.specs.Trees.{Tree};
-ghost use Rattle.plist_keyed.specs.declared.error.WalkError.TheVariants.{OutOfMemory as NoMemory};
-ghost use Rattle.plist_keyed.specs.Archives.{IsFaultOf, error_of_walk, resolved_tree};
+ghost use Rattle.plist_keyed.specs.declared.error.KeyedError.TheVariants.{OutOfMemory as NoMemory};
+ghost use Rattle.plist_keyed.specs.Archives.{IsFaultOf, resolved_tree};
 ghost use Rattle.plist_keyed.specs.inner.Walks.{IsIn, events_at, settled_in, uid_of_tree};
 ghost use Rattle.plist.specs.ValueTrees.{tree_of};
 
-use crate::error::WalkError;
+use crate::KeyedError;
 use crate::state::{ArchiveWalk, uid_of};
 use plist::stream::Event;
 use plist::{Error, ErrorKind, Value};
@@ -18,7 +18,7 @@ impl<'a> ArchiveWalk<'a> {
     ghost use Rattle.plist_keyed.specs.inner.Walks.{GivesItemOfUid, IsWalk, events_left, events_in_levels, objects_in};
 
     // Enters the object at the end of a settled Uid's chain.
-    fn enter(&mut self, uid: u64) -> Result<(), WalkError>
+    fn enter(&mut self, uid: u64) -> Result<(), KeyedError>
         requires walk { IsWalk self.old }
         requires settled { IsIn uid (settled_in self.old.ends) }
         ensures entered { OnOk result (events_left self.new
@@ -86,20 +86,19 @@ impl<'a> Iterator for ArchiveWalk<'a> {
 ///
 /// # Errors
 ///
-/// The first fault in depth-first order: `MissingObject` for a Uid that has no object, or
-/// `OpenObject` for a Uid that is reached while its own object is open. `OutOfMemory` if an
+/// The first fault in depth-first order: `UidOutOfRange` for a Uid that names no object, or
+/// `RecursiveUid` for a Uid that is reached while its own object is open. `OutOfMemory` if an
 /// allocation fails.
-pub(crate) fn value_at(alloc: Global, objects: &[Value], uid: u64) -> Result<Value, WalkError>
+pub(crate) fn value_at(alloc: Global, objects: &[Value], uid: u64) -> Result<Value, KeyedError>
     ensures value { IfOk result (λ v. resolved_tree (map tree_of objects.now) uid
         ≡ Ok (tree_of v)) }
-    ensures refused { IfErr result (λ error. IsFaultOf (resolved_tree (map tree_of objects.now) uid)
-        (error_of_walk error)) }
+    ensures refused { IfErr result (IsFaultOf (resolved_tree (map tree_of objects.now) uid)) }
 {
     let mut walk = ArchiveWalk::new(alloc, objects);
     walk.check(uid)?;
     walk.enter(uid)?;
     match Value::from_events(alloc, walk) {
         Ok(value) => Ok(value),
-        Err(_) => Err(WalkError::OutOfMemory),
+        Err(_) => Err(KeyedError::OutOfMemory),
     }
 }

@@ -1,18 +1,20 @@
-use Rattle.std.proofs.Common.{refl}
-use Rattle.plist_keyed.proofs.NotArchives.{no_objects, no_names}
+use Rattle.std.proofs.Common.{◌∙◌, ap, sym, Some}
+use Rattle.std.specs.declared.alloc.Global.{Global}
+use Rattle.std.specs.declared.vec.Vec.{Vec}
+use Rattle.plist.specs.Dictionaries.{pairs_of}
+use Rattle.plist.specs.declared.value.Value.{Value}
 use Rattle.plist_keyed.proofs.archive.Archive.open.Goals as goal
 
-pub returns-in_default-array_at-clause-refused : goal.returns-in_default-array_at-clause-refused
-returns-in_default-array_at-clause-refused c = (
-  refl,
-  no_objects c.args.root.now c.in-Dictionary.pairs c.in-Dictionary.is
-      (c.in_default-array_at.ensures.missing refl),
-)
-
-pub returns-in_default-dictionary_at-clause-refused
-    : goal.returns-in_default-dictionary_at-clause-refused
-returns-in_default-dictionary_at-clause-refused c = (
-  refl,
-  no_names c.args.root.now c.in-Dictionary.pairs c.in-Dictionary.is
-      (c.in_default-dictionary_at.ensures.missing refl),
-)
+pub returns-clause-archive : goal.returns-clause-archive
+returns-clause-archive c =
+    let objects = c.in-Some-Array in
+    let names = c.in-Some-Dictionary in (
+      c.in-Dictionary.pairs,
+      objects.objects,
+      names.names,
+      c.in-Dictionary.is,
+      sym objects.ensures.value ∙ ap Some objects.field-0-is,
+      ap (λ (v : Vec Value Global). v.items) (sym objects.objects-is),
+      sym names.ensures.value ∙ ap Some names.field-0-is,
+      ap pairs_of (sym names.names-is),
+    )

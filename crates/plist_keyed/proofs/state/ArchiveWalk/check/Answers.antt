@@ -5,7 +5,7 @@ use Rattle.plist_base.specs.Events.{event_of}
 use Rattle.plist.specs.Events.{GivesEvent}
 use Rattle.plist.specs.ValueTrees.{tree_of}
 use Rattle.plist_keyed.specs.declared.state.ArchiveWalk.{ArchiveWalk}
-use Rattle.plist_keyed.specs.Archives.{IsFaultOf, error_of_walk, resolved_tree}
+use Rattle.plist_keyed.specs.Archives.{IsFaultOf, resolved_tree}
 use Rattle.plist_keyed.proofs.StoredChecks.{Checks, begins, distance_in, first-refused, follows, later-refused, levels_of, popped, popped-distance, settles, skips}
 use Rattle.plist_keyed.proofs.state.ArchiveWalk.check.Goals as goal
 
@@ -37,8 +37,8 @@ loop-left-preserved-in_default-next c =
       objects = c.in_ok-settle.ensures.objects ∙ c.loop-left.invariant.objects;
     }
 
-pub loop-left-preserved-in_default-take_uid : goal.loop-left-preserved-in_default-take_uid
-loop-left-preserved-in_default-take_uid c =
+pub loop-left-preserved-in_default-uid_of : goal.loop-left-preserved-in_default-uid_of
+loop-left-preserved-in_default-uid_of c =
     let walk = c.loop-left.self in
     let below = c.pop.new.self.items in
     let path = reverse c.loop-left.path.keys in
@@ -50,12 +50,12 @@ loop-left-preserved-in_default-take_uid c =
     record {
       checks = skips walk path c.args.uid (event_of c.in-Ok.event) below
           c.push_reserved.new.self.items c.next.new.self c.push_reserved.ensures.items head
-          (sym c.take_uid.ensures ∙ c.in_default-take_uid.is);
+          (sym c.uid_of.ensures ∙ c.in_default-uid_of.is);
       objects = c.loop-left.invariant.objects;
     }
 
 -- the state in which a Uid is followed
-followed : (c : goal.In_ok-follow-2)
+followed : (c : goal.In-StartArray-3)
     → Checks c.args.uid c.follow-in-Some.new.self
     (levels_of c.follow-in-Some.new.self.levels.items) (reverse c.follow-in-Some.new.path.keys)
     × (distance_in c.follow-in-Some.new.self (levels_of c.follow-in-Some.new.self.levels.items)
@@ -81,8 +81,8 @@ followed c =
     ∙ ap (λ es. distance_in walk (es ∷ levels_of below) path) gives.0 in
     let (checks, nearer) = follows now c.follow-in-Some.new.self c.loop-left.path.keys
     c.follow-in-Some.new.path.keys c.args.uid (event_of c.in-Ok.event) below c.next.new.self
-    c.in-Some-take_uid.found c.push_reserved.ensures.items head c.in_ok-follow-2.ensures.objects
-    c.in_ok-follow-2.ensures.ends (sym c.take_uid.ensures ∙ c.in-Some-take_uid.is)
+    c.in-Some-uid_of.found c.push_reserved.ensures.items head c.in_ok-follow-2.ensures.objects
+    c.in_ok-follow-2.ensures.ends (sym c.uid_of.ensures ∙ c.in-Some-uid_of.is)
     c.in_ok-follow-2.ensures.followed in
     (checks, rw distance nearer)
 
@@ -109,8 +109,8 @@ returns-in_err-follow-2-clause-refused c =
     (popped c.args.uid walk path below c.in-Some.left c.in-Some.ensures.items
     c.loop-left.invariant.checks) in
     let refused = later-refused walk c.loop-left.path.keys c.args.uid (event_of c.in-Ok.event) below
-    c.next.new.self c.in-Some-take_uid.found error head
-    (sym c.take_uid.ensures ∙ c.in-Some-take_uid.is) c.in_err-follow-2.ensures.refused in
+    c.next.new.self c.in-Some-uid_of.found error head
+    (sym c.uid_of.ensures ∙ c.in-Some-uid_of.is) c.in_err-follow-2.ensures.refused in
     rw (f.1, f.2) (subst (λ (objects : Bor _). IsFaultOf
-    (resolved_tree (map tree_of objects.now) c.args.uid) (error_of_walk error))
+    (resolved_tree (map tree_of objects.now) c.args.uid) error)
     (c.loop-left.invariant.objects ∙ c.in_ok-follow.ensures.objects) refused)
