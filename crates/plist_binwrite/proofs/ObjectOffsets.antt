@@ -240,7 +240,7 @@ all_zero xs n e h k =
 module _ {plan : FilePlan} (r : IsFilePlan plan) (objects : ℕ → Object)
     (d : AreObjectsOf plan objects) where
   abbrev count : ℕ
-  count = plan.numbering.count
+  count = plan.count
 
   abbrev body : List ℕ → List ℕ
   body order = object_table plan.width objects order

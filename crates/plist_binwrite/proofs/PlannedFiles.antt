@@ -260,9 +260,15 @@ module _ {given : Classed} {numbering : Numbering} (n : IsNumberingOfEvents give
   pub plan_made : (width : ℕ) → width ≡ reference_width numbering.count → width ≤ 8
       → numbering.count ≤ 256 ^ width → length (events_in given) < 2 ^ 64
       → ((objects : ℕ) → IsCapped size objects → size_with numbering.count objects < 2 ^ 64)
-      → IsFilePlan (record { given = given; numbering = numbering; width = width })
+      → IsFilePlan (record {
+        given = given;
+        by_class = numbering.by_class;
+        count = numbering.count;
+        width = width;
+      })
   plan_made width wide narrow fit few fits = record {
-    numbered = n;
+    listed = n.listed;
+    planned = n.planned;
     width = wide;
     narrow = narrow;
     writable = λ objects d. can_write n objects d width fit few;
@@ -285,12 +291,12 @@ module _ {plan : FilePlan} (r : IsFilePlan plan) {W : Type 0} {contents : W → 
         let o = p.layout.ordered in
         let wide : plan.width ≡ reference_width (length p.offsets) =
         r.width ∙ ap reference_width (sym o.long) in
-        let once : AllOnce plan.numbering.count p.order =
+        let once : AllOnce plan.count p.order =
         record { distinct = o.distinct; numbered = λ k. (o.below k, p.all k) } in
         subst
         (λ w. IsFileBy (class_in plan.given) t (file_with w p.objects p.offsets p.order))
         (sym wide)
-        (finished r.numbered.planned t e p.objects p.described p.order once p.offsets
+        (finished r.planned t e p.objects p.described p.order once p.offsets
         (rw wide at p.layout.laid) o.long (r.small t e)),
   )
 

@@ -30,11 +30,11 @@ module _ {plan : FilePlan} (r : IsFilePlan plan) {W : Type 0} {contents : W → 
     {start : Sink W} where
   -- nothing but the magic is put
   pub start_put : {offsets : List ℕ} {answer : Answer} {sink : Sink W}
-      → offsets ≡ replicate plan.numbering.count 0 → PutsBytes contents start magic answer sink
+      → offsets ≡ replicate plan.count 0 → PutsBytes contents start magic answer sink
       → ArePut plan contents start offsets answer sink
   start_put {offsets} zeros put =
-      let of = numbered r.numbered.planned in
-      let count = plan.numbering.count in
+      let of = numbered r.planned in
+      let count = plan.count in
       let long : length offsets ≡ count = ap length zeros ∙ length-replicate count 0 in
       record {
         objects = of.objects;
@@ -53,7 +53,7 @@ module _ {plan : FilePlan} (r : IsFilePlan plan) {W : Type 0} {contents : W → 
       → ArePut plan contents start offsets (Err fault) sink
       → PutsFile plan contents start (Err fault) sink
   part_put a =
-      let c = continued r a.objects a.described a.layout plan.numbering.count (omega arith) in
+      let c = continued r a.objects a.described a.layout plan.count (omega arith) in
       let w = plan.width in
       record {
         objects = a.objects;
@@ -84,7 +84,7 @@ module _ {plan : FilePlan} (r : IsFilePlan plan) {W : Type 0} {contents : W → 
         (laid_below r a.objects a.described a.layout.ordered)
 
     -- the offset table and the trailer follow all objects
-    pub all_put : ((k : ℕ) → k < plan.numbering.count → get_or offsets k 0 ≢ 0) → (v : ℕ)
+    pub all_put : ((k : ℕ) → k < plan.count → get_or offsets k 0 ≢ 0) → (v : ℕ)
         → ((n : ℕ) → HasPut sink n → n < 2 ^ 64 → v ≡ n) → (answer : Answer) (new : Sink W)
         → PutsBytes contents sink (table_and_trailer offsets v) answer new
         → PutsFile plan contents start answer new
@@ -104,8 +104,8 @@ module _ {plan : FilePlan} (r : IsFilePlan plan) {W : Type 0} {contents : W → 
       abbrev k : ℕ
       k = number_of_event plan p
 
-      below : k < plan.numbering.count
-      below = numbers_below r.numbered.planned p item.0 item.1
+      below : k < plan.count
+      below = numbers_below r.planned p item.0 item.1
 
       -- the object of one more event is put
       pub put_next : {answer : Answer} {new : Sink W}
@@ -113,7 +113,7 @@ module _ {plan : FilePlan} (r : IsFilePlan plan) {W : Type 0} {contents : W → 
           → PutsBytes contents sink (form plan.width (object_of (number_of_event plan) t p)) answer new)
           → ArePut plan contents start (set offsets k v) answer new
       put_next put =
-          let u = occurs_at (events_in plan.given) r.numbered.planned.whole p item.0 item.1 in
+          let u = occurs_at (events_in plan.given) r.planned.whole p item.0 item.1 in
           record {
             objects = a.objects;
             described = a.described;

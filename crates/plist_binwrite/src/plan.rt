@@ -7,11 +7,11 @@ ghost use Rattle.plist_base.specs.Faults.{OutOfMemory, PlistTooLarge, fault_with
 ghost use Rattle.plist_base.specs.Outcomes.{IfFault};
 ghost use Rattle.plist_base.specs.Sinks.{IsSizeOrNone};
 ghost use Rattle.plist_binwrite.specs.Classes.{size_by};
-ghost use Rattle.plist_binwrite.specs.EventClasses.{IsClassed, class_in, events_in};
+ghost use Rattle.plist_binwrite.specs.EventClasses.{IsClassed, IsListed, class_in, events_in};
 ghost use Rattle.plist_binwrite.specs.SendingAs.{IsOfTree};
 ghost use Rattle.plist_binwrite.specs.Sizes.{size_with};
 ghost use Rattle.plist_binwrite.specs.inner.Layout.{IsFilePlan};
-ghost use Rattle.plist_binwrite.specs.inner.Numbering.{IsNumberingOfEvents};
+ghost use Rattle.plist_binwrite.specs.inner.Numbering.{IsNumberingOfEvents, number_by, stored_by};
 ghost use Rattle.plist_binwrite.specs.inner.ObjectSizes.{IsCapped};
 ghost use Rattle.plist_buffer.specs.Children.{half_of};
 ghost use Rattle.plist_buffer.specs.EventTable.{IsBracketed, plain_events};
@@ -31,10 +31,25 @@ use std::alloc::{AllocError, Global};
 pub struct FilePlan<'p, 'e> {
     /// The events with their classes.
     pub given: Classed<'p, 'e>,
-    /// The number of each class's object, and the sizes of the objects.
-    pub numbering: Numbering,
+    /// One more than the number of each class's object, indexed by the class.
+    pub by_class: CompactNumbers,
+    /// The number of objects. Their numbers are those below `count`.
+    pub count: usize,
     /// The number of bytes in a reference.
     pub width: usize,
+}
+
+/// Returns the number of the object of the event at an index. `by_class` contains one more than the
+/// number of each class's object.
+#[inline(always)]
+pub fn object_number(given: &Classed<'_, '_>, by_class: &CompactNumbers, index: usize) -> usize
+    requires index { index < length (events_in given.now) }
+    requires listed { IsListed given.now }
+    requires class { class_in given.now index < length by_class.now }
+    requires numbered { 0 < stored_by (class_in given.now) by_class.now index }
+    ensures { result ≡ number_by (class_in given.now) by_class.now index }
+{
+    by_class.get(given.class_at(index)) - 1
 }
 
 /// The number of each class's object, and the sizes of the objects.
@@ -134,24 +149,11 @@ pub fn count_children(events: &EventTable<'_>, index: usize) -> usize
 
 impl Numbering {
     ghost use Rattle.std.specs.Prelude.{◌≡◌, ◌<◌, ◌∷◌, ◌++◌, [], length, OnOk};
-    ghost use Rattle.plist_binwrite.specs.EventClasses.{IsListed, class_in, events_in};
+    ghost use Rattle.plist_binwrite.specs.EventClasses.{events_in};
     ghost use Rattle.plist_buffer.specs.Children.{half_of};
     ghost use Rattle.plist_buffer.specs.EventTable.{HasItem};
     ghost use Rattle.plist_buffer.specs.declared.children.Half.TheVariants.{Keys, Values};
-    ghost use Rattle.plist_binwrite.specs.inner.Numbering.{IsNumbered, IsNumberedSoFar, Numbers, object_number};
-    ghost use Rattle.plist_binwrite.specs.inner.ObjectSizes.{AreSizes};
-
-    /// Returns the number of the object of the event at an index.
-    #[inline(always)]
-    pub fn number(&self, given: &Classed<'_, '_>, index: usize) -> usize
-        requires index { index < length (events_in given.now) }
-        requires listed { IsListed given.now }
-        requires class { class_in given.now index < length self.now.by_class }
-        requires numbered { IsNumbered given.now self.now index }
-        ensures { result ≡ object_number given.now self.now index }
-    {
-        self.by_class.get(given.class_at(index)) - 1
-    }
+    ghost use Rattle.plist_binwrite.specs.inner.Numbering.{IsNumberedSoFar, Numbers, object_number};
 
     // Assigns the next number to the object of the event at an index, unless it has one already.
     #[inline(always)]
@@ -266,7 +268,8 @@ pub fn plan_file<'p, 'e>(alloc: Global, given: Classed<'p, 'e>) -> Result<FilePl
     match size_of_file(objects, numbering.count as u64) {
         Some(_) => Ok(FilePlan {
             given,
-            numbering,
+            by_class: numbering.by_class,
+            count: numbering.count,
             width,
         }),
         None => Err(ErrorKind::PlistTooLarge.without_position()),

@@ -16,12 +16,12 @@ use Rattle.plist_buffer.specs.declared.children.Half.TheVariants.{Keys, Values}
 use Rattle.plist_format.specs.Marker.{high_half}
 use Rattle.plist_format.specs.declared.marker.CountedKind.{CountedKind}
 use Rattle.plist_binwrite.specs.Classes.{size_by}
-use Rattle.plist_binwrite.specs.EventClasses.{events_in, class_in}
+use Rattle.plist_binwrite.specs.EventClasses.{IsListed, events_in, class_in}
 use Rattle.plist_binwrite.specs.Forms.{IsWritable, form, length_form, reference_width, table_form, units_of}
 use Rattle.plist_binwrite.specs.Numberings.{Describes, object_of}
 use Rattle.plist_binwrite.specs.Written.{Laid, file_with, laid_out}
 use Rattle.plist_binwrite.specs.declared.plan.FilePlan.{FilePlan}
-use Rattle.plist_binwrite.specs.inner.Numbering.{IsNumberingOfEvents, object_number}
+use Rattle.plist_binwrite.specs.inner.Numbering.{IsPlanned, number_by}
 use Rattle.plist_binwrite.specs.inner.ObjectSizes.{total_below}
 
 -- `order` contains numbers below the count, none of them twice, and exactly these have an offset
@@ -45,7 +45,7 @@ pub record PushesUnits (old new : FixedBuffer × List ℕ) : Type 0 where
 module _ (plan : FilePlan) where
   -- the number of the object of the event at an index
   abbrev pub number_of_event : (index : ℕ) → ℕ
-  number_of_event = object_number plan.given plan.numbering
+  number_of_event = number_by (class_in plan.given) plan.by_class
 
   -- these are the objects of a planned file
   abbrev pub AreObjectsOf : (ℕ → Object) → Type 0
@@ -53,13 +53,14 @@ module _ (plan : FilePlan) where
 
   -- the file of the tree with these events is planned; it has less than 2^64 bytes
   pub record IsFilePlan : Type 0 where
-    pub numbered : IsNumberingOfEvents plan.given plan.numbering
-    pub width : plan.width ≡ reference_width plan.numbering.count
+    pub listed : IsListed plan.given
+    pub planned : IsPlanned (events_in plan.given) (class_in plan.given) plan.by_class plan.count
+    pub width : plan.width ≡ reference_width plan.count
     pub narrow : plan.width ≤ 8
     pub writable : (objects : ℕ → Object) → AreObjectsOf objects → (k : ℕ)
-        → k < plan.numbering.count → IsWritable plan.width (objects k)
+        → k < plan.count → IsWritable plan.width (objects k)
     pub few : (objects : ℕ → Object) → AreObjectsOf objects
-        → 8 + total_below (λ k. length (form plan.width (objects k))) plan.numbering.count < 2 ^ 64
+        → 8 + total_below (λ k. length (form plan.width (objects k))) plan.count < 2 ^ 64
     pub small : (t : Tree) → events_in plan.given ≡ lengthless t
         → size_by (class_in plan.given) t < 2 ^ 64
 
@@ -92,7 +93,7 @@ module _ (plan : FilePlan) where
 
   -- the objects lie back to back in this order, and have these offsets
   pub record IsLayout (objects : ℕ → Object) (order offsets : List ℕ) : Type 0 where
-    pub ordered : IsOrder plan.numbering.count order offsets
+    pub ordered : IsOrder plan.count order offsets
     pub laid : Laid plan.width objects offsets order 8
 
   module _ {W : Type 0} (contents : W → Option (List ℕ)) (start : Sink W) where
@@ -111,7 +112,7 @@ module _ (plan : FilePlan) where
       pub order : List ℕ
       pub offsets : List ℕ
       pub layout : IsLayout objects order offsets
-      pub all : (k : ℕ) → k < plan.numbering.count → list_any (eqb k) order ≡ true
+      pub all : (k : ℕ) → k < plan.count → list_any (eqb k) order ≡ true
       pub put : PutsBytes contents start (file_with plan.width objects offsets order) answer sink
 
   -- a call puts the object of the tree that begins at an index, with this result

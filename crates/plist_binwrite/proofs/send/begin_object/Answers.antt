@@ -9,8 +9,8 @@ use Rattle.plist_binwrite.proofs.send.begin_object.Goals.{After-try_put_object a
 free : (g : _) (c : Tried g)
     → get_or c.args.offsets.now (number_of_event c.args.plan.now c.args.index) 0 ≡ 0
 free g c =
-    let zero : get_or c.args.offsets.now c.number-number.result 0 ≡ 0 = omega arith in
-    ap (λ k. get_or c.args.offsets.now k 0) (sym c.number-number.ensures) ∙ zero
+    let zero : get_or c.args.offsets.now c.object_number-number.result 0 ≡ 0 = omega arith in
+    ap (λ k. get_or c.args.offsets.now k 0) (sym c.object_number-number.ensures) ∙ zero
 
 place : (g : _) (c : Tried g) → (n : ℕ) → HasPut c.args.sink.now n → n < 2 ^ 64
     → c.unwrap_or.result ≡ n
@@ -20,13 +20,13 @@ place g c n put =
 pub returns-clause-put : goal.returns-clause-put
 returns-clause-put g c = λ done.
     let a = (goal.at.returns-clause-put g c).After-try_put_object in
-    rw c.number-number.ensures
+    rw c.object_number-number.ensures
     (puts_first c.requires.plan c.args.index c.requires.item (free g a) _ (place g a) (Ok tt)
     (c.try_put_object.ensures.put (not-false _ done)))
 
 pub returns-clause-begun : goal.returns-clause-begun
 returns-clause-begun g c = λ more.
     let a = (goal.at.returns-clause-begun g c).After-try_put_object in
-    rw c.number-number.ensures
+    rw c.object_number-number.ensures
     (lacks_first c.requires.plan c.args.index c.requires.item (free g a) _ (place g a)
     (c.try_put_object.ensures.unchanged (not-true _ more)))

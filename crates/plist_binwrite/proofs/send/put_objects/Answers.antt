@@ -78,7 +78,7 @@ returns-in_err-put_keys g c = λ start none put.
 
 pub returns : goal.returns
 returns g c = λ start none put.
-    let planned = c.requires.plan.numbered.planned in
+    let planned = c.requires.plan.planned in
     let after = c.loop-index.invariant.put start none put in (
       after.0,
       λ k h.
