@@ -28,8 +28,8 @@ pub use plist_format::CountedKind;
 use plist_format::LowHalf;
 use std::io::Write;
 
-// The greatest number of bytes in the object of a scalar other than a string or data.
-const MAX_FIXED_OBJECT: usize = 17;
+/// The greatest number of bytes in the object of a scalar other than a string or data.
+pub(crate) const MAX_FIXED_OBJECT: usize = 17;
 
 /// Puts the lowest `width` bytes of a number in big-endian order. `width` is at most 8.
 pub fn put_number<W: Write>(sink: &mut Sink<'_, W>, width: usize, number: u64) -> Result<(), Error>

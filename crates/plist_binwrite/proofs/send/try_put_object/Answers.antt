@@ -1,5 +1,7 @@
-use Rattle.plist_base.proofs.SinkSteps.{puts_as}
-use Rattle.plist_binwrite.proofs.TreeObjects.{array_is, dictionary_is, of_array, of_dictionary}
+use Rattle.std.proofs.Common.{refl}
+use Rattle.plist_base.proofs.SinkSteps.{puts_as, puts_pending}
+use Rattle.plist_binwrite.proofs.TreeObjects.{array_is, dictionary_is, of_array, of_dictionary, scalar_there}
+use Rattle.plist_binwrite.specs.inner.Layout.{number_of_event}
 use Rattle.plist_binwrite.proofs.send.try_put_object.Goals as goal
 
 pub returns-in-StartArray-clause-put : goal.returns-in-StartArray-clause-put
@@ -12,3 +14,10 @@ returns-in-StartDictionary-clause-put g c = λ done.
     of_dictionary c.kind_at.ensures _ c.in-StartDictionary.is
     (λ ms s. puts_as (dictionary_is c.args.plan.now s)
     (c.try_put_collection-in-StartDictionary.ensures.put done))
+
+pub returns-then-room-ge-MAX_FIXED_OBJECT-clause-put :
+    goal.returns-then-room-ge-MAX_FIXED_OBJECT-clause-put
+returns-then-room-ge-MAX_FIXED_OBJECT-clause-put g c = λ done tree s.
+    let plan = c.args.plan.now in
+    puts_as (scalar_there (number_of_event plan) plan.width _ c.in-Some.ensures.some tree s)
+    (puts_pending (record { writer = refl; buffer = refl }) refl (c.push_scalar.ensures.pushed done) refl)
