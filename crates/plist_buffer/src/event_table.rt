@@ -307,27 +307,51 @@ impl EventTable<'static> {
     ghost use Rattle.plist_buffer.specs.EventTable.{plain_event, plain_events, GrowsBy};
 
     // Appends a string, which is copied unless an equal one is stored.
-    fn copy_text(&mut self, alloc: Global, text: CowStr<'_>) -> Result<(), AllocError>
+    fn copy_text(&mut self, alloc: Global, text: &str) -> Result<(), AllocError>
         ensures events { OnOk result (GrowsBy self.old
-            (ScalarEvent (StringScalar (cow_str_bytes text.entry))) self.new) }
+            (ScalarEvent (StringScalar text.now)) self.new) }
         ensures unchanged { OnErr result (plain_events self.new ≡ plain_events self.old) }
     {
-        if let Some(index) = self.find(&StoredScalar::BorrowedString(text.as_str())) {
+        if let Some(index) = self.find(&StoredScalar::BorrowedString(text)) {
             return self.repeat(index);
         }
         self.scalar(StoredScalar::copy_of_text(alloc, text)?)
     }
 
     // Appends data, which is copied unless equal data is stored.
-    fn copy_data(&mut self, alloc: Global, bytes: CowSlice<'_, u8>) -> Result<(), AllocError>
+    fn copy_data(&mut self, alloc: Global, bytes: &[u8]) -> Result<(), AllocError>
+        ensures events { OnOk result (GrowsBy self.old
+            (ScalarEvent (DataScalar bytes.now)) self.new) }
+        ensures unchanged { OnErr result (plain_events self.new ≡ plain_events self.old) }
+    {
+        if let Some(index) = self.find(&StoredScalar::BorrowedData(bytes)) {
+            return self.repeat(index);
+        }
+        self.scalar(StoredScalar::copy_of_data(alloc, bytes)?)
+    }
+
+    // Appends a string. An owned one is moved, and so its hash is computed only once.
+    fn take_text(&mut self, alloc: Global, text: CowStr<'_>) -> Result<(), AllocError>
+        ensures events { OnOk result (GrowsBy self.old
+            (ScalarEvent (StringScalar (cow_str_bytes text.entry))) self.new) }
+        ensures unchanged { OnErr result (plain_events self.new ≡ plain_events self.old) }
+    {
+        match text {
+            CowStr::Borrowed(borrowed) => self.copy_text(alloc, borrowed),
+            CowStr::Owned(owned) => self.scalar(StoredScalar::of_text(CowStr::Owned(owned))),
+        }
+    }
+
+    // Appends data. Owned data is moved, and so its hash is computed only once.
+    fn take_data(&mut self, alloc: Global, bytes: CowSlice<'_, u8>) -> Result<(), AllocError>
         ensures events { OnOk result (GrowsBy self.old
             (ScalarEvent (DataScalar (cow_slice_items bytes.entry))) self.new) }
         ensures unchanged { OnErr result (plain_events self.new ≡ plain_events self.old) }
     {
-        if let Some(index) = self.find(&StoredScalar::BorrowedData(bytes.as_slice())) {
-            return self.repeat(index);
+        match bytes {
+            CowSlice::Borrowed(borrowed) => self.copy_data(alloc, borrowed),
+            CowSlice::Owned(owned) => self.scalar(StoredScalar::of_data(CowSlice::Owned(owned))),
         }
-        self.scalar(StoredScalar::copy_of_data(alloc, bytes)?)
     }
 
     /// Appends a copy of an event. A string or data that is equal to a stored one isn't copied.
@@ -348,11 +372,11 @@ impl EventTable<'static> {
             Event::StartDictionary(_) => self.start(EventEntry::Dictionary(following)),
             Event::EndCollection => self.end(),
             Event::Boolean(value) => self.scalar(StoredScalar::Boolean(value)),
-            Event::Data(bytes) => self.copy_data(alloc, bytes),
+            Event::Data(bytes) => self.take_data(alloc, bytes),
             Event::Date(date) => self.scalar(StoredScalar::Date(date)),
             Event::Integer(value) => self.scalar(StoredScalar::Integer(value)),
             Event::Real(bits) => self.scalar(StoredScalar::Real(bits)),
-            Event::String(text) => self.copy_text(alloc, text),
+            Event::String(text) => self.take_text(alloc, text),
             Event::Uid(uid) => self.scalar(StoredScalar::Uid(uid)),
         }
     }

@@ -109,35 +109,24 @@ impl<'e> StoredScalar<'e> {
 }
 
 impl StoredScalar<'static> {
-    /// Stores a copy of a string, or fails if an allocation fails. An owned string of more than 30
-    /// bytes isn't copied.
-    pub fn copy_of_text(
-        alloc: Global,
-        text: CowStr<'_>,
-    ) -> Result<StoredScalar<'static>, AllocError>
-        ensures { IfOk result (λ stored. scalar_of stored
-            ≡ StringScalar (cow_str_bytes text.entry)) }
+    /// Stores a copy of a string, or fails if an allocation fails.
+    pub fn copy_of_text(alloc: Global, text: &str) -> Result<StoredScalar<'static>, AllocError>
+        ensures { IfOk result (λ stored. scalar_of stored ≡ StringScalar text.now) }
     {
-        if let Some(short) = ShortText::new(text.as_str()) {
+        if let Some(short) = ShortText::new(text) {
             return Ok(StoredScalar::ShortString(short));
         }
-        let owned = text.into_owned(alloc)?;
-        Ok(StoredScalar::OwnedString(owned))
+        Ok(StoredScalar::OwnedString(text.to_string(alloc)?))
     }
 
-    /// Stores a copy of data, or fails if an allocation fails. Owned data of more than 30 bytes
-    /// isn't copied.
-    pub fn copy_of_data(
-        alloc: Global,
-        bytes: CowSlice<'_, u8>,
-    ) -> Result<StoredScalar<'static>, AllocError>
-        ensures { IfOk result (λ stored. scalar_of stored ≡ Data (cow_slice_items bytes.entry)) }
+    /// Stores a copy of data, or fails if an allocation fails.
+    pub fn copy_of_data(alloc: Global, bytes: &[u8]) -> Result<StoredScalar<'static>, AllocError>
+        ensures { IfOk result (λ stored. scalar_of stored ≡ Data bytes.now) }
     {
-        if let Some(short) = ShortBytes::new(bytes.as_slice()) {
+        if let Some(short) = ShortBytes::new(bytes) {
             return Ok(StoredScalar::ShortData(short));
         }
-        let owned = bytes.into_owned(alloc)?;
-        Ok(StoredScalar::OwnedData(owned))
+        Ok(StoredScalar::OwnedData(Vec::from_slice(alloc, bytes)?))
     }
 }
 
