@@ -1,5 +1,5 @@
 -- Keys and values that are appended to two columns, and their order.
-use Rattle.std.proofs.Common.{◌≡◌, ℕ, ◌+◌, ◌<◌, Bool, true, false, not, cond, List, [], ◌∷◌, ◌++◌, length, map, sym, ap, subst, ◌∙◌, is_some, IsSome, Option, length-append, Some, None, position, string_bytes, bytes_eq, lt-ltb, refl, append_assoc, arith, is_lt, string_cmp, IsPermutation, IsSorted, nat_cmp, IsSortedBy}
+use Rattle.std.proofs.Common.{◌≡◌, ℕ, ◌+◌, ◌<◌, ◌≤◌, Bool, true, false, not, cond, List, [], ◌∷◌, ◌++◌, length, map, sym, ap, subst, ◌∙◌, is_some, IsSome, Option, length-append, Some, None, position, string_bytes, bytes_eq, lt-ltb, refl, append_assoc, arith, is_lt, string_cmp, IsPermutation, IsSorted, nat_cmp, IsSortedBy}
 use Rattle.std.specs.List.{list_any, position_or_len, IsDistinct}
 use Rattle.std.specs.Map.{lookup, keys_of}
 use Rattle.std.proofs.lemmas.List.{length-map, get_or-map, map-append, map_push}
@@ -99,6 +99,36 @@ module _ {V : Type 0} where
               ∙ append_assoc (rows ks vs) ((string_bytes k, v) ∷ []) (map shown_owned_pair less)
               ∙ parts,
         )
+
+  -- no pair has moved to a row yet
+  pub none-moved : (none : List (Text × V)) (left pairs : List (List ℕ × V)) (room : ℕ) → none ≡ []
+      → left ≡ pairs → length pairs ≤ room
+      → (map shown_owned_pair none ++ left ≡ pairs) × (length none + length left ≤ room)
+  none-moved none left pairs room empty is fits = (
+    ap (λ l. map shown_owned_pair l ++ left) empty ∙ is,
+    omega (arith, ap length empty, ap length is, fits),
+  )
+
+  -- one more pair moves to a row
+  pub one-moved : (old new : List (Text × V)) (row : Text × V) (left less pairs : List (List ℕ × V))
+      (room after : ℕ) → new ≡ old ++ row ∷ [] → left ≡ shown_owned_pair row ∷ less
+      → after ≡ room
+      → (map shown_owned_pair old ++ left ≡ pairs) × (length old + length left ≤ room)
+      → (map shown_owned_pair new ++ less ≡ pairs) × (length new + length less ≤ after)
+  one-moved old new row left less pairs room after pushed next same (all, fits) = (
+    ap (λ l. map shown_owned_pair l ++ less) pushed
+        ∙ ap (λ l. l ++ less) (map_push shown_owned_pair old row)
+        ∙ append_assoc (map shown_owned_pair old) (shown_owned_pair row ∷ []) less
+        ∙ ap (λ l. map shown_owned_pair old ++ l) (sym next) ∙ all,
+    omega (
+      arith,
+      ap length pushed,
+      length-append old (row ∷ []),
+      ap length next,
+      fits,
+      same,
+    ),
+  )
 
   keys-shown : (all : List (Text × V))
       → map (λ (r : Text × V). string_bytes r.0) all ≡ keys_of (map shown_owned_pair all)
