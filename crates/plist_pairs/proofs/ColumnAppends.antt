@@ -1,5 +1,5 @@
 -- Keys and values that are appended to two columns, and their order.
-use Rattle.std.proofs.Common.{◌≡◌, ℕ, ◌+◌, ◌<◌, ◌≤◌, Bool, true, false, not, cond, List, [], ◌∷◌, ◌++◌, length, map, sym, ap, subst, ◌∙◌, is_some, IsSome, Option, length-append, Some, None, position, string_bytes, bytes_eq, lt-ltb, refl, append_assoc, arith, is_lt, string_cmp, IsPermutation, IsSorted, nat_cmp, IsSortedBy}
+use Rattle.std.proofs.Common.{◌≡◌, ℕ, ◌+◌, ◌<◌, ◌≤◌, Bool, true, false, not, cond, List, [], ◌∷◌, ◌++◌, length, map, sym, ap, subst, ◌∙◌, is_some, IsSome, Option, option_to_list, length-append, Some, None, position, string_bytes, bytes_eq, lt-ltb, refl, append_assoc, arith, is_lt, string_cmp, IsPermutation, IsSorted, nat_cmp, IsSortedBy}
 use Rattle.std.specs.List.{list_any, position_or_len, IsDistinct}
 use Rattle.std.specs.Map.{lookup, keys_of}
 use Rattle.std.proofs.lemmas.List.{length-map, get_or-map, map-append, map_push}
@@ -57,6 +57,31 @@ module _ (ks : List Text) (k : Text) (b : Bool) (new : b ≡ not (has ks k)) (n 
   old-index i at within =
       at_first (λ (l : Text). bytes_eq (string_bytes k) (string_bytes l)) ks i at
       (rw (← old-keys) within)
+
+-- two lists that end with one more item each are equal part by part
+last-parts : {A : Type 0} (xs ys : List A) (x y : A) → xs ++ x ∷ [] ≡ ys ++ y ∷ []
+    → (xs ≡ ys) × (x ≡ y)
+last-parts [] [] x y e = (refl, cc e)
+last-parts [] (b ∷ []) x y e = absurd (cc e)
+last-parts [] (b ∷ c ∷ ys) x y e = absurd (cc e)
+last-parts (a ∷ []) [] x y e = absurd (cc e)
+last-parts (a ∷ c ∷ xs) [] x y e = absurd (cc e)
+last-parts (a ∷ xs) (b ∷ ys) x y e =
+    let rest = last-parts xs ys x y (cc e) in (cc (e, rest.0), rest.1)
+
+module _ (ks : List Text) (k : Text) (b : Bool) (new : b ≡ not (has ks k)) (yes : b ≡ true) where
+  -- a key that was added wasn't there before
+  pub new-lacked : has ks k ≡ false
+  new-lacked = is-not b _ new ∙ ap not yes
+
+  -- if the last key is removed after that, it is the one that was added
+  pub popped-again : (ls less : List Text) (found : Option Text) (last : Text)
+      → ls ≡ cond (has ks k) ks (ks ++ k ∷ []) → ls ≡ less ++ option_to_list found
+      → found ≡ Some last → (less ≡ ks) × (last ≡ k)
+  popped-again ls less found last h ends is =
+      last-parts less ks last k
+      (sym (ends ∙ ap (λ o. less ++ option_to_list o) is) ∙ h
+      ∙ ap (λ c. cond c ks (ks ++ k ∷ [])) new-lacked)
 
 -- a list that is sorted by a function's values becomes a sorted list of these values
 sorted-map : {A K : Type 0} (f : A → K) (lt : K → K → Bool) (xs : List A)
