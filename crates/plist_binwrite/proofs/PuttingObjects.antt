@@ -129,19 +129,19 @@ module _ {plan : FilePlan} (r : IsFilePlan plan) {W : Type 0} {contents : W → 
       pub put_placed : HasOffset plan (set offsets k v) p
       put_placed = next_placed r a.objects a.described a.layout k v below free (position_is v is)
 
--- nothing is claimed
-any_ok : (answer : Answer) → OnOk answer (Unit {0})
-any_ok (Ok done) = tt
-any_ok (Err fault) = tt
+-- a fact holds on success
+on_ok : {A : Type 0} (answer : Answer) → A → OnOk answer A
+on_ok (Ok done) a = a
+on_ok (Err fault) a = tt
 
 -- a fact that holds on success implies another one on success
-on_ok : {A B : Type 0} (answer : Answer) → (A → B) → OnOk answer A → OnOk answer B
-on_ok (Ok done) f a = f a
-on_ok (Err fault) f a = tt
+from_ok : {A B : Type 0} (answer : Answer) → (A → B) → OnOk answer A → OnOk answer B
+from_ok (Ok done) f a = f a
+from_ok (Err fault) f a = tt
 
 -- a known number is that of the option
-pub number_told : (place : Option ℕ) (default v : ℕ) → v ≡ unwrap_or place default → (n : ℕ)
-    → IsSizeOrNone place n → n < 2 ^ 64 → v ≡ n
+pub number_told : (known : Option ℕ) (default v : ℕ) → v ≡ unwrap_or known default → (n : ℕ)
+    → IsSizeOrNone known n → n < 2 ^ 64 → v ≡ n
 number_told None default v is n large small = absurd (omega (arith, large, small))
 number_told (Some m) default v is n same small = is ∙ same
 
@@ -157,7 +157,7 @@ module _ {plan : FilePlan} (r : IsFilePlan plan) {W : Type 0}
     step = λ start none a. (
       put_next r a none p item free v is put,
       put_kept r a none p item free v is,
-      on_ok answer (λ done. (put_placed r a none p item free v is, tt)) (any_ok answer),
+      on_ok answer (put_placed r a none p item free v is, tt),
     );
   }
 
@@ -187,7 +187,7 @@ module _ {plan : FilePlan} {W : Type 0} {contents : W → Option (List ℕ)} {on
         let second = q.step start none first.0 in (
           second.0,
           λ k some. second.1 k (first.1 k some),
-          on_ok answer
+          from_ok answer
               (all_both _ one two (all_from _ _ (λ k has. second.1 _ has) one first.2)) second.2,
         );
   }
@@ -207,7 +207,7 @@ puts_some one two answer p = record {
   long = p.long;
   step = λ start none put.
       let all = p.step start none put in
-      (all.0, all.1, on_ok answer (all_left _ one two) all.2);
+      (all.0, all.1, from_ok answer (all_left _ one two) all.2);
 }
 
 -- the objects of these events were put before

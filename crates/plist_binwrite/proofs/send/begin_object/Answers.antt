@@ -12,21 +12,21 @@ free g c =
     let zero : get_or c.args.offsets.now c.object_number-number.result 0 ≡ 0 = omega arith in
     ap (λ k. get_or c.args.offsets.now k 0) (sym c.object_number-number.ensures) ∙ zero
 
-place : (g : _) (c : Tried g) → (n : ℕ) → HasPut c.args.sink.now n → n < 2 ^ 64
+offset : (g : _) (c : Tried g) → (n : ℕ) → HasPut c.args.sink.now n → n < 2 ^ 64
     → c.unwrap_or.result ≡ n
-place g c n put =
+offset g c n put =
     number_told c.position.result _ _ c.unwrap_or.ensures n (c.position.ensures n put)
 
 pub returns-clause-put : goal.returns-clause-put
 returns-clause-put g c = λ done.
     let a = (goal.at.returns-clause-put g c).After-try_put_object in
     rw c.object_number-number.ensures
-    (puts_first c.requires.plan c.args.index c.requires.item (free g a) _ (place g a) (Ok tt)
+    (puts_first c.requires.plan c.args.index c.requires.item (free g a) _ (offset g a) (Ok tt)
     (c.try_put_object.ensures.put (not-false _ done)))
 
 pub returns-clause-begun : goal.returns-clause-begun
 returns-clause-begun g c = λ more.
     let a = (goal.at.returns-clause-begun g c).After-try_put_object in
     rw c.object_number-number.ensures
-    (lacks_first c.requires.plan c.args.index c.requires.item (free g a) _ (place g a)
+    (lacks_first c.requires.plan c.args.index c.requires.item (free g a) _ (offset g a)
     (c.try_put_object.ensures.unchanged (not-true _ more)))
