@@ -5,7 +5,7 @@ use Rattle.plist_binwrite.proofs.NumberingSteps.{known_number}
 use Rattle.plist_binwrite.specs.inner.Layout.{PutsObjects}
 use Rattle.plist_binwrite.proofs.PuttingObjects.{puts_both, puts_some}
 use Rattle.plist_binwrite.proofs.send.put_objects.Goals as goal
-use Rattle.plist_binwrite.proofs.send.put_objects.Goals.{Joined-begin_object as Joined, Joined-kind_at as Last, then-begin_object+in_ok-put_object, else-begin_object, in-StartDictionary+in_ok-put_keys, in_default}
+use Rattle.plist_binwrite.proofs.send.put_objects.Goals.{Joined-begin_object as Joined, Joined-kind as Last, then-begin_object+in_ok-put_object, else-begin_object, in-StartDictionary+in_ok-put_keys, in_default}
 
 -- the object of the event at the index is put
 one : (g : _) (c : Joined g) → PutsObjects c.args.plan.now g.W.Write.contents
@@ -20,10 +20,10 @@ one g c = elim c.if-begin_object.branch [
 -- the objects of the keys are put after that of a dictionary
 with_keys : (g : _) (c : Last g) → PutsObjects c.args.plan.now g.W.Write.contents
     (c.loop-index.index ∷ []) (c.loop-index.offsets, c.loop-index.sink) (Ok tt)
-    (c.match-kind_at.offsets, c.match-kind_at.sink)
+    (c.match-kind.offsets, c.match-kind.sink)
 with_keys g c =
     let one = one g (goal.at.loop-index-preserved g c).Joined-begin_object in
-    elim c.match-kind_at.branch [
+    elim c.match-kind.branch [
       | in-StartDictionary+in_ok-put_keys w ↦ rw (w.sink-is, w.offsets-is)
           (puts_some _ _ (Ok tt) (puts_both (Ok tt) one w.in_ok-put_keys.ensures))
       | in_default w ↦ rw (w.sink-is, w.offsets-is) one
