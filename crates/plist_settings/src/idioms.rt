@@ -96,6 +96,11 @@ fn copied<R: Files + AllocGlobal>(rt: &R, alloc: Global) -> Result<Value, Error>
     Value::from_file(rt, alloc, "copy.plist")
 }
 
+// Reads the settings file from its bytes.
+fn read_bytes<R: Files + AllocGlobal>(rt: &R, alloc: Global) -> Result<Value, Error> {
+    Value::from_reader(alloc, fs::read(rt, FILE)?)
+}
+
 // Reads the settings file from an open file.
 fn read_open<R: Files + AllocGlobal>(rt: &R, alloc: Global) -> Result<Value, Error> {
     let file = fs::open(rt, FILE)?;
@@ -116,7 +121,7 @@ fn read_by<R: Files + AllocGlobal>(
         }
         "an untrusted file" => limited(rt, alloc, 3),
         "a deep file" => limited(rt, alloc, 1),
-        "from_reader of bytes" => Value::from_reader(alloc, fs::read(rt, FILE)?),
+        "from_reader of bytes" => read_bytes(rt, alloc),
         "from_reader of a file" => read_open(rt, alloc),
         "to_file_binary" => copied(rt, alloc),
         "from_events" => from_events(rt, alloc),
