@@ -17,7 +17,7 @@ use Rattle.plist_binwrite.proofs.ClassObjects.{numbered}
 use Rattle.plist_binwrite.proofs.NumberingSteps.{numbers_below}
 use Rattle.plist_binwrite.specs.EventClasses.{events_in}
 use Rattle.plist_binwrite.specs.declared.plan.FilePlan.{FilePlan}
-use Rattle.plist_binwrite.specs.inner.Layout.{ArePut, HasOffset, IsFilePlan, KeepsOffsets, LacksObject, PutsFile, PutsObject, PutsObjects, number_of_event}
+use Rattle.plist_binwrite.specs.inner.Layout.{ArePut, HasStoredOffset, IsFilePlan, KeepsOffsets, LacksObject, PutsFile, PutsObject, PutsObjects, number_of_event}
 use Rattle.plist_base.specs.Trees.{Tree}
 use Rattle.plist_buffer.proofs.Uniques.{all_both, all_from, all_left}
 use Rattle.plist_buffer.specs.EventTable.{HasItem}
@@ -126,7 +126,7 @@ module _ {plan : FilePlan} (r : IsFilePlan plan) {W : Type 0} {contents : W → 
       pub put_kept : KeepsOffsets plan offsets (set offsets k v)
       put_kept = next_kept r a.objects a.described a.layout k v below free (position_is v is)
 
-      pub put_placed : HasOffset plan (set offsets k v) p
+      pub put_placed : HasStoredOffset plan (set offsets k v) p
       put_placed = next_placed r a.objects a.described a.layout k v below free (position_is v is)
 
 -- a fact holds on success
@@ -212,6 +212,6 @@ puts_some one two answer p = record {
 
 -- the objects of these events were put before
 pub puts_before : {plan : FilePlan} {W : Type 0} {contents : W → Option (List ℕ)}
-    {indices : List ℕ} {a : List ℕ × Sink W} → AllByRecursion (HasOffset plan a.0) indices
+    {indices : List ℕ} {a : List ℕ × Sink W} → AllByRecursion (HasStoredOffset plan a.0) indices
     → PutsObjects plan contents indices a (Ok tt) a
 puts_before all = record { long = refl; step = λ start none put. (put, λ k some. some, all) }

@@ -84,8 +84,8 @@ module _ (plan : FilePlan) where
     pub fewer : room new.0 + plan.width * length front ≡ room old.0
 
   -- the object of the event at this index has an offset
-  abbrev pub HasOffset : (offsets : List ℕ) → (index : ℕ) → Type 0
-  HasOffset offsets index = slice_index offsets (number_of_event index) ≢ 0
+  abbrev pub HasStoredOffset : (offsets : List ℕ) → (index : ℕ) → Type 0
+  HasStoredOffset offsets index = slice_index offsets (number_of_event index) ≢ 0
 
   -- each object that had an offset has one
   abbrev pub KeepsOffsets : (old new : List ℕ) → Type 0
@@ -129,7 +129,7 @@ module _ (plan : FilePlan) where
     pub long : length new.0 ≡ length old.0
     pub step : (start : Sink W) → HasPut start 0 → ArePut contents start old.0 (Ok tt) old.1
         → ArePut contents start new.0 answer new.1 × KeepsOffsets old.0 new.0
-        × OnOk answer (AllByRecursion (HasOffset new.0) indices)
+        × OnOk answer (AllByRecursion (HasStoredOffset new.0) indices)
 
   -- only the object of the event at an index, whose offset is stored, still has to be put
   abbrev pub LacksObject : {W : Type 0} (contents : W → Option (List ℕ)) (index : ℕ)
