@@ -1,8 +1,9 @@
-use Rattle.std.proofs.Common.{◌≡◌, string_bytes, is_some, length, map, ap, sym, subst, ◌∙◌, slice_set, bytes_eq}
+use Rattle.std.proofs.Common.{◌≡◌, ◌<◌, arith, refl, Some, string_bytes, is_some, length, map, ap, sym, subst, ◌∙◌, slice_set, bytes_eq}
 use Rattle.std.specs.List.{IsDistinct}
 use Rattle.std.specs.Map.{lookup}
 use Rattle.indexmap.specs.IndexMap.{insert_entry}
-use Rattle.plist_pairs.proofs.PairColumns.{any-rows, distinct-bytes, rows, rows-old}
+use Rattle.std.proofs.lemmas.Option.{slice_get_read}
+use Rattle.plist_pairs.proofs.PairColumns.{any-rows, distinct-bytes, found_value, rows, rows-old}
 use Rattle.plist_pairs.proofs.ColumnAppends.{new-lacked, none-rows, old-keys, old-index, popped-again, put-lengths, put-rows}
 use Rattle.plist_pairs.proofs.EntrySteps.{comes_last}
 use Rattle.plist_pairs.proofs.dictionary.store.Store.insert.Given.{Over}
@@ -21,6 +22,23 @@ returns-in-Ok-default-false-clause-pairs g c =
     ∙ ap (λ w. rows k.keys.keys (slice_set k.items.items i w)) c.replace.ensures.after
     ∙ rows-old _ _ c.self.invariant.0 c.args.key c.args.value i index
     ∙ ap (λ l. insert_entry bytes_eq l (string_bytes c.args.key) c.args.value) c.self.view_is
+
+pub returns-in-Ok-default-false-clause-old : goal.returns-in-Ok-default-false-clause-old
+returns-in-Ok-default-false-clause-old g c =
+    let k = c.self.inside in
+    let e = c.in-Ok-default-false in
+    let t = bytes_eq (string_bytes c.args.key) in
+    let same = old-keys k.keys.keys c.args.key e.field-0-1 e.ensures.added e.field-0-1-test
+    c.insert_full.new.self.keys e.ensures.keys in
+    let index = old-index k.keys.keys c.args.key e.field-0-1 e.ensures.added e.field-0-1-test
+    c.insert_full.new.self.keys e.ensures.keys e.index e.ensures.index e.ensures.within in
+    let within : e.index < length k.items.items =
+    omega (arith, e.ensures.within, ap length same, c.self.invariant.0) in
+    ap Some c.replace.ensures.value
+    ∙ sym (slice_get_read k.items.items (length k.items.items) e.index c.index_mut.result.now refl
+    within c.index_mut.ensures.value)
+    ∙ sym (found_value k.keys.keys k.items.items c.self.invariant.0 t e.index index)
+    ∙ ap (lookup t) c.self.view_is
 
 -- ---- a new key
 
