@@ -15,9 +15,8 @@ returns-in-StartDictionary-clause-put g c = λ done.
     (λ ms s. puts_as (dictionary_is c.args.plan.now s)
     (c.try_put_collection-in-StartDictionary.ensures.put done))
 
-pub returns-then-room-ge-MAX_FIXED_OBJECT-clause-put :
-    goal.returns-then-room-ge-MAX_FIXED_OBJECT-clause-put
-returns-then-room-ge-MAX_FIXED_OBJECT-clause-put g c = λ done tree s.
+pub returns-in-Some-clause-put : goal.returns-in-Some-clause-put
+returns-in-Some-clause-put g c = λ done tree s.
     let plan = c.args.plan.now in
     puts_as (scalar_there (number_of_event plan) plan.width _ c.in-Some.ensures.some tree s)
     (puts_pending (record { writer = refl; buffer = refl }) refl (c.push_scalar.ensures.pushed done) refl)
