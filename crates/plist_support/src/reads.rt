@@ -133,14 +133,9 @@ pub fn expect_on_devices(alloc: Global, by: By, bytes: &[u8], items: &str) -> Re
 
 // Checks what is yielded if the source has only `left` bytes from its second call on: these items,
 // or a prefix of them and then `UnexpectedEof`, with the offset of the last call.
-fn expect_shrunk(
-    alloc: Global,
-    reading: Reading<'_>,
-    items: &str,
-    left: usize,
-) -> Result<(), Wrong> {
-    let mut device = device_of(alloc, reading.bytes, 1, DeviceFault::Shrinks(left))?;
-    let found = words_over(alloc, reading.by, &mut device, usize::MAX)?;
+fn expect_shrunk(alloc: Global, bytes: &[u8], items: &str, left: usize) -> Result<(), Wrong> {
+    let mut device = device_of(alloc, bytes, 1, DeviceFault::Shrinks(left))?;
+    let found = words_over(alloc, By::Binary, &mut device, usize::MAX)?;
     if found.as_str() == items {
         return Ok(());
     }
@@ -151,16 +146,27 @@ fn expect_shrunk(
     }
 }
 
-/// Checks that these items are read, or a prefix of them and `UnexpectedEof`, whatever length the
-/// source shrinks to at its second call. If the magic remains, the format is found from it, and the
-/// same is read by the reader of either format.
+// Checks that the reader of either format yields the items of the first bytes if the source has only
+// these from its second call on. The magic must be among them. By the second call only the format
+// is being determined, so the reader sees the shorter size.
+fn expect_front(alloc: Global, bytes: &[u8], front: &[u8]) -> Result<(), Wrong> {
+    let mut device = device_of(alloc, bytes, 1, DeviceFault::Shrinks(front.len()))?;
+    let found = words_over(alloc, By::Either, &mut device, usize::MAX)?;
+    let wanted = words_over(alloc, By::Binary, front, usize::MAX)?;
+    if found.as_str() == wanted.as_str() {
+        return Ok(());
+    }
+    fail(format!(in alloc; "of the front: {found} instead of {wanted}"))
+}
+
+/// Checks what is read if the source shrinks to any length at its second call: the binary reader
+/// yields these items, or a prefix of them and `UnexpectedEof`. If the magic remains, the reader of
+/// either format yields the items of the bytes that remain.
 pub fn expect_on_shrinking_devices(alloc: Global, bytes: &[u8], items: &str) -> Result<(), Wrong> {
     for left in 0..bytes.len() {
-        let by = By::Binary;
-        expect_shrunk(alloc, Reading { by, bytes }, items, left)?;
+        expect_shrunk(alloc, bytes, items, left)?;
         if left >= 8 && bytes.starts_with(b"bplist00") {
-            let by = By::Either;
-            expect_shrunk(alloc, Reading { by, bytes }, items, left)?;
+            expect_front(alloc, bytes, &bytes[..left])?;
         }
     }
     Ok(())
