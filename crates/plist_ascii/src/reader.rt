@@ -13,10 +13,10 @@ use std::ops::ControlFlow;
 
 /// Reads an ASCII property list as events, from its first byte on.
 ///
-/// Brackets open and close collections, and quotes (`'` or `"`) and other bytes begin strings. White
-/// space (space, tab, CR and LF), separators (`,`, `;` and `=`) and comments (`//` up to an LF, and
-/// `/*` up to `*/`) are skipped. The nesting of collections isn't checked. A bare string that
-/// spells an integer is yielded as an integer. The [`Dialect`] decides which bytes end a bare
+/// Brackets open and close collections, and quotes (`'` or `"`) and other bytes begin strings.
+/// White space (space, tab, CR and LF), separators (`,`, `;` and `=`) and comments (`//` up to an
+/// LF, and `/*` up to `*/`) are skipped. The nesting of collections isn't checked. A bare string
+/// that spells an integer is yielded as an integer. The [`Dialect`] decides which bytes end a bare
 /// string. The reader looks at one byte after an item only if that byte decides where the item
 /// ends. At most 2^64 - 1 bytes are taken.
 ///

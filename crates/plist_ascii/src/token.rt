@@ -50,7 +50,8 @@ pub fn lead_of(byte: u8) -> Lead
     }
 }
 
-/// Returns whether this byte is a separator (`,`, `;` or `=`) or white space (space, tab, CR or LF).
+/// Returns whether this byte is a separator (`,`, `;` or `=`) or white space (space, tab, CR or
+/// LF).
 #[inline(always)]
 pub fn is_blank(byte: u8) -> bool
     ensures { result ≡ is_blank byte }

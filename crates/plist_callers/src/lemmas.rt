@@ -1,6 +1,6 @@
 //! Proved callers whose proofs cite lemmas of the libraries. They insert the pairs of lists, build
-//! values from events, write files from a value's events, write values through entries, and use `==`
-//! and its laws.
+//! values from events, write files from a value's events, write values through entries, and use
+//! `==` and its laws.
 
 ghost use Rattle.std.specs.Prelude.{◌≡◌, [], IfOk, IfSome, OnOk, filter, map, option_map, string_bytes, true};
 ghost use Rattle.std.specs.Map.{lookup};

@@ -31,8 +31,8 @@ pub trait Messages {
     /// # Errors
     ///
     /// The error of the write, if it fails: possibly only a prefix of the message was written then.
-    /// `OutOfMemory`, without an offset, if the message doesn't fit into the 256 bytes in which it is
-    /// made: nothing was written then. No message of this program is that long.
+    /// `OutOfMemory`, without an offset, if the message doesn't fit into the 256 bytes in which it
+    /// is made: nothing was written then. No message of this program is that long.
     fn report(&mut self, message: Message<'_>) -> Result<(), Error>
         ensures { reports self.old (plain_message_of message.entry) (is_ok result) self.new };
 }

@@ -116,8 +116,8 @@ fn content_event(
 ///
 /// - `InvalidUtf8String` or `InvalidUtf16String`, with the object's offset, if the string is
 ///   invalid.
-/// - `Io` if a read fails, and `UnexpectedEof` if the source ends before the content does. Both have
-///   the offset of the read that failed or returned no byte.
+/// - `Io` if a read fails, and `UnexpectedEof` if the source ends before the content does. Both
+///   have the offset of the read that failed or returned no byte.
 /// - `OutOfMemory`, without an offset, if an allocation fails.
 pub fn read_long<S: Source>(
     alloc: Global,

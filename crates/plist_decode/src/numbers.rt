@@ -51,8 +51,8 @@ fn number_from_each(bytes: &[u8]) -> u64
 ///
 /// # Errors
 ///
-/// `Io` if a read fails, and `UnexpectedEof` if a read returns no byte. Both have the offset of that
-/// read.
+/// `Io` if a read fails, and `UnexpectedEof` if a read returns no byte. Both have the offset of
+/// that read.
 #[cold]
 #[inline(never)]
 pub fn read_number<S: Source>(source: &mut S, place: u64, width: usize) -> Result<u64, Error>

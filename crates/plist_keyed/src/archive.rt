@@ -44,8 +44,8 @@ impl<'a> Archive<'a> {
         Ok(Archive { objects, names })
     }
 
-    /// Returns the Uid at a key of `$top`, or `None` if the key is missing or its value isn't a Uid.
-    /// It allocates nothing.
+    /// Returns the Uid at a key of `$top`, or `None` if the key is missing or its value isn't a
+    /// Uid. It allocates nothing.
     pub fn top(&self, key: &str) -> Option<Uid>
         ensures found { IfSome result (IsUidAt key.now (names_of self.now)) }
         ensures missing { IsNone result → (uid : ℕ) → ¬ (IsUidAt key.now (names_of self.now) uid) }
@@ -69,8 +69,8 @@ impl<'a> Archive<'a> {
     /// each time.
     ///
     /// So the tree may be exponentially larger than the archive: if each of thirty arrays names the
-    /// next object twice, and the last object is a string, the tree has 2^30 leaves. To walk over an
-    /// archive without making its tree, follow its Uids by [`Archive::get`].
+    /// next object twice, and the last object is a string, the tree has 2^30 leaves. To walk over
+    /// an archive without making its tree, follow its Uids by [`Archive::get`].
     ///
     /// Each Uid is followed once to find a fault, before any part of the tree is made. So the time
     /// to find a fault depends on the objects only, and the time of the whole call on the objects

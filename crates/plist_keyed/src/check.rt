@@ -24,8 +24,8 @@ impl<'a> ArchiveWalk<'a> {
         ensures followed { OnOk result (FollowsUid self.old path.old.keys uid self.new
             path.new.keys) }
         // Errors.
-        ensures refused { IfErr result (IsFaultOf (object_found (slice_get (objects_in self.old) uid)
-            (list_any (nat_eq uid) path.old.keys) uid)) }
+        ensures refused { IfErr result (IsFaultOf (object_found
+            (slice_get (objects_in self.old) uid) (list_any (nat_eq uid) path.old.keys) uid)) }
         // State afterwards.
         ensures objects { OnOk result (self.new.objects ≡ self.old.objects) }
         ensures ends { OnOk result (self.new.ends ≡ self.old.ends) }

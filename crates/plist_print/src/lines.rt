@@ -42,8 +42,8 @@ pub enum ShortLine {
     Uid(Uid),
 }
 
-/// An upper bound of the number of bytes in a line, apart from the printed bytes of a string or data
-/// in it.
+/// An upper bound of the number of bytes in a line, apart from the printed bytes of a string or
+/// data in it.
 pub const MAX_FIXED_LINE: usize = 64;
 
 /// Pushes the printed form of these bytes, which has at most four bytes for each of them.

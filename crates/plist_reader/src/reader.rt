@@ -21,8 +21,8 @@ use std::ops::ControlFlow;
 // The state of a reader.
 #[derive(Drop)]
 pub(crate) enum State<R: Source> {
-    // No item has been requested yet. The fields are the source, the limits if there are any, and the
-    // dialect of ASCII.
+    // No item has been requested yet. The fields are the source, the limits if there are any, and
+    // the dialect of ASCII.
     Unread(R, Option<Limits>, Dialect),
     Binary(BinaryReader<R>),
     Ascii(AsciiReader<BufferedSource<R>>),

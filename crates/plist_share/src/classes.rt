@@ -197,8 +197,8 @@ fn assign_classes(
 // Returns a class for each event: equal scalars share a class, and any other event has its own.
 fn event_classes(alloc: Global, events: &EventTable<'_>) -> Result<TreeClasses, AllocError>
     ensures long { IfOk result (λ r. length r.by_event ≡ length (plain_events events.now)) }
-    ensures classes { IfOk result (λ r. AreIdentities (plain_events events.now) (nth_number r.by_event)
-        r.bound) }
+    ensures classes { IfOk result (λ r. AreIdentities (plain_events events.now)
+        (nth_number r.by_event) r.bound) }
 {
     let given = Classed {
         events,

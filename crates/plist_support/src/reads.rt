@@ -146,9 +146,9 @@ fn expect_shrunk(alloc: Global, bytes: &[u8], items: &str, left: usize) -> Resul
     }
 }
 
-// Checks that the reader of either format yields the items of the first bytes if the source has only
-// these from its second call on. The magic must be among them. By the second call only the format
-// is being determined, so the reader sees the shorter size.
+// Checks that the reader of either format yields the items of the first bytes if the source has
+// only these from its second call on. The magic must be among them. By the second call only the
+// format is being determined, so the reader sees the shorter size.
 fn expect_front(alloc: Global, bytes: &[u8], front: &[u8]) -> Result<(), Wrong> {
     let mut device = device_of(alloc, bytes, 1, DeviceFault::Shrinks(front.len()))?;
     let found = words_over(alloc, By::Either, &mut device, usize::MAX)?;
