@@ -131,7 +131,7 @@ text_of_chars : (cs : List ℕ) → scalars cs ≡ true
     → text_of_units (flat_map encode_utf16 cs) ≡ Scalar (trees.String (encode_utf8_all cs))
 text_of_chars cs s = rw (units_back cs s, all_paired cs, none_lost cs) refl
 
-units_are : (text cs : List ℕ) → scalars cs ≡ true → encode_utf8_all cs ≡ text
+pub units_are : (text cs : List ℕ) → scalars cs ≡ true → encode_utf8_all cs ≡ text
     → units_of text ≡ flat_map encode_utf16 cs
 unfolding units_of
 units_are text cs s e = ap (flat_map _) (ap chars (sym e) ∙ chars-encodes cs s)

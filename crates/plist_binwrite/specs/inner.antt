@@ -4,3 +4,4 @@ pub mod Layout
 pub mod Numbering
 pub mod ObjectSizes
 pub mod Scalars
+pub mod Units

@@ -7,7 +7,9 @@ ghost use Rattle.std.specs.Char.Escape.{encode_utf16};
 ghost use Rattle.plist_base.specs.Trees.{String};
 ghost use Rattle.plist_binwrite.specs.Forms.{units_of, is_ascii_text, length_form, scalar_form, table_form};
 ghost use Rattle.plist_base.specs.Sinks.{Puts, buffered, room};
+ghost use Rattle.plist_binwrite.specs.Sizes.{total};
 ghost use Rattle.plist_binwrite.specs.inner.Layout.{PushesUnits};
+ghost use Rattle.plist_binwrite.specs.inner.Units.{units_begun};
 
 use crate::forms::{CountedKind, put_length};
 use crate::push::push_number;
@@ -70,11 +72,27 @@ fn put_units<W: Write>(sink: &mut Sink<'_, W>, text: &str) -> Result<(), Error>
     }
 }
 
-// Returns the number of UTF-16 units of a character.
-fn units_in(c: char) -> usize
-    ensures value { result ≡ length (encode_utf16 c) }
+// Returns how many UTF-16 units the character has that begins with this byte of a string, or 0 if
+// the byte continues a character.
+#[inline(always)]
+fn units_begun(byte: u8) -> u8
+    ensures { result ≡ units_begun byte }
 {
-    if (c as u32) < 0x1_0000 { 1 } else { 2 }
+    u8::from(byte < 0x80 || byte >= 0xc0) + u8::from(byte >= 0xf0)
+}
+
+// Returns how many UTF-16 units the characters have that begin in these bytes of a string. There
+// must be at most 64 bytes, so that the number fits into a byte: then the loop is vectorized, with
+// sixteen numbers in a register.
+fn count_few_units(bytes: &[u8]) -> u8
+    requires { length bytes.now ≤ 64 }
+    ensures { result ≡ total units_begun bytes.now }
+{
+    let mut count = 0;
+    for &byte in bytes {
+        count += units_begun(byte);
+    }
+    count
 }
 
 /// Returns the number of UTF-16 units of a string.
@@ -82,8 +100,8 @@ pub fn count_units(text: &str) -> usize
     ensures value { result ≡ length (units_of text.now) }
 {
     let mut count = 0;
-    for c in text.chars() {
-        count += units_in(c);
+    for bytes in text.as_bytes().chunks(64) {
+        count += usize::from(count_few_units(bytes));
     }
     count
 }

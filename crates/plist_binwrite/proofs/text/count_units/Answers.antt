@@ -1,27 +1,45 @@
-use Rattle.std.proofs.Common.{length, ap, arith, length-append}
-use Rattle.std.proofs.lemmas.Str.{IsUtf8-past_char}
-use Rattle.plist_binwrite.proofs.Reading.{units_empty, units_step, few_units}
+use Rattle.std.proofs.Common.{◌∙◌, ap, arith}
+use Rattle.std.proofs.lemmas.List.{nil_from_length}
+use Rattle.std.specs.Slice.Iter.{chunks_rest}
+use Rattle.plist_binwrite.specs.Sizes.{total}
+use Rattle.plist_binwrite.specs.inner.Units.{units_begun}
+use Rattle.plist_binwrite.proofs.CountedUnits.{few_units_begun, total-append, units_counted}
 use Rattle.plist_binwrite.proofs.text.count_units.Goals as goal
 
-pub loop-c-preserved : goal.loop-c-preserved
-loop-c-preserved c =
-    let held = c.loop-c.invariant in
-    let parts = c.in-Some.ensures.steps.0 in
-    let units = simp length-append at (ap length (units_step _ _ c.in-Some.c held.utf8 parts)) in
-    let bytes = simp length-append at (ap length parts) in
+pub overflow_add-count : goal.overflow_add-count
+overflow_add-count c =
+    let bytes = c.in-Some.bytes.now in
+    let rest = chunks_rest c.next.new.self in
+    omega (
+      arith,
+      c.loop-bytes.invariant.counted,
+      c.count_few_units.ensures,
+      ap (total units_begun) c.in-Some.ensures.steps.1.0,
+      total-append units_begun bytes rest,
+      few_units_begun c.args.text.now,
+    )
+
+pub loop-bytes-preserved : goal.loop-bytes-preserved
+loop-bytes-preserved c =
+    let bytes = c.in-Some.bytes.now in
+    let rest = chunks_rest c.next.new.self in
     record {
-      utf8 = IsUtf8-past_char _ _ c.in-Some.c held.utf8 parts;
-      counted = omega (arith, held.counted, c.units_in-count.ensures.value);
-      few = omega (arith, held.few, few_units c.in-Some.c, c.units_in-count.ensures.value);
+      size = c.in-Some.ensures.steps.0 ∙ c.loop-bytes.invariant.size;
+      counted = omega (
+        arith,
+        c.loop-bytes.invariant.counted,
+        c.count_few_units.ensures,
+        ap (total units_begun) c.in-Some.ensures.steps.1.0,
+        total-append units_begun bytes rest,
+      );
     }
 
 pub returns : goal.returns
 returns c = record {
-  value =
-      omega (
-        arith,
-        c.loop-c.invariant.counted,
-        ap length
-            (units_empty _ c.in-None.ensures.steps.0.0),
-      );
+  value = omega (
+    arith,
+    c.loop-bytes.invariant.counted,
+    ap (total units_begun) (nil_from_length _ c.in-None.ensures.steps.1.0),
+    units_counted c.args.text.now c.utf8.text,
+  );
 }

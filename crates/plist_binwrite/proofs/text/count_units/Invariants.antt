@@ -1,11 +1,13 @@
-use Rattle.std.proofs.Common.{◌≡◌, ◌+◌, ◌≤◌, IsUtf8, length}
-use Rattle.std.specs.Str.Iter.{chars_rest}
-use Rattle.plist_binwrite.specs.Forms.{units_of}
+use Rattle.std.proofs.Common.{◌≡◌, ◌+◌}
+use Rattle.std.specs.Slice.Iter.{chunks_rest, chunks_size}
+use Rattle.plist_binwrite.specs.Sizes.{total}
+use Rattle.plist_binwrite.specs.inner.Units.{units_begun}
 use Rattle.plist_binwrite.proofs.text.count_units.Given as goal
 
-abbrev pub invariant-loop-c : goal.invariant-loop-c
-invariant-loop-c l = record {
-  utf8 : IsUtf8 (chars_rest l.c-iterator);
-  counted : l.count + length (units_of (chars_rest l.c-iterator)) ≡ length (units_of l.text);
-  few : l.count + length (chars_rest l.c-iterator) ≤ length l.text;
+-- the units that begin in the chunks so far are counted
+abbrev pub invariant-loop-bytes : goal.invariant-loop-bytes
+invariant-loop-bytes l = record {
+  size : chunks_size l.bytes-iterator ≡ 64;
+  counted : l.count + total units_begun (chunks_rest l.bytes-iterator)
+      ≡ total units_begun l.text;
 }

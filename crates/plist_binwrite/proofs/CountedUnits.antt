@@ -1,0 +1,88 @@
+-- The UTF-16 units of a string are counted by its bytes in UTF-8.
+use Rattle.std.proofs.Common.{◌≡◌, inl, inr, ℕ, ◌+◌, ◌*◌, ◌/◌, ◌%◌, ◌<◌, ◌≤◌, List, [], ◌∷◌, ◌++◌, length, flat_map, IsUtf8, refl, ap, sym, ◌∙◌, arith, length-append}
+use Rattle.std.specs.Char.Escape.{encode_utf16}
+use Rattle.std.specs.Char.{encode_utf8}
+use Rattle.std.specs.Str.{encode_utf8_all}
+use Rattle.std.proofs.lemmas.Bool.{cases_lt, le-ltb, lt-ltb}
+use Rattle.plist_binwrite.specs.Forms.{units_of}
+use Rattle.plist_binwrite.specs.Sizes.{total}
+use Rattle.plist_binwrite.specs.inner.Units.{units_begun}
+use Rattle.plist_binwrite.proofs.Reading.{units_are}
+
+pub total-append : (weight : ℕ → ℕ) (xs ys : List ℕ)
+    → total weight (xs ++ ys) ≡ total weight xs + total weight ys
+total-append weight [] ys = omega arith
+total-append weight (x ∷ xs) ys = omega (arith, total-append weight xs ys)
+
+begins_none : (b : ℕ) → 0x80 ≤ b → b < 0xc0 → units_begun b ≡ 0
+begins_none b least most = rw (le-ltb b 0x80 least, lt-ltb b 0xc0 most) refl
+
+-- a byte after the first of a character begins none
+continues : (c : ℕ) → units_begun (128 + c % 64) ≡ 0
+continues c = begins_none (128 + c % 64) (omega arith) (omega arith)
+
+begins_one : (b : ℕ) → 0xc0 ≤ b → b < 0xf0 → units_begun b ≡ 1
+begins_one b least most =
+    rw (le-ltb b 0x80 (omega (arith, least)), le-ltb b 0xc0 least, lt-ltb b 0xf0 most) refl
+
+begins_two : (b : ℕ) → 0xf0 ≤ b → units_begun b ≡ 2
+begins_two b least = rw (
+  le-ltb b 0x80 (omega (arith, least)),
+  le-ltb b 0xc0 (omega (arith, least)),
+  le-ltb b 0xf0 least,
+) refl
+
+-- the bytes of a character count its units
+units_of_char : (c : ℕ) → total units_begun (encode_utf8 c) ≡ length (encode_utf16 c)
+unfolding encode_utf8
+units_of_char c = elim (cases_lt c 0x80) [
+  | inl one ↦ rw (lt-ltb c 0x80 one, lt-ltb c 0x80 one, lt-ltb c 0x1_0000 (omega (arith, one))) refl
+  | inr two ↦ elim (cases_lt c 0x800) [
+    | inl low ↦ rw (
+      le-ltb c 0x80 two,
+      lt-ltb c 0x800 low,
+      lt-ltb c 0x1_0000 (omega (arith, low)),
+    ) (omega (arith, begins_one (192 + c / 64) (omega arith) (omega (arith, low)), continues c))
+    | inr three ↦ elim (cases_lt c 0x1_0000) [
+      | inl low ↦ rw (le-ltb c 0x80 two, le-ltb c 0x800 three, lt-ltb c 0x1_0000 low) (omega (
+        arith,
+        begins_one (224 + c / 4096) (omega arith) (omega (arith, low)),
+        continues (c / 64),
+        continues c,
+      ))
+      | inr four ↦ rw (le-ltb c 0x80 two, le-ltb c 0x800 three, le-ltb c 0x1_0000 four) (omega (
+        arith,
+        begins_two (240 + c / 262144) (omega arith),
+        continues (c / 4096),
+        continues (c / 64),
+        continues c,
+      ))
+    ]
+  ]
+]
+
+units_of_chars : (cs : List ℕ)
+    → total units_begun (encode_utf8_all cs) ≡ length (flat_map encode_utf16 cs)
+units_of_chars [] = refl
+units_of_chars (c ∷ cs) = omega (
+  arith,
+  total-append units_begun (encode_utf8 c) (encode_utf8_all cs),
+  units_of_char c,
+  units_of_chars cs,
+  length-append (encode_utf16 c) (flat_map encode_utf16 cs),
+)
+
+-- the bytes of a string count its units
+pub units_counted : (text : List ℕ) → IsUtf8 text
+    → total units_begun text ≡ length (units_of text)
+units_counted text is =
+    ap (total units_begun) (sym is.1.1) ∙ units_of_chars is.0
+    ∙ ap length (sym (units_are text is.0 is.1.0 is.1.1))
+
+-- a byte counts at most two units
+few_begun : (b : ℕ) → units_begun b ≤ 2
+few_begun b = grind arith
+
+pub few_units_begun : (bytes : List ℕ) → total units_begun bytes ≤ 2 * length bytes
+few_units_begun [] = omega arith
+few_units_begun (b ∷ bytes) = omega (arith, few_begun b, few_units_begun bytes)
