@@ -1,10 +1,7 @@
--- The byte of each marker, and what follows it (CFBinaryPList.c, "OBJECT TABLE").
-use Rattle.std.specs.Prelude.{ℕ, ◌+◌, ◌*◌, if◌then◌else◌}
-use Rattle.plist_base.specs.Faults.{NullObjectUnimplemented, FillObjectUnimplemented, UnknownObjectType}
-use Rattle.plist_base.specs.declared.real.RealBits.TheVariants.{Four, Eight}
-use Rattle.plist_base.specs.Trees.{Boolean, Data, Real, Uid}
-use Rattle.plist_format.specs.Container.{number_of, numbers_spelled}
-use Rattle.plist_format.specs.Object.{Scalar, Array, Layout, Refused, Fixed, Counted, unsigned_integer, signed_integer, wide_integer, date, text, wide_text, dictionary}
+-- The byte of each marker (CFBinaryPList.c, "OBJECT TABLE").
+use Rattle.std.specs.Prelude.{◌≡◌, ℕ, ◌+◌, ◌*◌, ◌<◌, ◌≤◌, if◌then◌else◌, ⊤}
+use Rattle.plist_base.specs.Faults.{UnknownObjectType}
+use Rattle.plist_format.specs.Object.{Refused, layout_of}
 use Rattle.plist_format.specs.declared.marker.CountedKind.{CountedKind}
 use Rattle.plist_format.specs.declared.marker.CountedKind.TheVariants as kind
 use Rattle.plist_format.specs.declared.marker.Marker.{Marker}
@@ -35,30 +32,11 @@ byte_of (marker.Counted kind low) = high_half kind * 16 + low
 byte_of (marker.Uid width) = 0x7f + width
 byte_of (marker.Unknown byte) = byte
 
--- the layout of an object of this kind, for references of this width
-abbrev pub counted_layout : (width : ℕ) → CountedKind → Layout
-counted_layout width kind.Data = Counted 1 (λ _ content. Scalar (Data content))
-counted_layout width kind.Text = Counted 1 (λ _. text)
-counted_layout width kind.WideText = Counted 2 (λ _. wide_text)
-counted_layout width kind.Array =
-    Counted width (λ _ content. Array (numbers_spelled width content))
-counted_layout width kind.Dictionary = Counted (2 * width)
-    (λ count content. dictionary count (numbers_spelled width content))
-
--- the layout of an object with this marker, for references of this width
-abbrev pub layout_after_marker : (width : ℕ) → Marker → Layout
-layout_after_marker width marker.Null = Refused NullObjectUnimplemented
-layout_after_marker width (marker.Boolean value) = Fixed 0 (λ _. Scalar (Boolean value))
-layout_after_marker width marker.Fill = Refused FillObjectUnimplemented
-layout_after_marker width marker.Integer1 = Fixed 1 unsigned_integer
-layout_after_marker width marker.Integer2 = Fixed 2 unsigned_integer
-layout_after_marker width marker.Integer4 = Fixed 4 unsigned_integer
-layout_after_marker width marker.Integer8 = Fixed 8 signed_integer
-layout_after_marker width marker.Integer16 = Fixed 16 wide_integer
-layout_after_marker width marker.Real4 = Fixed 4 (λ content. Scalar (Real (Four content)))
-layout_after_marker width marker.Real8 = Fixed 8 (λ content. Scalar (Real (Eight content)))
-layout_after_marker width marker.Date = Fixed 8 date
-layout_after_marker width (marker.Counted kind low) = counted_layout width kind
-layout_after_marker width (marker.Uid bytes) =
-    Fixed bytes (λ content. Scalar (Uid (number_of content)))
-layout_after_marker width (marker.Unknown byte) = Refused (UnknownObjectType byte)
+-- a marker that is decoded from its byte: a low half is below 16, a Uid has one to eight bytes, and
+-- a byte that isn't known is refused
+abbrev pub IsDecodedMarker : Marker → Type 0
+IsDecodedMarker (marker.Counted kind low) = low < 16
+IsDecodedMarker (marker.Uid width) = (0 < width) × (width ≤ 8)
+IsDecodedMarker (marker.Unknown byte) = (width : ℕ)
+    → layout_of width byte ≡ Refused (UnknownObjectType byte)
+IsDecodedMarker other = ⊤

@@ -1,8 +1,7 @@
 //! The marker of an object, which is its first byte and determines what follows.
 
 ghost use Rattle.std.specs.Prelude.{◌≡◌, ℕ, ◌%◌, ◌<◌, ◌≤◌, IfNone, IfSome};
-ghost use Rattle.plist_format.specs.Marker.{byte_of, high_half, layout_after_marker};
-ghost use Rattle.plist_format.specs.Object.{layout_of};
+ghost use Rattle.plist_format.specs.Marker.{IsDecodedMarker, byte_of, high_half};
 
 use std::marker::Model;
 
@@ -179,7 +178,7 @@ impl Marker {
     #[inline(always)]
     pub fn decode(byte: u8) -> Marker
         ensures byte { byte_of result ≡ byte }
-        ensures layout { (width : ℕ) → layout_of width byte ≡ layout_after_marker width result }
+        ensures decoded { IsDecodedMarker result }
     {
         match byte {
             0x00 => Marker::Null,
