@@ -4,7 +4,7 @@ ghost use Rattle.std.specs.Prelude.{◌≡◌, ◌<◌, ◌≤◌, ◌∷◌, []
 ghost use Rattle.plist.specs.inner.CollectionSteps.{with_item};
 
 use crate::Value;
-use plist_buffer::compact_numbers::CompactNumbers;
+use plist_base::CompactNumbers;
 use std::alloc::{AllocError, Global};
 use std::marker::Model;
 use std::mem;

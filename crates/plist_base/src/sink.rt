@@ -1,6 +1,6 @@
 //! A sink, which writes bytes to a writer through a buffer of fixed size.
 
-ghost use Rattle.std.specs.Prelude.{◌≡◌, ◌++◌, ◌+◌, ◌≤◌, ℕ, [], Ok, true, false, OnOk, length};
+ghost use Rattle.std.specs.Prelude.{◌≡◌, ◌++◌, ◌+◌, ◌≤◌, ◌<◌, ℕ, [], Ok, true, false, OnOk, length};
 ghost use Rattle.std.specs.Io.KnownBytes.{Appends};
 ghost use Rattle.plist_base.specs.Outcomes.{OnlyDevice};
 ghost use Rattle.plist_base.specs.Prefixes.{AppendsPrefix};
@@ -99,6 +99,7 @@ impl<'s, W: Write> Sink<'s, W> {
     pub fn try_put(&mut self, bytes: &[u8]) -> bool
         ensures put { result ≡ true → PutsBytes W.contents self.old bytes.now (Ok tt) self.new }
         ensures unchanged { result ≡ false → PutsNothing self.old self.new }
+        ensures full { result ≡ false → room self.old.buffer.now < length bytes.now }
     {
         if bytes.len() > self.buffer.room() {
             return false;

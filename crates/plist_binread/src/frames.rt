@@ -3,6 +3,7 @@
 ghost use Rattle.std.specs.Prelude.{◌≡◌, [], ◌∷◌, ◌++◌, None, reverse, IfSome, OnOk, OnErr};
 ghost use Rattle.plist_binread.specs.Frames.{NextOf, frame_of, widened, with_innermost};
 
+use plist_base::{Compact, CompactList};
 use std::alloc::{AllocError, Global};
 use std::marker::Model;
 
@@ -28,6 +29,36 @@ pub struct NarrowFrame {
     pub count: u32,
 }
 
+/// A frame has a smaller form if its numbers fit into four bytes each.
+impl Compact for Frame {
+    ghost use Rattle.plist_binread.specs.Frames.{widened};
+
+    type Narrow = NarrowFrame;
+
+    ghost widened = { widened };
+
+    #[inline(always)]
+    fn narrowed(self) -> Option<NarrowFrame> {
+        if self.object >= 1 << 32 || self.next >= 1 << 32 || self.count >= 1 << 32 {
+            return None;
+        }
+        Some(NarrowFrame {
+            object: self.object as u32,
+            next: self.next as u32,
+            count: self.count as u32,
+        })
+    }
+
+    #[inline(always)]
+    fn widen(narrow: NarrowFrame) -> Frame {
+        Frame {
+            object: u64::from(narrow.object),
+            next: u64::from(narrow.next),
+            count: u64::from(narrow.count),
+        }
+    }
+}
+
 /// What follows in the innermost collection.
 #[derive(Clone, Copy)]
 pub enum NextChild {
@@ -39,110 +70,14 @@ pub enum NextChild {
     Child(Frame),
 }
 
-// Returns the frame with numbers of four bytes, or `None` if one of them doesn't fit.
-fn narrowed(frame: Frame) -> Option<NarrowFrame>
-    ensures { IfSome result (λ narrow. widened narrow ≡ frame) }
-{
-    if frame.object >= 1 << 32 || frame.next >= 1 << 32 || frame.count >= 1 << 32 {
-        return None;
-    }
-    Some(NarrowFrame {
-        object: frame.object as u32,
-        next: frame.next as u32,
-        count: frame.count as u32,
-    })
-}
-
-// Returns the frame with numbers of eight bytes.
-fn widen(narrow: NarrowFrame) -> Frame
-    ensures { result ≡ widened narrow }
-{
-    Frame {
-        object: u64::from(narrow.object),
-        next: u64::from(narrow.next),
-        count: u64::from(narrow.count),
-    }
-}
-
-/// A stack of open collections, of which the innermost one is the last.
+/// The open collections, the innermost one last.
 ///
 /// Frames are stored with numbers of four bytes until one of them needs more. That frame and all
 /// frames above it are stored with numbers of eight bytes.
 #[derive(Drop)]
-pub struct Stack {
-    narrow: Vec<NarrowFrame>,
-    wide: Vec<Frame>,
-}
-
-impl Model for Stack {
-    ghost use Rattle.std.specs.Prelude.{List, ◌++◌, map};
-    ghost use Rattle.plist_binread.specs.declared.frames.Frame.{Frame};
-    ghost use Rattle.plist_binread.specs.Frames.{widened};
-
-    ghost Value = { List Frame };
-
-    ghost view = { λ stack. map widened stack.narrow.items ++ stack.wide.items };
-}
-
-impl Stack {
-    fn new(alloc: Global) -> Self
-        ensures { result ≡ [] }
-    {
-        Stack {
-            narrow: Vec::new(alloc),
-            wide: Vec::new(alloc),
-        }
-    }
-
-    // Pushes a frame. Another function makes room if there is none, so that a push is a few
-    // instructions.
-    #[inline(always)]
-    fn push(&mut self, frame: Frame) -> Result<(), AllocError>
-        ensures value { OnOk result (self.new ≡ self.old ++ frame ∷ []) }
-        ensures unchanged { OnErr result (self.new ≡ self.old) }
-    {
-        if self.wide.is_empty() && self.narrow.len() < self.narrow.capacity() {
-            if let Some(narrow) = narrowed(frame) {
-                self.narrow.push_reserved(narrow);
-                return Ok(());
-            }
-        }
-        self.grow_and_push(frame)
-    }
-
-    // Pushes a frame, and allocates room for it if there is none.
-    #[cold]
-    #[inline(never)]
-    fn grow_and_push(&mut self, frame: Frame) -> Result<(), AllocError>
-        ensures value { OnOk result (self.new ≡ self.old ++ frame ∷ []) }
-        ensures unchanged { OnErr result (self.new ≡ self.old) }
-    {
-        if self.wide.is_empty() {
-            if let Some(narrow) = narrowed(frame) {
-                self.narrow.push(narrow)?;
-                return Ok(());
-            }
-        }
-        self.wide.push(frame)?;
-        Ok(())
-    }
-
-    fn pop(&mut self) -> Option<Frame>
-        ensures { (self.old ≡ with_innermost self.new result)
-            × (result ≡ None → self.new ≡ []) }
-    {
-        match self.wide.pop() {
-            None => self.narrow.pop().map(widen),
-            wide => wide,
-        }
-    }
-}
-
-/// The open collections, the innermost one last.
-#[derive(Drop)]
 pub struct Frames {
     // The collections around the innermost one.
-    outer: Stack,
+    outer: CompactList<Frame>,
     innermost: Option<Frame>,
 }
 
@@ -164,7 +99,7 @@ impl Frames {
         ensures { result ≡ [] }
     {
         Frames {
-            outer: Stack::new(alloc),
+            outer: CompactList::new(alloc),
             innermost: None,
         }
     }

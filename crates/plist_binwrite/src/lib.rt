@@ -16,7 +16,7 @@ pub mod widths;
 mod writer;
 
 pub use plist_base::send::send_and_flush;
-pub use plist_buffer::{EventTable, compact_numbers, stored_scalar};
+pub use plist_buffer::{EventTable, stored_scalar};
 pub use send::{write_file, write_file_by_class};
 pub use sharing::{EqualScalars, Sharing};
 pub use writer::{BinaryWriter, FileWriter};

@@ -20,9 +20,8 @@ ghost use Rattle.plist_buffer.specs.declared.children.Half.TheVariants.{Values};
 use crate::classes::Classed;
 use crate::forms::{length_of_count, length_of_scalar};
 use crate::widths::{offset_width, reference_width};
-use plist_base::{Error, ErrorKind, EventShape};
+use plist_base::{CompactNumbers, Error, ErrorKind, EventShape};
 use plist_buffer::children::{Children, Half, begins_collection};
-use plist_buffer::compact_numbers::CompactNumbers;
 use plist_buffer::event_table::EventTable;
 use std::alloc::{AllocError, Global};
 

@@ -5,8 +5,7 @@ ghost use Rattle.std.specs.Prelude.{◌≡◌, ◌-◌, ◌^◌, ◌<◌, ◌++�
 ghost use Rattle.plist_buffer.specs.inner.Columns.{entry_of, kind_in, number_in, scalar_named, IsEntryNumber};
 ghost use Rattle.plist_buffer.specs.inner.Entries.{index_after_at, ended_at, entry_at, is_start};
 
-use crate::compact_numbers::CompactNumbers;
-use plist_base::EventShape;
+use plist_base::{CompactNumbers, EventShape};
 use std::alloc::{AllocError, Global};
 use std::marker::Model;
 

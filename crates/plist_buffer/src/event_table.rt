@@ -6,12 +6,11 @@ ghost use Rattle.plist_base.specs.Events.{EndCollection, ScalarEvent, shape_of};
 ghost use Rattle.plist_base.specs.Outcomes.{OnlyMemory};
 ghost use Rattle.plist_buffer.specs.inner.Entries.{is_leaf, AreValidEntries};
 
-use crate::compact_numbers::CompactNumbers;
 use crate::entries::{Entries, EventEntry};
 use crate::expects::Expect;
 use crate::stored_scalar::{ScalarRef, StoredScalar};
 use indexmap::IndexSet;
-use plist_base::{Error, Event, EventShape};
+use plist_base::{CompactNumbers, Error, Event, EventShape};
 use std::alloc::{AllocError, Global};
 use std::borrow::{CowSlice, CowStr};
 

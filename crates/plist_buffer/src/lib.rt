@@ -7,7 +7,6 @@
 #![tactic(auto)]
 
 pub mod children;
-pub mod compact_numbers;
 mod entries;
 pub mod event_buffer;
 pub mod event_table;

@@ -10,8 +10,7 @@ ghost use Rattle.plist_base.specs.Outcomes.{DecodesBy, IfFault, IfRead, IfRefuse
 
 use crate::numbers::number_from;
 use plist_base::{Error, ErrorKind, Source, read_exact_at};
-
-pub(crate) const MAGIC: &[u8; 8] = b"bplist00";
+use plist_format::MAGIC;
 
 /// The contents of the trailer.
 #[derive(Clone, Copy)]

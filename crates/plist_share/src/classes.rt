@@ -11,11 +11,10 @@ ghost use Rattle.plist_binwrite.specs.inner.Scalars.{AreIdentities};
 ghost use Rattle.plist_share.specs.inner.Nodes.{SeparatesAll, Extends, node_of, AreClassesFrom, IsClassAt};
 
 use indexmap::IndexSet;
-use plist_base::EventShape;
+use plist_base::{CompactNumbers, EventShape};
 use plist_binwrite::EventTable;
 use plist_binwrite::classes::{Classed, Classes};
 use plist_buffer::children::{Children, Half};
-use plist_buffer::compact_numbers::CompactNumbers;
 use std::alloc::{AllocError, Global};
 
 /// The class of each event, and an exclusive upper bound of the classes.

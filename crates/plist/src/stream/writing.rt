@@ -1,8 +1,8 @@
 //! Exports for programs that write binary files in their own way: the forms of objects, a table of
 //! events, and the calls that write a whole file.
 
-pub use plist_base::{FixedBuffer, Sink};
+pub use plist_base::{CompactNumbers, FixedBuffer, Sink};
 pub use plist_binwrite::{
-    EqualScalars, EventTable, FileWriter, Sharing, classes, compact_numbers, forms, widths,
-    write_file, write_file_by_class,
+    EqualScalars, EventTable, FileWriter, Sharing, classes, forms, widths, write_file,
+    write_file_by_class,
 };

@@ -14,7 +14,7 @@ close-requires-clause-starts c =
 
 pub invariant_of-self-in-Some : goal.invariant_of-self-in-Some
 invariant_of-self-in-Some c = record {
-  kept = rw (c.in_ok-close-in-Some.ensures.closed, c.pop.ensures)
+  kept = rw (c.in_ok-close-in-Some.ensures.closed, c.pop.ensures.rest)
       (kept_end c.args.self.now.kept _ _ c.in-Some.ensures.some);
   few = c.in_ok-close-in-Some.ensures.small;
 }
