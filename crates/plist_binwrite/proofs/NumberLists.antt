@@ -1,7 +1,6 @@
 -- Lists of numbers that are put one after another.
 use Rattle.std.proofs.Common.{◌≡◌, ◌+◌, ◌*◌, ◌<◌, ◌≤◌, Bool, true, false, if◌then◌else◌, ℕ, zero, suc, List, [], ◌∷◌, ◌++◌, length, get_or, map, take, drop, Option, refl, ap, sym, ◌∙◌, arith, append-nil, append_assoc, length-append}
 use Rattle.std.specs.Int.{bytes_high_first}
-use Rattle.std.specs.List.{AllByRecursion}
 use Rattle.std.proofs.Math.Nat.{mul-add}
 use Rattle.std.proofs.lemmas.List.{map-append}
 use Rattle.plist_base.specs.Events.{PlainEvent, EndCollection, ScalarEvent, StartArray, StartDictionary}
@@ -81,12 +80,6 @@ pushes_one {plan} {a} {b} {c} {all} {rest} child p pushed less = record {
         ∙ flat_map-append (bytes_high_first plan.width) (map (number_of_event plan) p.front)
         (number_of_event plan child ∷ [])
         ∙ ap (λ l. table p.front ++ l) (append-nil bytes)
-
--- what is left of a list after its front
-pub all_behind : (P : ℕ → Type 0) (front rest : List ℕ) → AllByRecursion P (front ++ rest)
-    → AllByRecursion P rest
-all_behind P [] rest all = all
-all_behind P (x ∷ front) rest all = all_behind P front rest all.1
 
 -- the bytes of the references that are pushed, and of those that are left
 pub references_split : {plan : FilePlan} {old new : FixedBuffer × List ℕ}

@@ -1,7 +1,7 @@
 -- Objects that lie back to back: their order, their offsets and their sizes.
-use Rattle.std.proofs.Common.{◌≡◌, ◌≢◌, ◌↔◌, ◌⊎◌, inl, inr, ℕ, ◌+◌, ◌<◌, ◌≤◌, true, false, ◌||◌, eqb, List, [], ◌∷◌, ◌++◌, ◌^◌, zero, suc, length, get_or, set, refl, ap, sym, ◌∙◌, arith, append_assoc, append-nil, length-append, subst}
+use Rattle.std.proofs.Common.{◌≡◌, ◌≢◌, ◌↔◌, inl, inr, ℕ, ◌+◌, ◌<◌, ◌≤◌, true, false, ◌||◌, eqb, below_more, List, [], ◌∷◌, ◌++◌, ◌^◌, zero, suc, length, get_or, set, refl, ap, sym, ◌∙◌, arith, append_assoc, append-nil, length-append, subst}
 use Rattle.std.specs.List.{list_any, IsDistinct}
-use Rattle.std.proofs.lemmas.Bool.{eqb-true, eqb-false, or_cases, or_left, or_right, or_parts, false_from_ne_true, true_from_ne_false}
+use Rattle.std.proofs.lemmas.Bool.{cases_lt, or_cases, or_left, or_right, or_parts, false_from_ne_true, true≢false}
 use Rattle.std.proofs.lemmas.Cmp.{nat_eq_equiv}
 use Rattle.std.proofs.lemmas.Grind.{flat_map-append}
 use Rattle.std.proofs.lemmas.List.Recursion.{or_push}
@@ -15,14 +15,14 @@ use Rattle.plist_binwrite.specs.Written.{object_table, laid_out, Laid}
 use Rattle.std.proofs.lemmas.Bool.Decides.{leb_tells}
 use Rattle.std.proofs.Math.ListN.{get_or-eq_default}
 use Rattle.plist_binwrite.specs.declared.plan.FilePlan.{FilePlan}
-use Rattle.plist_binwrite.specs.inner.Layout.{AreObjectsOf, IsFilePlan, IsLayout, IsOrder, KeepsOffsets}
+use Rattle.plist_binwrite.specs.inner.Layout.{IsFilePlan, IsLayout}
 use Rattle.plist_binwrite.specs.inner.ObjectSizes.{total_below}
 use Rattle.plist_base.specs.Trees.{Tree, Leaf, Array, Dictionary}
 use Rattle.plist_binwrite.specs.Numberings.{object_of}
 use Rattle.plist_binwrite.specs.Sizes.{total, object_size}
 use Rattle.plist_binwrite.proofs.Reading.{length-keys_of, length-values_of}
 use Rattle.plist_binwrite.proofs.ReadingNumbers.{length-table}
-use Rattle.plist_binwrite.proofs.Totals.{total_all, total_some}
+use Rattle.plist_binwrite.proofs.Totals.{total_all}
 use Rattle.plist_binwrite.proofs.Unfold.{length-references, length-pairs}
 
 -- each number below a count is in the order, once
@@ -123,68 +123,38 @@ any_snoc : (q : ℕ) (xs : List ℕ) (y : ℕ)
     → list_any (eqb q) (xs ++ y ∷ []) ≡ list_any (eqb q) xs || eqb q y
 any_snoc q xs y = or_push (list_any _) _ refl (λ x l. refl) xs y
 
-pub order_none : (count : ℕ) (marks : List ℕ) → length marks ≡ count
-    → ((k : ℕ) → get_or marks k 0 ≡ 0) → IsOrder count [] marks
-unfolding IsDistinct
-order_none count marks long zeros = record {
-  long = long;
-  distinct = tt;
-  below = λ k any. cc;
-  marked = λ k any. cc;
-  others = λ k any. zeros k;
-}
+-- the offset of one more object is stored
+module _ (offsets : List ℕ) (k v : ℕ) (h : k < length offsets) (positive : 0 < v) where
+  pub placed : get_or (set offsets k v) k 0 ≢ 0
+  placed none = absurd (omega (arith, get_or-set_same offsets k v 0 h, positive, none))
 
--- one more object is added to the order, and its mark is v
-module _ {count : ℕ} {order marks : List ℕ} (k v : ℕ) (o : IsOrder count order marks) (h : k < count)
-    (z : get_or marks k 0 ≡ 0) (positive : 0 < v) where
-  pub not_in_order : list_any (eqb k) order ≡ false
-  not_in_order = false_from_ne_true _ (λ e. o.marked k e z)
-
-  here : get_or (set marks k v) k 0 ≡ v
-  here = get_or-set_same _ k v 0 (omega (arith, o.long, h))
-
-  split : (q : ℕ) → list_any (eqb q) (order ++ k ∷ []) ≡ true
-      → (list_any (eqb q) order ≡ true) ⊎ (q ≡ k)
-  split q any = elim (or_cases _ _ (cc (any_snoc q order k))) [
-    | inl t ↦ inl t
-    | inr s ↦ inr (eqb-true q k s)
+  -- no other offset changes
+  pub still_placed : (q : ℕ) → get_or offsets q 0 ≢ 0 → get_or (set offsets k v) q 0 ≢ 0
+  still_placed q n = elim (eqb_tells q k) [
+    | inl s ↦ subst (λ j. get_or (set offsets k v) j 0 ≢ 0) (sym s.1) placed
+    | inr d ↦ λ none. n (sym (get_or-set_other offsets k q v 0 d.1) ∙ none)
   ]
 
-  -- no mark is removed
-  pub keeps_more : (q : ℕ) → get_or marks q 0 ≢ 0 → get_or (set marks k v) q 0 ≢ 0
-  keeps_more q n = elim (eqb_tells q k) [
-    | inl s ↦ λ none. absurd (omega (
-      arith,
-      here,
-      positive,
-      none,
-      ap (λ j. get_or (set marks k v) j 0)
-          (sym s.1),
-    ))
-    | inr d ↦ λ none. n (cc (get_or-set_other marks k q v 0 d.1))
-  ]
-
-  pub marked_more : get_or (set marks k v) k 0 ≢ 0
-  marked_more none = absurd (omega (arith, here, positive, none))
-
-  pub order_more : IsOrder count (order ++ k ∷ []) (set marks k v)
-  order_more = record {
-    long = length-set marks k v ∙ o.long;
-    distinct = IsDistinct-push nat_eq_equiv order k o.distinct not_in_order;
-    below = λ q any. elim (split q any) [ inl t ↦ o.below q t | inr s ↦ omega (arith, s, h) ];
-    marked = λ q any. elim (split q any) [
-      | inl t ↦ keeps_more q (o.marked q t)
-      | inr s ↦ λ none. marked_more (ap (λ j. get_or (set marks k v) j 0) (sym s) ∙ none)
-    ];
-    others = λ q any.
-        let n = or_parts _ _ (sym (any_snoc q order k) ∙ any) in
-        get_or-set_other marks k q v 0 (eqb-false q k n.1) ∙ o.others q n.0;
-  }
-
--- an object with a mark is in the order
-pub in_order : {count : ℕ} {order marks : List ℕ} (k : ℕ) → IsOrder count order marks
-    → get_or marks k 0 ≢ 0 → list_any (eqb k) order ≡ true
-in_order k o n = true_from_ne_false _ (λ e. n (o.others k e))
+  -- exactly the numbers in the longer order have an offset
+  marked_more : (order : List ℕ)
+      → ((q : ℕ) → (list_any (eqb q) order ≡ true) ↔ (get_or offsets q 0 ≢ 0))
+      → (q : ℕ) → (list_any (eqb q) (order ++ k ∷ []) ≡ true) ↔ (get_or (set offsets k v) q 0 ≢ 0)
+  marked_more order marked q =
+      let more = any_snoc q order k in
+      elim (eqb_tells q k) [
+        | inl s ↦ (
+          λ any. subst (λ j. get_or (set offsets k v) j 0 ≢ 0) (sym s.1) placed,
+          λ n. more ∙ or_right _ _ s.0,
+        )
+        | inr d ↦ (
+          λ any. still_placed q ((marked q).0 (elim (or_cases _ _ (sym more ∙ any)) [
+            | inl t ↦ t
+            | inr t ↦ absurd (true≢false (sym t ∙ d.0))
+          ])),
+          λ n. more
+              ∙ or_left _ _ ((marked q).1 (λ none. n (get_or-set_other offsets k q v 0 d.1 ∙ none))),
+        )
+      ]
 
 -- ---- the bytes of objects
 
@@ -237,95 +207,94 @@ all_zero xs n e h k =
 
 -- ---- the objects of a planned file
 
-module _ {plan : FilePlan} (r : IsFilePlan plan) (objects : ℕ → Object)
-    (d : AreObjectsOf plan objects) where
-  abbrev count : ℕ
-  count = plan.count
-
-  abbrev body : List ℕ → List ℕ
-  body order = object_table plan.width objects order
-
-  -- an offset is less than 2^64
-  pub laid_below : {order offsets : List ℕ} → IsOrder count order offsets
-      → length (laid_out plan.width objects order) < 2 ^ 64
-  laid_below {order} o =
-      omega (
-        arith,
-        length-magic (body order),
-        length-bodies plan.width objects order,
-        total_some (λ k. length (form plan.width (objects k))) count order o.distinct o.below,
-        r.few objects d,
-      )
+module _ {plan : FilePlan} {objects : ℕ → Object} {order offsets : List ℕ}
+    (l : IsLayout plan objects order offsets) where
+  -- if each object has an offset, the order has each number below the count
+  pub all_once : ((k : ℕ) → k < plan.count → get_or offsets k 0 ≢ 0) → AllOnce plan.count order
+  all_once all = record {
+    distinct = l.distinct;
+    numbered = λ k. (
+      λ any. elim (cases_lt k plan.count) [
+        | inl low ↦ low
+        | inr high ↦ absurd ((l.marked k).0 any
+            (get_or-eq_default offsets 0 (omega (arith, high, l.long))))
+      ],
+      λ h. (l.marked k).1 (all k h),
+    );
+  }
 
   -- one more object is put
-  module _ {order offsets : List ℕ} (l : IsLayout plan objects order offsets) (k v : ℕ)
-      (h : k < count) (z : get_or offsets k 0 ≡ 0)
-      (is : v ≡ length (laid_out plan.width objects order)) where
-    positive : 0 < v
-    positive = omega (arith, is, length-magic (body order))
+  pub next_layout : IsFilePlan plan → (k v : ℕ) → k < plan.count → get_or offsets k 0 ≡ 0
+      → v ≡ length (laid_out plan.width objects order)
+      → IsLayout plan objects (order ++ k ∷ []) (set offsets k v)
+  next_layout r k v h free is =
+      let new = false_from_ne_true _ (λ any. (l.marked k).0 any free) in
+      let start = length-magic (object_table plan.width objects order) in
+      let low : k < length offsets = omega (arith, h, l.long) in
+      record {
+        described = l.described;
+        long = length-set offsets k v ∙ l.long;
+        distinct = IsDistinct-push nat_eq_equiv order k l.distinct new;
+        marked = marked_more offsets k v low (omega (arith, is, start)) order l.marked;
+        laid = laid_snoc plan.width objects offsets order 8 k v low new
+            (r.writable objects l.described k h) (is ∙ start) l.laid;
+      }
 
-    pub next_layout : IsLayout plan objects (order ++ k ∷ []) (set offsets k v)
-    next_layout = record {
-      ordered = order_more k v l.ordered h z positive;
-      laid = laid_snoc plan.width objects offsets order 8 k v (omega (arith, h, l.ordered.long))
-          (not_in_order k v l.ordered h z positive) (r.writable objects d k h)
-          (is ∙ length-magic (body order)) l.laid;
-    }
-
-    pub next_kept : KeepsOffsets plan offsets (set offsets k v)
-    next_kept = keeps_more k v l.ordered h z positive
-
-    pub next_placed : get_or (set offsets k v) k 0 ≢ 0
-    next_placed = marked_more k v l.ordered h z positive
-
-  -- a layout of all objects that goes on from a layout of some of them
-  pub record Continues (order : List ℕ) (n : ℕ) : Type 0 where
+-- a layout of all objects that goes on from a layout of some of them
+pub record Continues (plan : FilePlan) (objects : ℕ → Object) (order : List ℕ) (n : ℕ) : Type 0
+  where
     pub more : List ℕ
     pub offsets : List ℕ
     pub layout : IsLayout plan objects (order ++ more) offsets
-    pub all : (k : ℕ) → k < n → list_any (eqb k) (order ++ more) ≡ true
+    pub all : (k : ℕ) → k < n → get_or offsets k 0 ≢ 0
 
-  in_more : (order more : List ℕ) (k : ℕ) → list_any (eqb k) order ≡ true
-      → list_any (eqb k) (order ++ more) ≡ true
-  in_more [] more k any = cc
-  in_more (x ∷ order) more k any =
-      let rest = list_any (eqb k) (order ++ more) in
-      elim (or_cases (eqb k x) (list_any (eqb k) order) any) [
-        | inl t ↦ or_left (eqb k x) rest t
-        | inr t ↦ or_right (eqb k x) rest (in_more order more k t)
-      ]
-
-  pub continued : {order offsets : List ℕ} → IsLayout plan objects order offsets → (n : ℕ)
-      → n ≤ count → Continues order n
-  continued {order} {offsets} l zero h = record {
+module _ {plan : FilePlan} (r : IsFilePlan plan) {objects : ℕ → Object} {order : List ℕ} where
+  pub continued : {offsets : List ℕ} → IsLayout plan objects order offsets → (n : ℕ)
+      → n ≤ plan.count → Continues plan objects order n
+  continued {offsets} l zero h = record {
     more = [];
     offsets = offsets;
     layout = rw append-nil l;
     all = λ k low. absurd (omega (arith, low));
   }
-  continued {order} l (suc n) h =
+  continued l (suc n) h =
       let c = continued l n (omega (arith, h)) in
       elim (eqb_tells (get_or c.offsets n 0) 0) [
         | inl free ↦
-            let next = next_layout c.layout n _ (omega (arith, h)) free.1 refl in
-            let is = append_assoc order c.more (n ∷ []) in
-            let offsets = set c.offsets n (length (laid_out plan.width objects (order ++ c.more))) in
+            let v = length (laid_out plan.width objects (order ++ c.more)) in
+            let start = length-magic (object_table plan.width objects (order ++ c.more)) in
+            let low : n < length c.offsets = omega (arith, h, c.layout.long) in
+            let positive : 0 < v = omega (arith, start) in
             record {
               more = c.more ++ n ∷ [];
-              offsets = offsets;
-              layout = subst (λ order. IsLayout plan objects order offsets) is next;
-              all = λ k low. subst (λ order. list_any (eqb k) order ≡ true) is (elim (eqb_tells k n) [
-                | inl same ↦ any_snoc k (order ++ c.more) n ∙ or_right (list_any (eqb k) (order ++ c.more)) (eqb k n) same.0
-                | inr other ↦ in_more _ _ k (c.all k (omega (arith, low, other.1)))
-              ]);
+              offsets = set c.offsets n v;
+              layout = subst (λ all. IsLayout plan objects all (set c.offsets n v))
+                  (append_assoc order c.more (n ∷ []))
+                  (next_layout c.layout r n v (omega (arith, h)) free.1 refl);
+              all = λ k less. below_more (λ k. get_or (set c.offsets n v) k 0 ≢ 0) n
+                  (λ k less. still_placed c.offsets n v low positive k (c.all k less))
+                  (placed c.offsets n v low positive) k (omega (arith, less));
             }
         | inr some ↦ record {
           more = c.more;
           offsets = c.offsets;
           layout = c.layout;
-          all = λ k low. elim (eqb_tells k n) [
-            | inl same ↦ in_order k c.layout.ordered (λ none. some.1 (ap (λ j. get_or c.offsets j 0) (sym same.1) ∙ none))
-            | inr other ↦ c.all k (omega (arith, low, other.1))
-          ];
+          all = λ k less. below_more (λ k. get_or c.offsets k 0 ≢ 0) n c.all some.1 k
+              (omega (arith, less));
         }
       ]
+
+  -- an offset is less than 2^64
+  pub laid_below : {offsets : List ℕ} → IsLayout plan objects order offsets
+      → length (laid_out plan.width objects order) < 2 ^ 64
+  laid_below l =
+      let c = continued l plan.count (omega arith) in
+      let body = object_table plan.width objects in
+      omega (
+        arith,
+        length-magic (body order),
+        length-append (body order) (body c.more),
+        ap length (flat_map-append (λ k. form plan.width (objects k)) order c.more),
+        total_bodies plan.width objects (order ++ c.more) plan.count (all_once c.layout c.all),
+        r.few objects l.described,
+      )

@@ -1,11 +1,11 @@
 -- A planned file is that of its tree, with one object for each class, and what is written is that
 -- file.
-use Rattle.std.proofs.Common.{◌≡◌, ℕ, ◌+◌, ◌-◌, ◌*◌, ◌^◌, ◌<◌, List, [], ◌++◌, length, take, drop, get_or, map, Some, Ok, refl, ap, sym, ◌∙◌, arith, ◌≤◌, Option, Result, Err, OnOk, subst}
+use Rattle.std.proofs.Common.{◌≡◌, ◌≢◌, ℕ, ◌+◌, ◌-◌, ◌*◌, ◌^◌, ◌<◌, List, [], ◌++◌, length, take, drop, get_or, map, Some, Ok, refl, ap, sym, ◌∙◌, arith, ◌≤◌, Option, Result, Err, OnOk, subst}
 use Rattle.std.specs.List.{slice_get}
 use Rattle.std.specs.Prelude.{option_map}
 use Rattle.std.proofs.lemmas.List.Elements.{All-from_get_or, recursion_from_All}
 use Rattle.std.proofs.lemmas.Option.{slice_get-map, slice_get-get_or}
-use Rattle.plist_base.specs.Bracketing.{bracketing, lengthless, AreTreeEvents}
+use Rattle.plist_base.specs.Bracketing.{bracketing, lengthless, AreAlike, AreTreeEvents}
 use Rattle.plist_base.specs.Events.{PlainEvent}
 use Rattle.plist_base.specs.Trees.{Tree}
 use Rattle.plist_format.specs.Container.{Head, head_of}
@@ -18,7 +18,7 @@ use Rattle.plist_binwrite.specs.Sizes.{collections_in, size_with}
 use Rattle.plist_binwrite.specs.Forms.{form, table_form, AllFit, reference_width, least_width}
 use Rattle.plist_binwrite.specs.Numberings.{Describes}
 use Rattle.plist_binwrite.specs.EventClasses.{class_in, events_in}
-use Rattle.plist_binwrite.specs.inner.Layout.{IsFilePlan, PutsFile}
+use Rattle.plist_binwrite.specs.inner.Layout.{IsFilePlan, IsLayout, PutsFile}
 use Rattle.plist_binwrite.specs.inner.ObjectSizes.{AreSizes, IsCapped, fixed_at, references_at, total_below}
 use Rattle.plist_binwrite.specs.declared.plan.Numbering.{Numbering}
 use Rattle.plist_binwrite.specs.Forms.{IsWritable}
@@ -35,7 +35,7 @@ use Rattle.plist_binwrite.specs.declared.classes.Classed.{Classed}
 use Rattle.plist_binwrite.specs.declared.plan.FilePlan.{FilePlan}
 use Rattle.plist_binwrite.proofs.ClassObjects.{Numbered, numbered, number_apart, number_below}
 use Rattle.plist_binwrite.proofs.PlanClasses.{planned_count, planned_size, planned_total}
-use Rattle.plist_binwrite.proofs.ObjectOffsets.{AllOnce, length-magic, found_place, object_there}
+use Rattle.plist_binwrite.proofs.ObjectOffsets.{AllOnce, all_once, length-magic, found_place, object_there}
 use Rattle.plist_binwrite.proofs.Reading.{form_read}
 use Rattle.plist_binwrite.proofs.ReadingNumbers.{with_table_and_trailer, drop_front, width_positive, last, length_closed, front_is, head_is}
 use Rattle.plist_buffer.proofs.TreeOccurrences.{occurs_whole}
@@ -44,7 +44,7 @@ use Rattle.plist_binwrite.proofs.LeastWidths.{width_holds}
 use Rattle.plist_base.specs.Faults.{Fault}
 use Rattle.plist_base.specs.Outcomes.{OnlyDevice}
 use Rattle.plist_base.specs.declared.error.Error.{Error}
-use Rattle.plist_base.specs.Writing.{Answer, answer_of}
+use Rattle.plist_base.specs.Writing.{answer_of}
 use Rattle.plist_buffer.proofs.Grammar.{complete_of_whole}
 use Rattle.std.specs.Io.KnownBytes.{Appends}
 use Rattle.plist_base.specs.declared.sink.Sink.{Sink}
@@ -278,47 +278,40 @@ module _ {given : Classed} {numbering : Numbering} (n : IsNumberingOfEvents give
 
 -- ---- what is put
 
-module _ {plan : FilePlan} (r : IsFilePlan plan) {W : Type 0} {contents : W → Option (List ℕ)}
-    {start : Sink W} where
-  -- the file of a plan is that of its tree
-  pub file_made : {answer : Answer} {sink : Sink W} (p : PutsFile plan contents start answer sink)
-      → AreTreeEvents (events_in plan.given) → IsOfTree (events_in plan.given)
-      (λ tree. IsFileBy (class_in plan.given) tree (file_with plan.width p.objects p.offsets p.order))
-  file_made p tree = (
-    complete_of_whole (events_in plan.given) tree,
-    λ t alike.
-        let e = plain_lengthless plan.given.events.now t alike in
-        let o = p.layout.ordered in
-        let wide : plan.width ≡ reference_width (length p.offsets) =
-        r.width ∙ ap reference_width (sym o.long) in
-        let once : AllOnce plan.count p.order =
-        record { distinct = o.distinct; numbered = λ k. (o.below k, p.all k) } in
-        subst
-        (λ w. IsFileBy (class_in plan.given) t (file_with w p.objects p.offsets p.order))
-        (sym wide)
-        (finished r.planned t e p.objects p.described p.order once p.offsets
-        (rw wide at p.layout.laid) o.long (r.small t e)),
-  )
+-- all objects of a plan are a file of its tree
+pub file_made : {plan : FilePlan} (r : IsFilePlan plan) {objects : ℕ → Object}
+    {order offsets : List ℕ} → IsLayout plan objects order offsets
+    → ((k : ℕ) → k < plan.count → get_or offsets k 0 ≢ 0) → (tree : Tree)
+    → AreAlike (events_in plan.given) (bracketing tree)
+    → IsFileBy (class_in plan.given) tree (file_with plan.width objects offsets order)
+file_made {plan} r {objects} {order} {offsets} l all t alike =
+    let e = plain_lengthless plan.given.events.now t alike in
+    let wide = r.width ∙ ap reference_width (sym l.long) in
+    subst (λ w. IsFileBy (class_in plan.given) t (file_with w objects offsets order)) (sym wide)
+    (finished r.planned t e objects l.described order (all_once l all) offsets (rw wide at l.laid)
+    l.long (r.small t e))
 
-  module _ (empty : pending start ≡ []) (tree : AreTreeEvents (events_in plan.given)) where
-    -- the file is put, and the pending bytes are written
-    pub sends_file : {middle : Sink W} (new : Sink W) → PutsFile plan contents start (Ok tt) middle
-        → (answer : Result (Unit {0}) Error)
-        → OnOk answer (Appends (written contents middle) (written contents new) (pending middle))
-        → AppendsPrefix (written contents middle) (written contents new) (pending middle)
-        → OnlyDevice answer → SendsAs (files_by (class_in plan.given)) contents
-        (events_in plan.given) (answer_of answer) start.writer.now new.writer.now
-    sends_file new p (Ok done) sent prefix failed = (_, file_made p tree, sent_whole _ empty p.put sent)
-    sends_file new p (Err error) sent prefix failed =
-        subst (λ fault. SendsAs (files_by (class_in plan.given)) contents (events_in plan.given)
-        (Err fault) start.writer.now new.writer.now) (sym failed)
-        (refl, (_, file_made p tree, sent_part _ empty p.put prefix))
+module _ (plan : FilePlan) {W : Type 0} {contents : W → Option (List ℕ)} {start : Sink W}
+    (empty : pending start ≡ []) (tree : AreTreeEvents (events_in plan.given)) where
+  -- the file is put, and the pending bytes are written
+  pub sends_file : {middle : Sink W} (new : Sink W) → PutsFile plan contents start (Ok tt) middle
+      → (answer : Result (Unit {0}) Error)
+      → OnOk answer (Appends (written contents middle) (written contents new) (pending middle))
+      → AppendsPrefix (written contents middle) (written contents new) (pending middle)
+      → OnlyDevice answer → SendsAs (files_by (class_in plan.given)) contents
+      (events_in plan.given) (answer_of answer) start.writer.now new.writer.now
+  sends_file new (file, of, put) (Ok done) sent prefix failed =
+      (file, (complete_of_whole _ tree, of), sent_whole _ empty put sent)
+  sends_file new (file, of, put) (Err error) sent prefix failed =
+      subst (λ fault. SendsAs (files_by (class_in plan.given)) contents (events_in plan.given)
+      (Err fault) start.writer.now new.writer.now) (sym failed)
+      (refl, (file, (complete_of_whole _ tree, of), sent_part _ empty put prefix))
 
-    -- a write fails before the file is put
-    pub sends_part : {new : Sink W} {fault : Fault} → PutsFile plan contents start (Err fault) new
-        → SendsAs (files_by (class_in plan.given)) contents (events_in plan.given) (Err fault)
-        start.writer.now new.writer.now
-    sends_part {new} p =
-        subst (λ fault. SendsAs (files_by (class_in plan.given)) contents (events_in plan.given)
-        (Err fault) start.writer.now new.writer.now) (sym p.put.follows.0)
-        (refl, (_, file_made p tree, put_part empty p.put))
+  -- a write fails before the file is put
+  pub sends_part : {new : Sink W} {fault : Fault} → PutsFile plan contents start (Err fault) new
+      → SendsAs (files_by (class_in plan.given)) contents (events_in plan.given) (Err fault)
+      start.writer.now new.writer.now
+  sends_part {new} (file, of, put) =
+      subst (λ fault. SendsAs (files_by (class_in plan.given)) contents (events_in plan.given)
+      (Err fault) start.writer.now new.writer.now) (sym put.follows.0)
+      (refl, (file, (complete_of_whole _ tree, of), put_part empty put))

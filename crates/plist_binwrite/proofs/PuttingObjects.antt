@@ -1,7 +1,7 @@
 -- Putting objects, one after the other, and storing their offsets.
 use Rattle.std.proofs.Common.{◌≡◌, ◌≢◌, ℕ, ◌<◌, List, [], ◌∷◌, ◌++◌, ◌^◌, length, get_or, set, ap, sym, ◌∙◌, arith, append_assoc, append-nil, Option, None, Some, Ok, Err, refl, replicate, subst}
 use Rattle.std.specs.Option.{unwrap_or}
-use Rattle.std.specs.List.{AllByRecursion}
+use Rattle.std.specs.List.{AllByRecursion, IsDistinct}
 use Rattle.std.specs.Result.{OnOk}
 use Rattle.std.proofs.lemmas.List.{get_or-replicate, length-replicate, length-set}
 use Rattle.plist_format.specs.Container.{magic}
@@ -24,7 +24,8 @@ use Rattle.plist_buffer.specs.EventTable.{HasItem}
 use Rattle.plist_buffer.specs.Occurrences.{OccursAt}
 use Rattle.plist_binwrite.specs.Numberings.{object_of}
 use Rattle.plist_binwrite.proofs.TreeObjects.{occurs_at}
-use Rattle.plist_binwrite.proofs.ObjectOffsets.{all_zero, continued, in_order, laid_below, laid_more, laid_one, next_kept, next_layout, next_placed, order_none}
+use Rattle.plist_binwrite.proofs.ObjectOffsets.{all_zero, continued, laid_below, laid_more, laid_one, length-magic, next_layout, placed, still_placed}
+use Rattle.plist_binwrite.proofs.PlannedFiles.{file_made}
 
 module _ {plan : FilePlan} (r : IsFilePlan plan) {W : Type 0} {contents : W → Option (List ℕ)}
     {start : Sink W} where
@@ -32,17 +33,23 @@ module _ {plan : FilePlan} (r : IsFilePlan plan) {W : Type 0} {contents : W → 
   pub start_put : {offsets : List ℕ} {answer : Answer} {sink : Sink W}
       → offsets ≡ replicate plan.count 0 → PutsBytes contents start magic answer sink
       → ArePut plan contents start offsets answer sink
+  unfolding IsDistinct
   start_put {offsets} zeros put =
       let of = numbered r.planned in
       let count = plan.count in
       let long : length offsets ≡ count = ap length zeros ∙ length-replicate count 0 in
       record {
         objects = of.objects;
-        described = of.describes;
         order = [];
         layout = record {
-          ordered = order_none count offsets long (all_zero offsets count long
-              (λ k h. ap (λ l. get_or l k 0) zeros ∙ get_or-replicate count k 0 0 h));
+          described = of.describes;
+          long = long;
+          distinct = tt;
+          marked = λ k. (
+            λ any. cc,
+            λ n. absurd (n (all_zero offsets count long
+                (λ k h. ap (λ l. get_or l k 0) zeros ∙ get_or-replicate count k 0 0 h) k)),
+          );
           laid = tt;
         };
         put = puts_as (sym (append-nil magic)) put;
@@ -53,17 +60,11 @@ module _ {plan : FilePlan} (r : IsFilePlan plan) {W : Type 0} {contents : W → 
       → ArePut plan contents start offsets (Err fault) sink
       → PutsFile plan contents start (Err fault) sink
   part_put a =
-      let c = continued r a.objects a.described a.layout plan.count (omega arith) in
-      let w = plan.width in
-      record {
-        objects = a.objects;
-        described = a.described;
-        order = a.order ++ c.more;
-        offsets = c.offsets;
-        layout = c.layout;
-        all = c.all;
-        put = puts_as (sym (goes_on w a.objects c.offsets a.order c.more)) (puts_front _ a.put);
-      }
+      let c = continued r a.layout plan.count (omega arith) in (
+        _,
+        file_made r c.layout c.all,
+        puts_as (sym (goes_on plan.width a.objects c.offsets a.order c.more)) (puts_front _ a.put),
+      )
     where
       goes_on : (w : ℕ) (objects : ℕ → Object) (offsets order more : List ℕ)
           → file_with w objects offsets (order ++ more) ≡ laid_out w objects order
@@ -81,22 +82,15 @@ module _ {plan : FilePlan} (r : IsFilePlan plan) {W : Type 0} {contents : W → 
         → v ≡ length (laid_out plan.width a.objects a.order)
     position_is v is =
         is _ (subst (HasPut sink) (omega arith) (a.put.counted 0 none))
-        (laid_below r a.objects a.described a.layout.ordered)
+        (laid_below r a.layout)
 
     -- the offset table and the trailer follow all objects
     pub all_put : ((k : ℕ) → k < plan.count → get_or offsets k 0 ≢ 0) → (v : ℕ)
         → ((n : ℕ) → HasPut sink n → n < 2 ^ 64 → v ≡ n) → (answer : Answer) (new : Sink W)
         → PutsBytes contents sink (table_and_trailer offsets v) answer new
         → PutsFile plan contents start answer new
-    all_put all v is answer new put = record {
-      objects = a.objects;
-      described = a.described;
-      order = a.order;
-      offsets = offsets;
-      layout = a.layout;
-      all = λ k h. in_order k a.layout.ordered (all k h);
-      put = puts_then a.put (rw (position_is v is) at put);
-    }
+    all_put all v is answer new put =
+        (_, file_made r a.layout all, puts_then a.put (rw (position_is v is) at put))
 
     module _ (p : ℕ) (item : HasItem (events_in plan.given) p)
         (free : get_or offsets (number_of_event plan p) 0 ≡ 0) (v : ℕ)
@@ -116,18 +110,23 @@ module _ {plan : FilePlan} (r : IsFilePlan plan) {W : Type 0} {contents : W → 
           let u = occurs_at (events_in plan.given) r.planned.whole p item.0 item.1 in
           record {
             objects = a.objects;
-            described = a.described;
             order = a.order ++ k ∷ [];
-            layout = next_layout r a.objects a.described a.layout k v below free (position_is v is);
+            layout = next_layout a.layout r k v below free (position_is v is);
             put = puts_as (sym (laid_one plan.width a.objects a.order k))
-                (puts_then a.put (rw (← a.described u.0 p u.1) at (put u.0 u.1)));
+                (puts_then a.put (rw (← a.layout.described u.0 p u.1) at (put u.0 u.1)));
           }
 
+      low : k < length offsets
+      low = omega (arith, below, a.layout.long)
+
+      positive : 0 < v
+      positive = omega (arith, position_is v is, length-magic (object_table plan.width a.objects a.order))
+
       pub put_kept : KeepsOffsets plan offsets (set offsets k v)
-      put_kept = next_kept r a.objects a.described a.layout k v below free (position_is v is)
+      put_kept = still_placed offsets k v low positive
 
       pub put_placed : HasStoredOffset plan (set offsets k v) p
-      put_placed = next_placed r a.objects a.described a.layout k v below free (position_is v is)
+      put_placed = placed offsets k v low positive
 
 -- a fact holds on success
 on_ok : {A : Type 0} (answer : Answer) → A → OnOk answer A

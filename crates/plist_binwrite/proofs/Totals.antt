@@ -67,17 +67,6 @@ module _ (w : ℕ → ℕ) where
             rw f.0 (omega arith)
       ]
 
-  less_out : (x : ℕ) (ys : List ℕ) → IsDistinct eqb ys → total w ys ≤ w x + total w (others x ys)
-  unfolding IsDistinct
-  less_out x [] d = omega arith
-  less_out x (y ∷ ys) d =
-      elim (eqb_tells x y) [
-        | inl t ↦
-            let all = subst (λ k. AllByRecursion (λ z. eqb k z ≡ false) ys) (sym t.1) d.0 in
-            rw t.0 (omega (arith, ap (total w) (none_out x ys all), ap w t.1))
-        | inr f ↦ rw f.0 (omega (arith, less_out x ys d.1))
-      ]
-
   left : (n q : ℕ) (xs : List ℕ)
       → is_member eqb (others n xs) q ≡ (is_member eqb xs q && not (eqb n q))
   left n q xs =
@@ -90,19 +79,6 @@ module _ (w : ℕ → ℕ) where
       let p : (is_member eqb xs q ≡ true) × (not (eqb n q) ≡ true) = and_parts _ _
       (sym (left n q xs) ∙ h) in
       omega (arith, low q p.0, eqb-false n q (not-true _ p.1))
-
-  -- distinct numbers below a count have at most the total of all numbers below it
-  pub total_some : (n : ℕ) (xs : List ℕ) → IsDistinct eqb xs
-      → ((q : ℕ) → is_member eqb xs q ≡ true → q < n) → total w xs ≤ total_below w n
-  total_some zero [] d low = omega arith
-  total_some zero (x ∷ xs) d low =
-      absurd (omega (arith, low x (or_left _ _ (eq-eqb x x refl))))
-  total_some (suc n) xs d low =
-      omega (
-        arith,
-        less_out n xs d,
-        total_some n (others n xs) (distinct_out n xs d) (λ q h. still_low n q xs low h),
-      )
 
   -- distinct numbers that are exactly those below a count have the total of the numbers below it
   pub total_all : (n : ℕ) (xs : List ℕ) → IsDistinct eqb xs

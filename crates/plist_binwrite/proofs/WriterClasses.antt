@@ -50,13 +50,13 @@ module _ {es : List PlainEvent} {class : ℕ → ℕ} {count : ℕ} (o : AreIden
   pub class_owner : (t u : Tree) (p q : ℕ) → OccursAt es t p → OccursAt es u q → class p ≡ class q
       → own_tree t p ≡ own_tree u q
   class_owner t u p q s r e =
-      sym (owner_is t p s) ∙ o.sound p q (occurs_in s) (occurs_in r) e ∙ owner_is u q r
+      sym (owner_is t p s) ∙ (o.same p q (occurs_in s) (occurs_in r)).0 e ∙ owner_is u q r
 
   pub owner_class : (t u : Tree) (p q : ℕ) → OccursAt es t p → OccursAt es u q
       → own_tree t p ≡ own_tree u q
       → class p ≡ class q
   owner_class t u p q s r e =
-      o.complete p q (occurs_in s) (occurs_in r) (owner_is t p s ∙ e ∙ sym (owner_is u q r))
+      (o.same p q (occurs_in s) (occurs_in r)).1 (owner_is t p s ∙ e ∙ sym (owner_is u q r))
 
   pub owners_classes : AreClasses es class
   owners_classes =

@@ -5,45 +5,40 @@ use Rattle.plist_base.specs.Events.{PlainEvent}
 use Rattle.plist_binwrite.specs.Classes.{AreClasses}
 use Rattle.plist_buffer.specs.EventTable.{nth_number, plain_events, scalars_of}
 use Rattle.plist_binwrite.specs.declared.classes.Classed.{Classed}
-use Rattle.plist_binwrite.specs.declared.classes.Classes.{Classes}
 use Rattle.plist_binwrite.specs.declared.classes.Classes.TheVariants.{EqualScalars, Listed}
 use Rattle.plist_buffer.specs.declared.event_table.EventTable.{EventTable}
 use Rattle.plist_buffer.specs.inner.Columns.{scalar_named}
 use Rattle.plist_buffer.specs.inner.Entries.{entry_at}
 
--- the class of the event at an index
-abbrev pub class_of : Classes → EventTable → (index : ℕ) → ℕ
-class_of EqualScalars held index =
-    unwrap_or (scalar_named (entry_at held.entries index)) (length (scalars_of held) + index)
-class_of (Listed by_event bound) held index = nth_number by_event index
-
--- an exclusive upper bound of the classes
-abbrev pub bound_of : Classes → EventTable → ℕ
-bound_of EqualScalars held = length (scalars_of held) + length (plain_events held)
-bound_of (Listed by_event bound) held = bound
-
--- if the classes are listed, the list has one for each event
-abbrev pub IsListedFor : Classes → EventTable → Type 0
-IsListedFor EqualScalars held = ⊤
-IsListedFor (Listed by_event bound) held = length by_event ≡ length (plain_events held)
-
--- ---- for events with their classes
-
 -- the events, without the lengths of starts
 abbrev pub events_in : Classed → List PlainEvent
 events_in given = plain_events given.events.now
 
+-- the class of the event at an index, if equal scalars share a class
+abbrev pub scalar_class : EventTable → (index : ℕ) → ℕ
+scalar_class held index =
+    unwrap_or (scalar_named (entry_at held.entries index)) (length (scalars_of held) + index)
+
 -- the class of the event at an index
 abbrev pub class_in : Classed → (index : ℕ) → ℕ
-class_in given = class_of given.classes.now given.events.now
+class_in given = elim given.classes.now [
+  | EqualScalars ↦ scalar_class given.events.now
+  | Listed by_event bound ↦ nth_number by_event
+]
 
 -- an exclusive upper bound of the classes
 abbrev pub bound_in : Classed → ℕ
-bound_in given = bound_of given.classes.now given.events.now
+bound_in given = elim given.classes.now [
+  | EqualScalars ↦ length (scalars_of given.events.now) + length (events_in given)
+  | Listed by_event bound ↦ bound
+]
 
 -- if the classes are listed, the list has one for each event
 abbrev pub IsListed : Classed → Type 0
-IsListed given = IsListedFor given.classes.now given.events.now
+IsListed given = elim given.classes.now [
+  | EqualScalars ↦ ⊤
+  | Listed by_event bound ↦ length by_event ≡ length (events_in given)
+]
 
 -- each event has a class below the bound, and trees of one class have the same object
 pub record IsClassed (given : Classed) : Type 0 where

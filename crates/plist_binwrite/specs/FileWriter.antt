@@ -11,21 +11,19 @@ use Rattle.plist_binwrite.specs.declared.writer.FileWriter.{FileWriter}
 use Rattle.plist_binwrite.specs.SendingAs.{SendsFileAs, FailsAs}
 use Rattle.plist_buffer.specs.EventBuffers.{buffered_events, misplaced_fault}
 
--- the buffered events of the open property list, without the lengths of starts
-abbrev pub open_events : {W S : Type 0} {g : Ghosts W} {h : SharingGhosts S} → FileWriter W S g h
-    → List PlainEvent
-open_events writer = buffered_events writer.pending
-
--- has the writer failed?
-abbrev pub failed_of : {W S : Type 0} {g : Ghosts W} {h : SharingGhosts S} → FileWriter W S g h
-    → Bool
-failed_of writer = writer.has_failed
-
--- the inner writer
-abbrev pub sink_of : {W S : Type 0} {g : Ghosts W} {h : SharingGhosts S} → FileWriter W S g h → W
-sink_of writer = writer.writer
-
 module _ {W S : Type 0} {g : Ghosts W} {h : SharingGhosts S} where
+  -- the buffered events of the open property list, without the lengths of starts
+  abbrev pub open_events : FileWriter W S g h → List PlainEvent
+  open_events writer = buffered_events writer.pending
+
+  -- has the writer failed?
+  abbrev pub failed_of : FileWriter W S g h → Bool
+  failed_of writer = writer.has_failed
+
+  -- the inner writer
+  abbrev pub sink_of : FileWriter W S g h → W
+  sink_of writer = writer.writer
+
   -- the buffered events and this one are those of a tree: a file of it was written, and no event is
   -- buffered
   abbrev pub Completes : (before : FileWriter W S g h) → PlainEvent

@@ -1,11 +1,11 @@
 -- Each call of a `FileWriter` satisfies the laws of `Writer`.
-use Rattle.std.proofs.Common.{◌≡◌, ◌⊎◌, inl, inr, Bool, true, false, [], ◌∷◌, ◌++◌, Ok, Err, MatchBool, ap, ◌∙◌, map}
+use Rattle.std.proofs.Common.{◌≡◌, ◌⊎◌, inl, inr, true, false, [], ◌∷◌, ◌++◌, Ok, Err, ap, ◌∙◌, map}
 use Rattle.std.specs.declared.io.traits.Write.{Ghosts}
 use Rattle.plist_base.specs.Bracketing.{without_length}
 use Rattle.plist_base.specs.Events.{PlainEvent}
 use Rattle.plist_base.specs.Faults.{FaultKind, fault_without_offset, UnexpectedEventType, ExpectedEndOfEventStream, Io, OutOfMemory, WriterFailed, PlistTooLarge}
 use Rattle.plist_base.specs.Writing.{Answer, MatchKind, AnswersByOrder, IsHeldAfter}
-use Rattle.std.proofs.lemmas.Bool.{true≢false, false≢true}
+use Rattle.std.proofs.lemmas.Bool.{MatchBool-at_true, MatchBool-at_false}
 use Rattle.plist_base.proofs.Lengths.{alike_last, continue_alike}
 use Rattle.plist_binwrite.specs.declared.sharing.Sharing.{Ghosts as SharingGhosts}
 use Rattle.plist_binwrite.specs.declared.writer.FileWriter.{FileWriter}
@@ -21,16 +21,6 @@ by_kind Io a b c d f g h = g h
 by_kind OutOfMemory a b c d f g h = g h
 by_kind PlistTooLarge a b c d f g h = g h
 by_kind kind a b c d f g h = h
-
--- if the Boolean is false, the fact that it selects is the second one
-match_false : (b : Bool) (x y : Type 0) → b ≡ false → MatchBool b x y → y
-match_false true x y e h = absurd (true≢false e)
-match_false false x y e h = h
-
--- if the Boolean is true, the fact that it selects is the first one
-match_true : (b : Bool) (x y : Type 0) → b ≡ true → MatchBool b x y → x
-match_true true x y e h = h
-match_true false x y e h = absurd (false≢true e)
 
 module _ {W S : Type 0} {g : Ghosts W} {h : SharingGhosts S}
     (before : FileWriter W S g h) (event : PlainEvent) where
@@ -58,10 +48,10 @@ module _ {W S : Type 0} {g : Ghosts W} {h : SharingGhosts S}
       → IsWriterStep before event answer after → failed_of before ≡ false
       → AnswersByOrder (open_events before) event answer (open_events after) (failed_of after)
       (after ≡ before)
-  takes_law answer after t ok = taken answer after (match_false (failed_of before) _ _ ok t)
+  takes_law answer after t ok = taken answer after (MatchBool-at_false _ _ ok t)
 
   -- a writer that has failed returns `WriterFailed` and is unchanged
   pub takes_failed : (answer : Answer) (after : FileWriter W S g h)
       → IsWriterStep before event answer after → failed_of before ≡ true
       → (answer ≡ Err (fault_without_offset WriterFailed)) × (after ≡ before)
-  takes_failed answer after t failed = match_true (failed_of before) _ _ failed t
+  takes_failed answer after t failed = MatchBool-at_true _ _ failed t

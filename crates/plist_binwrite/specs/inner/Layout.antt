@@ -1,8 +1,8 @@
 -- A planned file, the order of its objects, and their offsets.
-use Rattle.std.specs.Prelude.{◌≡◌, ◌≢◌, ℕ, ◌+◌, ◌*◌, ◌^◌, ◌<◌, ◌≤◌, true, false, eqb, List, [], ◌∷◌, ◌++◌, length, slice_index, map, Option, Ok, OnOk}
+use Rattle.std.specs.Prelude.{◌≡◌, ◌≢◌, ◌↔◌, ℕ, ◌+◌, ◌*◌, ◌^◌, ◌<◌, ◌≤◌, true, eqb, List, [], ◌∷◌, ◌++◌, length, slice_index, map, Option, Ok, OnOk}
 use Rattle.std.specs.List.{list_any, AllByRecursion, IsDistinct}
 use Rattle.std.specs.Str.{IsUtf8}
-use Rattle.plist_base.specs.Bracketing.{lengthless}
+use Rattle.plist_base.specs.Bracketing.{bracketing, lengthless, AreAlike}
 use Rattle.plist_base.specs.Sinks.{HasPut, PutsBytes, buffered, room}
 use Rattle.plist_base.specs.declared.fixed_buffer.FixedBuffer.{FixedBuffer}
 use Rattle.plist_base.specs.Trees.{Tree}
@@ -15,23 +15,14 @@ use Rattle.plist_buffer.specs.declared.children.Half.{Half}
 use Rattle.plist_buffer.specs.declared.children.Half.TheVariants.{Keys, Values}
 use Rattle.plist_format.specs.Marker.{high_half}
 use Rattle.plist_format.specs.declared.marker.CountedKind.{CountedKind}
-use Rattle.plist_binwrite.specs.Classes.{size_by}
+use Rattle.plist_binwrite.specs.Classes.{IsFileBy, size_by}
 use Rattle.plist_binwrite.specs.EventClasses.{IsListed, events_in, class_in}
 use Rattle.plist_binwrite.specs.Forms.{IsWritable, form, length_form, reference_width, table_form, units_of}
 use Rattle.plist_binwrite.specs.Numberings.{Describes, object_of}
-use Rattle.plist_binwrite.specs.Written.{Laid, file_with, laid_out}
+use Rattle.plist_binwrite.specs.Written.{Laid, laid_out}
 use Rattle.plist_binwrite.specs.declared.plan.FilePlan.{FilePlan}
 use Rattle.plist_binwrite.specs.inner.Numbering.{IsPlanned, number_by}
 use Rattle.plist_binwrite.specs.inner.ObjectSizes.{total_below}
-
--- `order` contains numbers below the count, none of them twice, and exactly these have an offset
--- other than 0
-pub record IsOrder (count : ℕ) (order offsets : List ℕ) : Type 0 where
-  pub long : length offsets ≡ count
-  pub distinct : IsDistinct eqb order
-  pub below : (k : ℕ) → list_any (eqb k) order ≡ true → k < count
-  pub marked : (k : ℕ) → list_any (eqb k) order ≡ true → slice_index offsets k ≢ 0
-  pub others : (k : ℕ) → list_any (eqb k) order ≡ false → slice_index offsets k ≡ 0
 
 -- the UTF-16 units of the first characters of a string are pushed; `old` and `new` are the buffer
 -- and the rest of the string
@@ -91,29 +82,28 @@ module _ (plan : FilePlan) where
   abbrev pub KeepsOffsets : (old new : List ℕ) → Type 0
   KeepsOffsets old new = (k : ℕ) → slice_index old k ≢ 0 → slice_index new k ≢ 0
 
-  -- the objects lie back to back in this order, and have these offsets
+  -- these are the objects of a planned file; those in the order lie back to back, and exactly these
+  -- have an offset other than 0
   pub record IsLayout (objects : ℕ → Object) (order offsets : List ℕ) : Type 0 where
-    pub ordered : IsOrder plan.count order offsets
+    pub described : AreObjectsOf objects
+    pub long : length offsets ≡ plan.count
+    pub distinct : IsDistinct eqb order
+    pub marked : (k : ℕ) → (list_any (eqb k) order ≡ true) ↔ (slice_index offsets k ≢ 0)
     pub laid : Laid plan.width objects offsets order 8
 
   module _ {W : Type 0} (contents : W → Option (List ℕ)) (start : Sink W) where
     -- the magic and some of the objects are put
     pub record ArePut (offsets : List ℕ) (answer : Answer) (sink : Sink W) : Type 0 where
       pub objects : ℕ → Object
-      pub described : AreObjectsOf objects
       pub order : List ℕ
       pub layout : IsLayout objects order offsets
       pub put : PutsBytes contents start (laid_out plan.width objects order) answer sink
 
-    -- a file of all objects is put
-    pub record PutsFile (answer : Answer) (sink : Sink W) : Type 0 where
-      pub objects : ℕ → Object
-      pub described : AreObjectsOf objects
-      pub order : List ℕ
-      pub offsets : List ℕ
-      pub layout : IsLayout objects order offsets
-      pub all : (k : ℕ) → k < plan.count → list_any (eqb k) order ≡ true
-      pub put : PutsBytes contents start (file_with plan.width objects offsets order) answer sink
+    -- a file of the tree with these events is put
+    abbrev pub PutsFile : Answer → Sink W → Type 0
+    PutsFile answer sink = (file : List ℕ) × ((tree : Tree)
+        → AreAlike (events_in plan.given) (bracketing tree) → IsFileBy (class_in plan.given) tree file)
+        × PutsBytes contents start file answer sink
 
   -- a call puts the object of the tree that begins at an index, with this result
   abbrev pub PutsObject : {W : Type 0} (contents : W → Option (List ℕ)) (index : ℕ) (old : Sink W)

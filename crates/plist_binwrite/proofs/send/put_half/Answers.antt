@@ -2,10 +2,11 @@ use Rattle.std.proofs.Common.{List, ℕ, map, ap, refl, subst, sym}
 use Rattle.std.specs.List.{AllByRecursion}
 use Rattle.plist_base.proofs.SinkSteps.{puts_as, puts_pending, puts_refused, puts_then}
 use Rattle.plist_buffer.proofs.ChildIndices.{are_items}
+use Rattle.plist_buffer.proofs.Uniques.{all_right}
 use Rattle.plist_binwrite.specs.Forms.{table_form}
 use Rattle.plist_binwrite.specs.declared.plan.FilePlan.{FilePlan}
 use Rattle.plist_binwrite.specs.inner.Layout.{number_of_event}
-use Rattle.plist_binwrite.proofs.NumberLists.{all_behind, references_split, whole_front}
+use Rattle.plist_binwrite.proofs.NumberLists.{references_split, whole_front}
 use Rattle.plist_binwrite.proofs.send.put_half.Goals as goal
 
 -- the references to the events at these indices
@@ -41,6 +42,6 @@ loop-sink-preserved g c =
           (puts_as (references_split pushed)
           (puts_then (puts_then c.in_ok-make_room.ensures.put
           (puts_pending (record { writer = refl; buffer = refl }) refl pushed.pushed refl)) p));
-      items = all_behind _ pushed.front _
+      items = all_right _ pushed.front _
           (subst (AllByRecursion _) pushed.left c.loop-sink.invariant.items);
     }

@@ -29,7 +29,7 @@ returns g c =
     (answer_of c.finish.result) c.args.writer.now w)
     (search rules)
     (rw (c.new-sink.ensures.unwritten, c.in_ok-plan.ensures.plan.1) at
-    (sends_file c.in_ok-plan.ensures.plan.0 (empty g b) (whole g b) c.finish.new.self
+    (sends_file c.in_ok-plan.plan (empty g b) (whole g b) c.finish.new.self
     c.in_ok-put_file.ensures c.finish.result c.finish.ensures.sent c.finish.ensures.prefix
     c.finish.ensures.fault))
 
@@ -42,7 +42,7 @@ returns-in_err-put_file g c =
     (answer_of c.from_residual-in_err-put_file.result) c.args.writer.now in
     let sent : sends c.put_file.new.sink.writer.now =
     rw (p.1, p.2) (rw (c.new-sink.ensures.unwritten, c.in_ok-plan.ensures.plan.1) at
-    (sends_part c.in_ok-plan.ensures.plan.0 (empty g b) (whole g b) c.in_err-put_file.ensures)) in
+    (sends_part c.in_ok-plan.plan (empty g b) (whole g b) c.in_err-put_file.ensures)) in
     subst sends (search rules) sent
 
 pub returns-in_err-plan : goal.returns-in_err-plan
