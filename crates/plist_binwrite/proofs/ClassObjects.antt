@@ -1,6 +1,5 @@
 -- A plan by classes is a numbering: each number has one object.
-use Rattle.std.proofs.Common.{◌≡◌, ◌⊎◌, inl, inr, ℕ, ◌+◌, ◌-◌, ◌<◌, ◌≤◌, Bool, nat_eq, List, [], ◌∷◌, get_or, refl, ap, sym, ◌∙◌, arith}
-use Rattle.std.proofs.lemmas.Bool.{cases_lt}
+use Rattle.std.proofs.Common.{◌≡◌, ℕ, ◌+◌, ◌-◌, ◌<◌, Bool, nat_eq, List, ◌∷◌, get_or, refl, ap, sym, ◌∙◌}
 use Rattle.plist_base.specs.Events.{PlainEvent}
 use Rattle.plist_base.specs.Trees as trees
 use Rattle.plist_base.specs.Trees.{Scalar, Tree, Leaf, Array, Dictionary, Trees, NoTrees, TreeAnd, Members, NoMembers, MemberAnd}
@@ -8,8 +7,10 @@ use Rattle.plist_format.specs.Object as obj
 use Rattle.plist_format.specs.Object.{Object}
 use Rattle.plist_binwrite.specs.Classes.{AreClasses}
 use Rattle.plist_binwrite.specs.Numberings.{object_of, Describes}
-use Rattle.plist_binwrite.specs.inner.Numbering.{IsPlanned, number_by}
-use Rattle.plist_binwrite.proofs.TreeObjects.{occurs_at}
+use Rattle.plist_binwrite.specs.EventClasses.{class_in, events_in}
+use Rattle.plist_binwrite.specs.declared.classes.Classed.{Classed}
+use Rattle.plist_binwrite.specs.declared.plan.Numbering.{Numbering}
+use Rattle.plist_binwrite.specs.inner.Numbering.{IsNumberingOfEvents, object_number}
 use Rattle.plist_buffer.specs.Occurrences.{event_count, OccursAt, ItemsOccurAt, PairsOccurAt}
 use Rattle.plist_buffer.proofs.TreeOccurrences.{occurs_items, occurs_pairs, occurs_item, occurs_next, occurs_key, occurs_value, occurs_next_pair}
 use Rattle.plist_binwrite.proofs.NumberingSteps.{numbers_below}
@@ -99,55 +100,44 @@ pub record Numbered (es : List PlainEvent) (number : ℕ → ℕ) : Type 0 where
   pub objects : ℕ → Object
   pub describes : Describes es number objects
 
-module _ {es : List PlainEvent} {class : ℕ → ℕ} {by_class : List ℕ} {count : ℕ}
-    (planned : IsPlanned es class by_class count) where
+module _ {given : Classed} {numbering : Numbering} (n : IsNumberingOfEvents given numbering) where
+  abbrev es : List PlainEvent
+  es = events_in given
+
+  abbrev class : ℕ → ℕ
+  class = class_in given
+
   abbrev num : ℕ → ℕ
-  num = number_by class by_class
+  num = object_number given numbering
 
-  abbrev first : ℕ → ℕ
-  first = planned.numbered.first
+  pub number_below : (t : Tree) (p : ℕ) → OccursAt es t p → num p < numbering.count
+  number_below t p s = numbers_below n p (occurs_in s, begins t p s)
 
-  pub number_below : (t : Tree) (p : ℕ) → OccursAt es t p → num p < count
-  number_below t p s = numbers_below planned p (occurs_in s) (begins t p s)
-
-  first_class : (t : Tree) (p : ℕ) → OccursAt es t p → class (first (num p)) ≡ class p
+  first_class : (t : Tree) (p : ℕ) → OccursAt es t p → class (n.so_far.first (num p)).0 ≡ class p
   first_class t p s =
-      planned.numbered.same (class p) (planned.numbered.below p (occurs_in s, begins t p s))
-      (planned.all p (occurs_in s, begins t p s))
+      n.so_far.same p (occurs_in s, begins t p s) (n.all p (occurs_in s, begins t p s))
 
   -- indices of one number have one class, and indices of one class have one number
   pub number_apart : (t u : Tree) (p q : ℕ) → OccursAt es t p → OccursAt es u q → num p ≡ num q
       → class p ≡ class q
   number_apart t u p q s r e =
-      sym (first_class t p s) ∙ ap (λ k. class (first k)) e ∙ first_class u q r
+      sym (first_class t p s) ∙ ap (λ k. class (n.so_far.first k).0) e ∙ first_class u q r
 
   pub number_same : (t u : Tree) (p q : ℕ) → OccursAt es t p → OccursAt es u q → class p ≡ class q
       → num p ≡ num q
-  number_same t u p q s r e = ap (λ c. get_or by_class c 0 - 1) e
+  number_same t u p q s r e = ap (λ c. get_or numbering.by_class c 0 - 1) e
 
-  tree_of : (k : ℕ) → k < count → (u : Tree) × OccursAt es u (first k)
-  tree_of k h = let n = planned.numbered.known k h in occurs_at es planned.whole _ n.0.0 n.0.1
-
-  -- the object of a number, and its rank
-  made_of : (k : ℕ) → (k < count) ⊎ (count ≤ k) → Object × ℕ
-  made_of k (inl h) = let u = (tree_of k h).0 in (object_of num u (first k), event_count u)
-  made_of k (inr h) = (obj.Array [], 0)
-
-  made_is : (t : Tree) (p : ℕ) → OccursAt es t p
-      → (d : (num p < count) ⊎ (count ≤ num p))
-      → made_of (num p) d ≡ (object_of num t p, event_count t)
-  unfolding made_of
-  made_is t p s (inl h) =
-      let f = tree_of (num p) h in
-      let k = one_object planned.classes num number_same f.0 t _ p f.1 s (first_class t p s) in
-      λ i. (k.1 i, event_count (k.0 i))
-  made_is t p s (inr h) = absurd (omega (arith, number_below t p s))
+  -- the tree of a number, and its object
+  pub first_same : (t : Tree) (p : ℕ) → OccursAt es t p → ((n.so_far.first (num p)).1 ≡ t)
+      × (object_of num (n.so_far.first (num p)).1 (n.so_far.first (num p)).0 ≡ object_of num t p)
+  first_same t p s =
+      one_object n.so_far.classed.objects num number_same _ t _ p
+      (n.so_far.known (num p) (number_below t p s)).0 s (first_class t p s)
 
   pub numbered : Numbered es num
-  numbered =
-      let made = λ (k : ℕ). made_of k (cases_lt k (count)) in record {
-        rank = λ k. (made k).1;
-        ranked = λ t p s. ap (λ m. m.1) (made_is t p s (cases_lt _ _));
-        objects = λ k. (made k).0;
-        describes = λ t p s. ap (λ m. m.0) (made_is t p s (cases_lt _ _));
-      }
+  numbered = record {
+    rank = λ k. event_count (n.so_far.first k).1;
+    ranked = λ t p s. ap event_count (first_same t p s).0;
+    objects = λ k. object_of num (n.so_far.first k).1 (n.so_far.first k).0;
+    describes = λ t p s. (first_same t p s).1;
+  }

@@ -1,5 +1,5 @@
 -- Objects that lie back to back: their order, their offsets and their sizes.
-use Rattle.std.proofs.Common.{◌≡◌, ◌≢◌, ◌↔◌, inl, inr, ℕ, ◌+◌, ◌<◌, ◌≤◌, true, false, ◌||◌, eqb, below_more, List, [], ◌∷◌, ◌++◌, ◌^◌, zero, suc, length, get_or, set, refl, ap, sym, ◌∙◌, arith, append_assoc, append-nil, length-append, subst}
+use Rattle.std.proofs.Common.{◌≡◌, ◌≢◌, ◌↔◌, inl, inr, ℕ, ◌+◌, ◌-◌, ◌<◌, ◌≤◌, true, false, ◌||◌, eqb, below_more, List, [], ◌∷◌, ◌++◌, ◌^◌, zero, suc, length, get_or, set, refl, ap, sym, ◌∙◌, arith, append_assoc, append-nil, length-append, subst}
 use Rattle.std.specs.List.{list_any, IsDistinct}
 use Rattle.std.proofs.lemmas.Bool.{cases_lt, or_cases, or_left, or_right, or_parts, false_from_ne_true, true≢false}
 use Rattle.std.proofs.lemmas.Cmp.{nat_eq_equiv}
@@ -17,13 +17,10 @@ use Rattle.std.proofs.Math.ListN.{get_or-eq_default}
 use Rattle.plist_binwrite.specs.declared.plan.FilePlan.{FilePlan}
 use Rattle.plist_binwrite.specs.inner.Layout.{IsFilePlan, IsLayout}
 use Rattle.plist_binwrite.specs.inner.ObjectSizes.{total_below}
-use Rattle.plist_base.specs.Trees.{Tree, Leaf, Array, Dictionary}
-use Rattle.plist_binwrite.specs.Numberings.{object_of}
-use Rattle.plist_binwrite.specs.Sizes.{total, object_size}
-use Rattle.plist_binwrite.proofs.Reading.{length-keys_of, length-values_of}
-use Rattle.plist_binwrite.proofs.ReadingNumbers.{length-table}
+use Rattle.plist_binwrite.specs.Sizes.{total}
+use Rattle.plist_binwrite.proofs.LeastWidths.{width_holds}
+use Rattle.plist_binwrite.proofs.NumberingSteps.{can_write, size_told}
 use Rattle.plist_binwrite.proofs.Totals.{total_all}
-use Rattle.plist_binwrite.proofs.Unfold.{length-references, length-pairs}
 
 -- each number below a count is in the order, once
 pub record AllOnce (count : ℕ) (order : List ℕ) : Type 0 where
@@ -178,14 +175,6 @@ total_bodies w objects order count all =
     ∙ total_all (λ k. length _) _ _ all.distinct
     (λ k. (all.numbered k).0) (λ k. (all.numbered k).1)
 
--- an object's form has its size
-pub form_size : (w : ℕ) (num : ℕ → ℕ) (t : Tree) (p : ℕ)
-    → length (form w (object_of num t p)) ≡ object_size w t
-form_size w num (Leaf x) p = refl
-form_size w num (Array ts) p = simp (length-append, length-table, length-references)
-form_size w num (Dictionary ms) p =
-    simp (length-append, length-table, length-keys_of, length-values_of, length-pairs)
-
 -- the objects in a longer order
 pub laid_more : (w : ℕ) (objects : ℕ → Object) (order more : List ℕ)
     → laid_out w objects (order ++ more) ≡ laid_out w objects order ++ object_table w objects more
@@ -210,11 +199,11 @@ all_zero xs n e h k =
 module _ {plan : FilePlan} {objects : ℕ → Object} {order offsets : List ℕ}
     (l : IsLayout plan objects order offsets) where
   -- if each object has an offset, the order has each number below the count
-  pub all_once : ((k : ℕ) → k < plan.count → get_or offsets k 0 ≢ 0) → AllOnce plan.count order
+  pub all_once : ((k : ℕ) → k < plan.numbering.count → get_or offsets k 0 ≢ 0) → AllOnce plan.numbering.count order
   all_once all = record {
     distinct = l.distinct;
     numbered = λ k. (
-      λ any. elim (cases_lt k plan.count) [
+      λ any. elim (cases_lt k plan.numbering.count) [
         | inl low ↦ low
         | inr high ↦ absurd ((l.marked k).0 any
             (get_or-eq_default offsets 0 (omega (arith, high, l.long))))
@@ -224,20 +213,23 @@ module _ {plan : FilePlan} {objects : ℕ → Object} {order offsets : List ℕ}
   }
 
   -- one more object is put
-  pub next_layout : IsFilePlan plan → (k v : ℕ) → k < plan.count → get_or offsets k 0 ≡ 0
+  pub next_layout : IsFilePlan plan → (k v : ℕ) → k < plan.numbering.count → get_or offsets k 0 ≡ 0
       → v ≡ length (laid_out plan.width objects order)
       → IsLayout plan objects (order ++ k ∷ []) (set offsets k v)
   next_layout r k v h free is =
       let new = false_from_ne_true _ (λ any. (l.marked k).0 any free) in
       let start = length-magic (object_table plan.width objects order) in
       let low : k < length offsets = omega (arith, h, l.long) in
+      let count = plan.numbering.count in
+      let fits : count ≤ 256 ^ plan.width = rw r.width
+      (omega (arith, width_holds (count - 1) (omega (arith, r.numbered.so_far.small)))) in
       record {
         described = l.described;
         long = length-set offsets k v ∙ l.long;
         distinct = IsDistinct-push nat_eq_equiv order k l.distinct new;
         marked = marked_more offsets k v low (omega (arith, is, start)) order l.marked;
         laid = laid_snoc plan.width objects offsets order 8 k v low new
-            (r.writable objects l.described k h) (is ∙ start) l.laid;
+            (can_write r.numbered objects l.described plan.width fits k h) (is ∙ start) l.laid;
       }
 
 -- a layout of all objects that goes on from a layout of some of them
@@ -250,7 +242,7 @@ pub record Continues (plan : FilePlan) (objects : ℕ → Object) (order : List 
 
 module _ {plan : FilePlan} (r : IsFilePlan plan) {objects : ℕ → Object} {order : List ℕ} where
   pub continued : {offsets : List ℕ} → IsLayout plan objects order offsets → (n : ℕ)
-      → n ≤ plan.count → Continues plan objects order n
+      → n ≤ plan.numbering.count → Continues plan objects order n
   continued {offsets} l zero h = record {
     more = [];
     offsets = offsets;
@@ -288,13 +280,14 @@ module _ {plan : FilePlan} (r : IsFilePlan plan) {objects : ℕ → Object} {ord
   pub laid_below : {offsets : List ℕ} → IsLayout plan objects order offsets
       → length (laid_out plan.width objects order) < 2 ^ 64
   laid_below l =
-      let c = continued l plan.count (omega arith) in
+      let c = continued l plan.numbering.count (omega arith) in
       let body = object_table plan.width objects in
       omega (
         arith,
         length-magic (body order),
         length-append (body order) (body c.more),
         ap length (flat_map-append (λ k. form plan.width (objects k)) order c.more),
-        total_bodies plan.width objects (order ++ c.more) plan.count (all_once c.layout c.all),
-        r.few objects l.described,
+        total_bodies plan.width objects (order ++ c.more) plan.numbering.count (all_once c.layout c.all),
+        size_told r.numbered objects l.described plan.width,
+        r.small,
       )

@@ -1,12 +1,11 @@
 -- A planned file is that of its tree, with one object for each class, and what is written is that
 -- file.
-use Rattle.std.proofs.Common.{◌≡◌, ◌≢◌, ℕ, ◌+◌, ◌-◌, ◌*◌, ◌^◌, ◌<◌, List, [], ◌++◌, length, take, drop, get_or, map, Some, Ok, refl, ap, sym, ◌∙◌, arith, ◌≤◌, Option, Result, Err, OnOk, subst}
+use Rattle.std.proofs.Common.{◌≡◌, ◌≢◌, ℕ, ◌+◌, ◌-◌, ◌*◌, ◌^◌, ◌<◌, List, [], ◌++◌, length, take, drop, get_or, map, min, Some, Ok, refl, ap, sym, ◌∙◌, arith, ◌≤◌, Option, Result, Err, OnOk, subst}
 use Rattle.std.specs.List.{slice_get}
 use Rattle.std.specs.Prelude.{option_map}
 use Rattle.std.proofs.lemmas.List.Elements.{All-from_get_or, recursion_from_All}
 use Rattle.std.proofs.lemmas.Option.{slice_get-map, slice_get-get_or}
 use Rattle.plist_base.specs.Bracketing.{bracketing, lengthless, AreAlike, AreTreeEvents}
-use Rattle.plist_base.specs.Events.{PlainEvent}
 use Rattle.plist_base.specs.Trees.{Tree}
 use Rattle.plist_format.specs.Container.{Head, head_of}
 use Rattle.plist_format.specs.Object.{Object, object_in}
@@ -14,28 +13,22 @@ use Rattle.plist_format.specs.Unfolding.{TableEntry, table_of, unfolding_of, unt
 use Rattle.plist_format.specs.Visits.{visits_of, visits_with, visits}
 use Rattle.plist_format.proofs.Tables.{length-table_of}
 use Rattle.plist_binwrite.specs.Classes.{IsFileBy, count_by, objects_by, size_by, files_by}
-use Rattle.plist_binwrite.specs.Sizes.{collections_in, size_with}
+use Rattle.plist_binwrite.specs.Sizes.{collections_in, object_size, size_with}
 use Rattle.plist_binwrite.specs.Forms.{form, table_form, AllFit, reference_width, least_width}
-use Rattle.plist_binwrite.specs.Numberings.{Describes}
 use Rattle.plist_binwrite.specs.EventClasses.{class_in, events_in}
-use Rattle.plist_binwrite.specs.inner.Layout.{IsFilePlan, IsLayout, PutsFile}
-use Rattle.plist_binwrite.specs.inner.ObjectSizes.{AreSizes, IsCapped, fixed_at, references_at, total_below}
+use Rattle.plist_binwrite.specs.inner.Layout.{IsFilePlan, IsLayout, PutsFile, number_of_event}
+use Rattle.plist_binwrite.specs.inner.ObjectSizes.{AreSizes, IsCapped, total_below}
 use Rattle.plist_binwrite.specs.declared.plan.Numbering.{Numbering}
-use Rattle.plist_binwrite.specs.Forms.{IsWritable}
-use Rattle.plist_binwrite.specs.Numberings.{object_of}
-use Rattle.plist_buffer.specs.Occurrences.{OccursAt}
-use Rattle.plist_binwrite.proofs.NumberingSteps.{known_number, numbers_below}
-use Rattle.plist_binwrite.proofs.ObjectOffsets.{form_size}
-use Rattle.plist_binwrite.proofs.Totals.{total_below_same, total_below_sum}
-use Rattle.plist_binwrite.proofs.TreeObjects.{object_fits, occurs_at, size_split}
-use Rattle.plist_binwrite.specs.inner.Numbering.{IsNumberingOfEvents, IsPlanned, object_number, number_by}
+use Rattle.plist_binwrite.proofs.Totals.{total_below_sum}
+use Rattle.plist_binwrite.specs.inner.Numbering.{IsNumberingOfEvents}
 use Rattle.plist_buffer.specs.Occurrences.{positions}
 use Rattle.plist_binwrite.specs.Written.{Laid, file_with, laid_out, object_table}
 use Rattle.plist_binwrite.specs.declared.classes.Classed.{Classed}
 use Rattle.plist_binwrite.specs.declared.plan.FilePlan.{FilePlan}
 use Rattle.plist_binwrite.proofs.ClassObjects.{Numbered, numbered, number_apart, number_below}
-use Rattle.plist_binwrite.proofs.PlanClasses.{planned_count, planned_size, planned_total}
-use Rattle.plist_binwrite.proofs.ObjectOffsets.{AllOnce, all_once, length-magic, found_place, object_there}
+use Rattle.plist_binwrite.proofs.PlanClasses.{numbered_count, numbered_size, size_by_numbers}
+use Rattle.plist_binwrite.proofs.NumberingSteps.{size_told}
+use Rattle.plist_binwrite.proofs.ObjectOffsets.{AllOnce, all_once, length-magic, found_place, object_there, total_bodies}
 use Rattle.plist_binwrite.proofs.Reading.{form_read}
 use Rattle.plist_binwrite.proofs.ReadingNumbers.{with_table_and_trailer, drop_front, width_positive, last, length_closed, front_is, head_is}
 use Rattle.plist_buffer.proofs.TreeOccurrences.{occurs_whole}
@@ -54,197 +47,152 @@ use Rattle.plist_base.proofs.SinkSteps.{put_part, sent_part, sent_whole}
 use Rattle.plist_binwrite.specs.SendingAs.{IsOfTree, SendsAs}
 use Rattle.plist_buffer.proofs.Lengthless.{plain_lengthless}
 
-module _ {es : List PlainEvent} {class : ℕ → ℕ} {by_class : List ℕ} {count : ℕ}
-    (planned : IsPlanned es class by_class count) (t : Tree) (e : es ≡ lengthless t)
-    (objects : ℕ → Object) (describes : Describes es (number_by class by_class) objects)
-    (order : List ℕ) (all : AllOnce (count) order) where
-  -- the magic and the objects have this length
-  pub laid_length : length (laid_out (reference_width (count)) objects order)
-      ≡ 8 + objects_by class (reference_width (count_by class t)) t
-  laid_length =
-      length-magic (object_table (reference_width (count)) objects order)
-      ∙ ap (λ k. 8 + k) (planned_size planned t e
-      (reference_width (count)) objects describes order all)
-      ∙ ap (λ c. 8 + objects_by class (reference_width c) t)
-      (planned_count planned t e)
+module _ {plan : FilePlan} (r : IsFilePlan plan) {objects : ℕ → Object} {order offsets : List ℕ}
+    (l : IsLayout plan objects order offsets)
+    (all : (k : ℕ) → k < plan.numbering.count → get_or offsets k 0 ≢ 0) (t : Tree)
+    (e : events_in plan.given ≡ lengthless t) where
+  abbrev class : ℕ → ℕ
+  class = class_in plan.given
 
-  module _ (offsets : List ℕ) (laid : Laid (reference_width (length offsets)) objects offsets order 8)
-      (long : length offsets ≡ count) (fits : size_by class t < 2 ^ 64) where
-    abbrev w : ℕ
-    w = reference_width (length offsets)
+  abbrev w : ℕ
+  w = reference_width (length offsets)
 
-    abbrev body : List ℕ
-    body = object_table w objects order
+  abbrev body : List ℕ
+  body = object_table w objects order
 
-    abbrev file : List ℕ
-    file = laid_out w objects order
+  abbrev file : List ℕ
+  file = laid_out w objects order
 
-    abbrev num : ℕ → ℕ
-    num = number_by class by_class
+  abbrev num : ℕ → ℕ
+  num = number_of_event plan
 
-    made : Numbered es num
-    made = numbered planned
+  wide : plan.width ≡ w
+  wide = r.width ∙ ap reference_width (sym l.long)
 
-    count_is : length offsets ≡ count_by class t
-    count_is = long ∙ planned_count planned t e
+  laid : Laid w objects offsets order 8
+  laid = rw wide at l.laid
 
-    place_is : length file ≡ 8 + objects_by class (reference_width (count_by class t)) t
-    place_is = ap (λ k. length (laid_out (reference_width k) objects order)) long ∙ laid_length
+  made : Numbered (events_in plan.given) num
+  made = numbered r.numbered
 
-    short : length file < 2 ^ 64
-    short = omega (arith, place_is, fits)
+  fits : size_by class t < 2 ^ 64
+  fits = rw (size_by_numbers r.numbered t e, ← r.width) r.small
 
-    whole : AllOnce (length offsets) order
-    whole = rw long all
+  count_is : length offsets ≡ count_by class t
+  count_is = l.long ∙ numbered_count r.numbered t e
 
-    -- ---- the contents of the file's offset table
+  place_is : length file ≡ 8 + objects_by class (reference_width (count_by class t)) t
+  place_is =
+      length-magic body
+      ∙ ap (λ k. 8 + k) (total_bodies w objects order plan.numbering.count (all_once l all)
+      ∙ size_told r.numbered objects l.described w ∙ numbered_size r.numbered t e w)
+      ∙ ap (λ c. 8 + objects_by class (reference_width c) t) count_is
 
-    abbrev before : List ℕ
-    before = take (last body offsets) (with_table_and_trailer file offsets)
+  short : length file < 2 ^ 64
+  short = omega (arith, place_is, fits)
 
-    abbrev entries : List TableEntry
-    entries = table_of before w offsets
+  whole : AllOnce (length offsets) order
+  whole = rw l.long (all_once l all)
 
-    entry_read : (k : ℕ) → k < length offsets
-        → slice_get entries k ≡ Some (record { place = get_or offsets k 0; object = objects k })
-    entry_read k h =
-        let o = object_there w objects order offsets k laid ((whole.numbered k).1 h)
-        (table_form (least_width (length file)) offsets) in
-        slice_get-map _ offsets k ∙ ap (option_map _) (slice_get-get_or offsets k 0 h)
-        ∙ ap (λ object. Some (record { place = get_or offsets k 0; object = object }))
-        (ap (λ bytes. object_in w (drop (get_or offsets k 0) bytes)) (front_is body offsets ∙ o.is)
-        ∙ ap (object_in w) (drop_front o.before (form w (objects k) ++ o.after) _
-        (omega (arith, o.at_place)))
-        ∙ form_read w (width_positive (length offsets - 1)) (objects k) o.after o.good)
+  -- ---- the contents of the file's offset table
 
-    fit : AllFit (least_width (length file)) offsets
-    fit =
-        let Fits : ℕ → Type 0 = λ n. n < 256 ^ least_width (length file) in
-        recursion_from_All Fits offsets (All-from_get_or Fits offsets 0 (λ k h. omega (
-          arith,
-          found_place w objects order offsets k laid ((whole.numbered k).1 h),
-          width_holds (length file) short,
-        )))
+  abbrev before : List ℕ
+  before = take (last body offsets) (with_table_and_trailer file offsets)
 
-    head_found : head_of (with_table_and_trailer file offsets) ≡ Ok
-        (record { trailer = last body offsets; reference_width = w; root = 0; places = offsets })
-    head_found = head_is body offsets (omega (arith, long, planned.numbered.small)) short fit
+  abbrev entries : List TableEntry
+  entries = table_of before w offsets
 
-    shows : Shows num (unfolding_of entries (length offsets) [] (last body offsets) 0)
-        (visits_of entries (length offsets) [] 0) (bracketing t) (positions t 0)
-    shows =
-        let buffer : length entries - 0 ≡ length offsets = omega
-        (arith, length-table_of before offsets w)
-        in
-        let all = unfolds_whole entries es num made.rank made.ranked
-        (λ u p s. (
-          get_or offsets (num p) 0,
-          entry_read (num p) (omega (arith, number_below planned u p s))
-              ∙ ap (λ o. Some (record { place = get_or offsets (num p) 0; object = o }))
-              (describes u p s),
-        ))
-        t (last body offsets) (occurs_whole e) in
-        rw (buffer, planned.root) at all
+  entry_read : (k : ℕ) → k < length offsets
+      → slice_get entries k ≡ Some (record { place = get_or offsets k 0; object = objects k })
+  entry_read k h =
+      let o = object_there w objects order offsets k laid ((whole.numbered k).1 h)
+      (table_form (least_width (length file)) offsets) in
+      slice_get-map _ offsets k ∙ ap (option_map _) (slice_get-get_or offsets k 0 h)
+      ∙ ap (λ object. Some (record { place = get_or offsets k 0; object = object }))
+      (ap (λ bytes. object_in w (drop (get_or offsets k 0) bytes)) (front_is body offsets ∙ o.is)
+      ∙ ap (object_in w) (drop_front o.before (form w (objects k) ++ o.after) _
+      (omega (arith, o.at_place)))
+      ∙ form_read w (width_positive (length offsets - 1)) (objects k) o.after o.good)
 
-    items_are : items_of_file (with_table_and_trailer file offsets) ≡ map Ok (bracketing t)
-    unfolding items_of_file
-    items_are =
-        ap (items_with (with_table_and_trailer file offsets)) head_found ∙ ap until_fault shows.items
-        ∙ no_fault (bracketing t)
+  fit : AllFit (least_width (length file)) offsets
+  fit =
+      let Fits : ℕ → Type 0 = λ n. n < 256 ^ least_width (length file) in
+      recursion_from_All Fits offsets (All-from_get_or Fits offsets 0 (λ k h. omega (
+        arith,
+        found_place w objects order offsets k laid ((whole.numbered k).1 h),
+        width_holds (length file) short,
+      )))
 
-    visits_are : visits (with_table_and_trailer file offsets) ≡ map (λ one. num one.0) (collections_in t)
-    unfolding visits
-    visits_are = ap (visits_with (with_table_and_trailer file offsets)) head_found ∙ shows.visits
+  head_found : head_of (with_table_and_trailer file offsets) ≡ Ok
+      (record { trailer = last body offsets; reference_width = w; root = 0; places = offsets })
+  head_found = head_is body offsets (omega (arith, l.long, r.numbered.so_far.small)) short fit
 
-    ok_same : (a b : Head) → Ok a ≡ head_of (with_table_and_trailer file offsets)
-        → head_of (with_table_and_trailer file offsets) ≡ Ok b → b ≡ a
-    ok_same a b p q = cc
+  shows : Shows num (unfolding_of entries (length offsets) [] (last body offsets) 0)
+      (visits_of entries (length offsets) [] 0) (bracketing t) (positions t 0)
+  shows =
+      let buffer : length entries - 0 ≡ length offsets = omega
+      (arith, length-table_of before offsets w)
+      in
+      let all = unfolds_whole entries (events_in plan.given) num made.rank made.ranked
+      (λ u p s. (
+        get_or offsets (num p) 0,
+        entry_read (num p) (omega (arith, number_below r.numbered u p s))
+            ∙ ap (λ o. Some (record { place = get_or offsets (num p) 0; object = o }))
+            (l.described u p s),
+      ))
+      t (last body offsets) (occurs_whole e) in
+      rw (buffer, r.numbered.root) at all
 
-    pub finished : IsFileBy class t (with_table_and_trailer file offsets)
-    finished = record {
-      numbers = num;
-      apart = λ u v p q s r. number_apart planned u v p q (rw e s) (rw e r);
-      entered = visits_are;
-      written = record {
-        order = order;
-        objects = objects;
-        offsets = offsets;
-        distinct = all.distinct;
-        numbered = whole.numbered;
-        laid = laid;
-        is = refl;
-        items = items_are;
-      };
-      count =
-          λ head is. ap (λ (h : Head). length h.places) (ok_same _ head (sym head_found) is)
-          ∙ count_is;
-      size =
-          length_closed body offsets
-          ∙ (λ i. place_is i + count_is i * least_width (place_is i) + 32);
-      fits = fits;
-    }
+  items_are : items_of_file (with_table_and_trailer file offsets) ≡ map Ok (bracketing t)
+  unfolding items_of_file
+  items_are =
+      ap (items_with (with_table_and_trailer file offsets)) head_found ∙ ap until_fault shows.items
+      ∙ no_fault (bracketing t)
 
--- ---- a planned file
+  visits_are : visits (with_table_and_trailer file offsets) ≡ map (λ one. num one.0) (collections_in t)
+  unfolding visits
+  visits_are = ap (visits_with (with_table_and_trailer file offsets)) head_found ∙ shows.visits
 
-module _ {given : Classed} {numbering : Numbering} (n : IsNumberingOfEvents given numbering)
-    (objects : ℕ → Object) (d : Describes (events_in given) (object_number given numbering) objects)
-  where
-    abbrev es : List PlainEvent
-    es = events_in given
+  ok_same : (a b : Head) → Ok a ≡ head_of (with_table_and_trailer file offsets)
+      → head_of (with_table_and_trailer file offsets) ≡ Ok b → b ≡ a
+  ok_same a b p q = cc
 
-    -- the event at which the tree of an object begins, and the object
-    found : (k : ℕ) → k < numbering.count → (t : Tree) × OccursAt es t (n.planned.numbered.first k)
-        × (objects k ≡ object_of (object_number given numbering) t (n.planned.numbered.first k))
-    found k h =
-        let item = (n.planned.numbered.known k h).0 in
-        let u = occurs_at es n.planned.whole _ item.0 item.1 in
-        (u.0, u.1, ap objects (sym (known_number n.planned.numbered k h)) ∙ d u.0 _ u.1)
+  pub finished : IsFileBy class t (with_table_and_trailer file offsets)
+  finished = record {
+    numbers = num;
+    apart = λ u v p q s o. number_apart r.numbered u v p q (rw e s) (rw e o);
+    entered = visits_are;
+    written = record {
+      order = order;
+      objects = objects;
+      offsets = offsets;
+      distinct = l.distinct;
+      numbered = whole.numbered;
+      laid = laid;
+      is = refl;
+      items = items_are;
+    };
+    count =
+        λ head is. ap (λ (h : Head). length h.places) (ok_same _ head (sym head_found) is)
+        ∙ count_is;
+    size =
+        length_closed body offsets
+        ∙ (λ i. place_is i + count_is i * least_width (place_is i) + 32);
+    fits = fits;
+  }
 
-    -- all objects can be written
-    pub can_write : (w : ℕ) → numbering.count ≤ 256 ^ w → length es < 2 ^ 64 → (k : ℕ)
-        → k < numbering.count → IsWritable w (objects k)
-    can_write w fits few k h =
-        let f = found k h in
-        rw f.2 (object_fits es _ numbering.count w (numbers_below n.planned) fits few _
-        (n.sizes.writable k h) f.0 f.1)
-
-    -- the number of bytes of all objects
-    pub size_told : (w : ℕ) → total_below (λ k. length (form w (objects k))) numbering.count
-        ≡ total_below (λ k. fixed_at es (n.planned.numbered.first k)) numbering.count
-        + total_below (λ k. references_at es (n.planned.numbered.first k)) numbering.count * w
-    size_told w =
-        total_below_same _ _ numbering.count (λ k h. let f = found k h in
-        ap (λ o. length (form w o)) f.2 ∙ form_size w _ f.0 _ ∙ size_split w f.0 f.1)
-        ∙ total_below_sum _ _ w numbering.count
+-- ---- a plan
 
 module _ {given : Classed} {numbering : Numbering} (n : IsNumberingOfEvents given numbering)
     (size : ℕ)
     (is : (fixed references : ℕ) → AreSizes numbering.sizes fixed references
     → IsCapped size (fixed + references * reference_width numbering.count)) where
-  abbrev number : ℕ → ℕ
-  number = object_number given numbering
-
-  of : Numbered (events_in given) number
-  of = numbered n.planned
-
-  abbrev bytes_of : (ℕ → Object) → ℕ
-  bytes_of objects =
-      total_below (λ k. length (form (reference_width numbering.count) (objects k))) numbering.count
-
   -- the size is that of all objects
-  size_is : (objects : ℕ → Object) → Describes (events_in given) number objects
-      → IsCapped size (bytes_of objects)
-  size_is objects d =
-      rw (size_told n objects d (reference_width numbering.count)) (is _ _ n.sizes.sums)
-
-  -- it is the size of the objects of a tree by its classes
-  by_tree : (t : Tree) → events_in given ≡ lengthless t
-      → size_by (class_in given) t ≡ size_with numbering.count (bytes_of of.objects)
-  by_tree t e =
-      let count = planned_count n.planned t e in
-      rw (← count)
-      (ap (size_with numbering.count)
-      (sym (planned_total n.planned t e (reference_width numbering.count) of.objects of.describes)))
+  size_is : IsCapped size
+      (total_below (λ k. object_size (reference_width numbering.count) (n.so_far.first k).1) numbering.count)
+  size_is =
+      is _ _ n.so_far.sizes
+      ∙ ap (λ bytes. min bytes (2 ^ 64 - 1)) (sym (total_below_sum _ _ _ numbering.count))
 
   -- the file has 2^64 bytes or more
   pub oversized : AreTreeEvents (events_in given)
@@ -252,44 +200,29 @@ module _ {given : Classed} {numbering : Numbering} (n : IsNumberingOfEvents give
       → IsOfTree (events_in given) (λ tree. 2 ^ 64 ≤ size_by (class_in given) tree)
   oversized tree exceeds = (
     complete_of_whole (events_in given) tree,
-    λ t alike. rw (by_tree t (plain_lengthless given.events.now t alike))
-        (exceeds _ (size_is of.objects of.describes)),
+    λ t alike. rw (size_by_numbers n t (plain_lengthless given.events.now t alike))
+        (exceeds _ size_is),
   )
 
   -- the numbering is the plan of a file
   pub plan_made : (width : ℕ) → width ≡ reference_width numbering.count → width ≤ 8
-      → numbering.count ≤ 256 ^ width → length (events_in given) < 2 ^ 64
       → ((objects : ℕ) → IsCapped size objects → size_with numbering.count objects < 2 ^ 64)
-      → IsFilePlan (record {
-        given = given;
-        by_class = numbering.by_class;
-        count = numbering.count;
-        width = width;
-      })
-  plan_made width wide narrow fit few fits = record {
-    listed = n.listed;
-    planned = n.planned;
-    width = wide;
-    narrow = narrow;
-    writable = λ objects d. can_write n objects d width fit few;
-    few = λ objects d. rw wide (omega (arith, fits _ (size_is objects d)));
-    small = λ t e. rw (by_tree t e) (fits _ (size_is of.objects of.describes));
-  }
+      → IsFilePlan (record { given = given; numbering = numbering; width = width })
+  plan_made width wide narrow fits =
+      record { numbered = n; width = wide; narrow = narrow; small = rw wide (fits _ size_is) }
 
 -- ---- what is put
 
 -- all objects of a plan are a file of its tree
 pub file_made : {plan : FilePlan} (r : IsFilePlan plan) {objects : ℕ → Object}
     {order offsets : List ℕ} → IsLayout plan objects order offsets
-    → ((k : ℕ) → k < plan.count → get_or offsets k 0 ≢ 0) → (tree : Tree)
+    → ((k : ℕ) → k < plan.numbering.count → get_or offsets k 0 ≢ 0) → (tree : Tree)
     → AreAlike (events_in plan.given) (bracketing tree)
     → IsFileBy (class_in plan.given) tree (file_with plan.width objects offsets order)
 file_made {plan} r {objects} {order} {offsets} l all t alike =
     let e = plain_lengthless plan.given.events.now t alike in
-    let wide = r.width ∙ ap reference_width (sym l.long) in
-    subst (λ w. IsFileBy (class_in plan.given) t (file_with w objects offsets order)) (sym wide)
-    (finished r.planned t e objects l.described order (all_once l all) offsets (rw wide at l.laid)
-    l.long (r.small t e))
+    subst (λ w. IsFileBy (class_in plan.given) t (file_with w objects offsets order))
+    (sym (wide r l all t e)) (finished r l all t e)
 
 module _ (plan : FilePlan) {W : Type 0} {contents : W → Option (List ℕ)} {start : Sink W}
     (empty : pending start ≡ []) (tree : AreTreeEvents (events_in plan.given)) where

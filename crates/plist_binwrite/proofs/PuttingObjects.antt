@@ -31,12 +31,12 @@ module _ {plan : FilePlan} (r : IsFilePlan plan) {W : Type 0} {contents : W → 
     {start : Sink W} where
   -- nothing but the magic is put
   pub start_put : {offsets : List ℕ} {answer : Answer} {sink : Sink W}
-      → offsets ≡ replicate plan.count 0 → PutsBytes contents start magic answer sink
+      → offsets ≡ replicate plan.numbering.count 0 → PutsBytes contents start magic answer sink
       → ArePut plan contents start offsets answer sink
   unfolding IsDistinct
   start_put {offsets} zeros put =
-      let of = numbered r.planned in
-      let count = plan.count in
+      let of = numbered r.numbered in
+      let count = plan.numbering.count in
       let long : length offsets ≡ count = ap length zeros ∙ length-replicate count 0 in
       record {
         objects = of.objects;
@@ -60,7 +60,7 @@ module _ {plan : FilePlan} (r : IsFilePlan plan) {W : Type 0} {contents : W → 
       → ArePut plan contents start offsets (Err fault) sink
       → PutsFile plan contents start (Err fault) sink
   part_put a =
-      let c = continued r a.layout plan.count (omega arith) in (
+      let c = continued r a.layout plan.numbering.count (omega arith) in (
         _,
         file_made r c.layout c.all,
         puts_as (sym (goes_on plan.width a.objects c.offsets a.order c.more)) (puts_front _ a.put),
@@ -85,7 +85,7 @@ module _ {plan : FilePlan} (r : IsFilePlan plan) {W : Type 0} {contents : W → 
         (laid_below r a.layout)
 
     -- the offset table and the trailer follow all objects
-    pub all_put : ((k : ℕ) → k < plan.count → get_or offsets k 0 ≢ 0) → (v : ℕ)
+    pub all_put : ((k : ℕ) → k < plan.numbering.count → get_or offsets k 0 ≢ 0) → (v : ℕ)
         → ((n : ℕ) → HasPut sink n → n < 2 ^ 64 → v ≡ n) → (answer : Answer) (new : Sink W)
         → PutsBytes contents sink (table_and_trailer offsets v) answer new
         → PutsFile plan contents start answer new
@@ -98,8 +98,8 @@ module _ {plan : FilePlan} (r : IsFilePlan plan) {W : Type 0} {contents : W → 
       abbrev k : ℕ
       k = number_of_event plan p
 
-      below : k < plan.count
-      below = numbers_below r.planned p item.0 item.1
+      below : k < plan.numbering.count
+      below = numbers_below r.numbered p item
 
       -- the object of one more event is put
       pub put_next : {answer : Answer} {new : Sink W}
@@ -107,7 +107,7 @@ module _ {plan : FilePlan} (r : IsFilePlan plan) {W : Type 0} {contents : W → 
           → PutsBytes contents sink (form plan.width (object_of (number_of_event plan) t p)) answer new)
           → ArePut plan contents start (set offsets k v) answer new
       put_next put =
-          let u = occurs_at (events_in plan.given) r.planned.whole p item.0 item.1 in
+          let u = occurs_at (events_in plan.given) r.numbered.so_far.whole p item in
           record {
             objects = a.objects;
             order = a.order ++ k ∷ [];

@@ -1,7 +1,7 @@
 -- The objects of trees by their indices: their forms, their sizes, and that they can be written.
 use Rattle.std.proofs.Common.{◌≡◌, ◌⊎◌, ℕ, ◌+◌, ◌*◌, ◌^◌, ◌<◌, ◌≤◌, false, List, ◌∷◌, length, flat_map, map, refl, ap, subst, ◌∙◌, arith, length-append}
 use Rattle.std.proofs.lemmas.List.{length-map}
-use Rattle.plist_base.specs.Events.{PlainEvent, EndCollection, ScalarEvent, StartArray, StartDictionary, shape_of}
+use Rattle.plist_base.specs.Events.{PlainEvent, ScalarEvent, shape_of}
 use Rattle.plist_base.specs.Trees.{number_of_trees, number_of_members, Scalar, String, Tree, Leaf, Array, Dictionary, Trees, NoTrees, TreeAnd, Members, NoMembers, MemberAnd}
 use Rattle.plist_base.specs.declared.event.EventShape.{EventShape}
 use Rattle.plist_base.specs.declared.event.EventShape.TheVariants as shape
@@ -9,22 +9,21 @@ use Rattle.plist_buffer.specs.Occurrences.{event_count, OccursAt, ItemsOccurAt, 
 use Rattle.plist_binwrite.specs.Numberings.{object_of}
 use Rattle.plist_binwrite.specs.Forms.{length_form, units_of, is_ascii_text, scalar_form, form, key_numbers, value_numbers, IsWritable, IsWritableScalar, AllFit}
 use Rattle.std.specs.Int.{bytes_high_first}
-use Rattle.plist_buffer.specs.EventTable.{is_end, event_at, item_indices, key_indices, value_indices, IsBracketed}
+use Rattle.plist_buffer.specs.EventTable.{HasItem, event_at, item_indices, key_indices, value_indices, IsBracketed}
 use Rattle.plist_binwrite.specs.Sizes.{object_size}
-use Rattle.plist_binwrite.specs.inner.ObjectSizes.{AreSizes, IsCapped, fixed_at, fixed_of, references_at, references_of_event}
+use Rattle.plist_binwrite.specs.inner.ObjectSizes.{IsCapped}
 use Rattle.plist_buffer.specs.Children.{half_of}
 use Rattle.plist_buffer.specs.declared.children.Half.TheVariants.{Values}
 use Rattle.plist_format.specs.declared.marker.CountedKind.TheVariants as counted
 use Rattle.plist_binwrite.specs.EventClasses.{events_in}
 use Rattle.plist_binwrite.specs.declared.plan.FilePlan.{FilePlan}
-use Rattle.plist_binwrite.specs.declared.plan.ObjectSizes.{ObjectSizes}
 use Rattle.plist_binwrite.specs.inner.Layout.{collection_form, number_of_event}
 use Rattle.plist_buffer.specs.inner.Entries.{is_leaf}
 use Rattle.plist_buffer.proofs.TreeOccurrences.{occurs_whole, occurs_items, occurs_pairs, occurs_item, occurs_next, occurs_key, occurs_value, occurs_next_pair}
 use Rattle.plist_buffer.proofs.TreeStarts.{stands_single, starts_array, starts_dictionary, no_start, begins, occurs_in}
 use Rattle.plist_buffer.proofs.ChildIndices.{few_children, keys_are_in, values_are_in}
 use Rattle.plist_buffer.proofs.TreePositions.{Stands, positions_stand, positions_all}
-use Rattle.plist_binwrite.proofs.NumberingSteps.{AllNumbered}
+use Rattle.plist_binwrite.proofs.Reading.{length-keys_of, length-values_of}
 use Rattle.plist_binwrite.proofs.ReadingNumbers.{length-table}
 use Rattle.plist_buffer.proofs.Uniques.{all_from}
 use Rattle.plist_binwrite.proofs.Unfold.{references, pairs, length-references, length-pairs}
@@ -50,11 +49,15 @@ module _ {es : List PlainEvent} {p : ℕ} where
 
 -- ---- references fit
 
+-- each event other than an end has a number below the count
+abbrev pub AllNumbered : List PlainEvent → (number : ℕ → ℕ) → (count : ℕ) → Type 0
+AllNumbered es number count = (p : ℕ) → HasItem es p → number p < count
+
 module _ (es : List PlainEvent) (number : ℕ → ℕ) (count w : ℕ)
     (all : AllNumbered es number count) (wide : count ≤ 256 ^ w) where
   number_fits : (t : Tree) (p : ℕ) → OccursAt es t p → number p < 256 ^ w
   number_fits t p s =
-      omega (arith, all p (occurs_in s) (begins t p s))
+      omega (arith, all p (occurs_in s, begins t p s))
 
   refs_fit : (ts : Trees) (q : ℕ) → ItemsOccurAt es ts q
       → AllFit w (references number ts q)
@@ -129,22 +132,17 @@ module _ {es : List PlainEvent} {k : EventShape} {p : ℕ} (at : k ≡ shape_of 
     pub of_nothing : is_leaf (event_at es p) ≡ false → (t : Tree) → OccursAt es t p → P t
     of_nothing n = neither (λ x single. cc (ap is_leaf single))
 
--- the object of a scalar has the form of the scalar
-pub scalar_there : {es : List PlainEvent} {p : ℕ} (num : ℕ → ℕ) (w : ℕ) (x : Scalar)
-    → event_at es p ≡ ScalarEvent x → (t : Tree) → OccursAt es t p
-    → scalar_form x ≡ form w (object_of num t p)
-scalar_there num w x is (Leaf y) s =
-    let single = stands_single s in let same : x ≡ y = cc in ap scalar_form same
-scalar_there num w x is (Array ts) s = let start = starts_array s in cc
-scalar_there num w x is (Dictionary ms) s = let start = starts_dictionary s in cc
+-- a scalar is at this index
+pub of_scalar : {es : List PlainEvent} {p : ℕ} (P : Tree → Type 0) {x : Scalar}
+    → event_at es p ≡ ScalarEvent x → P (Leaf x) → (t : Tree) → OccursAt es t p → P t
+of_scalar P {x} is h (Leaf y) s =
+    let single = stands_single s in let same : x ≡ y = cc in subst (λ x. P (Leaf x)) same h
+of_scalar P is h (Array ts) s = let start = starts_array s in cc
+of_scalar P is h (Dictionary ms) s = let start = starts_dictionary s in cc
 
 -- ---- forms and sizes
 
 module _ (num : ℕ → ℕ) where
-  pub refs_are : (ts : Trees) (q : ℕ) → references num ts q ≡ map num (item_indices ts q)
-  refs_are NoTrees q = refl
-  refs_are (TreeAnd t ts) q = ap (λ l. num q ∷ l) (refs_are ts _)
-
   pub keys_are : (ms : Members) (q : ℕ) → key_numbers (pairs num ms q) ≡ map num (key_indices ms q)
   keys_are NoMembers q = refl
   keys_are (MemberAnd k t ms) q = ap (λ l. num q ∷ l) (keys_are ms _)
@@ -172,7 +170,6 @@ module _ (plan : FilePlan) where
       rw (
         keys_are_in es (Array ts) p s,
         values_are_in es (Array ts) p s,
-        refs_are num ts (p + 1),
         length-map (item_indices ts (p + 1)) num,
       ) refl
 
@@ -188,44 +185,17 @@ module _ (plan : FilePlan) where
         length-pairs num ms (p + 1),
       ) refl
 
--- the size of the object of a collection that begins with an event of this shape
-pub array_sizes : (event : PlainEvent) (count : ℕ) → shape.StartArray ≡ shape_of event
-    → (length (length_form 0xa count) ≡ fixed_of event count)
-    × (count ≡ references_of_event event count)
-array_sizes (StartArray hint) count is = (refl, refl)
-array_sizes (StartDictionary hint) count is = cc
-array_sizes EndCollection count is = cc
-array_sizes (ScalarEvent x) count is = cc
-
-pub dictionary_sizes : (event : PlainEvent) (count : ℕ) → shape.StartDictionary ≡ shape_of event
-    → (length (length_form 0xd count) ≡ fixed_of event count)
-    × (2 * count ≡ references_of_event event count)
-dictionary_sizes (StartDictionary hint) count is = (refl, refl)
-dictionary_sizes (StartArray hint) count is = cc
-dictionary_sizes EndCollection count is = cc
-dictionary_sizes (ScalarEvent x) count is = cc
-
 -- a small size is below the cap
 pub capped_small : {number size : ℕ} → number ≡ size → number ≤ 17 → IsCapped number size
 capped_small is small = omega (arith, is, small)
 
--- the size of one more object is added
-pub sizes_with : (es : List PlainEvent) (index : ℕ) {old new : ObjectSizes} (fixed size references : ℕ)
-    → IsCapped fixed size → size ≡ fixed_at es index
-    → references ≡ references_at es index
-    → ((a b c : ℕ) → AreSizes old a b → IsCapped fixed c → AreSizes new (c + a) (references + b))
-    → (a b : ℕ) → AreSizes old a b
-    → AreSizes new (fixed_at es index + a) (references_at es index + b)
-sizes_with all index {new = new} fixed size count is e f added a b s =
-    subst (λ n. AreSizes new (n + a) (references_at all index + b)) e
-    (subst (λ n. AreSizes new (size + a) (n + b)) f (added a b size s is))
-
--- the size of the object of a tree, by the event at which it begins
-pub size_split : {es : List PlainEvent} {p : ℕ} (w : ℕ) (t : Tree) → OccursAt es t p
-    → object_size w t ≡ fixed_at es p + references_at es p * w
-size_split w (Leaf x) s = rw (stands_single s) (omega arith)
-size_split w (Array ts) s = rw (count_items s, starts_array s) refl
-size_split w (Dictionary ms) s = rw (count_pairs s, starts_dictionary s) (grind arith)
+-- an object's form has its size
+pub form_size : (w : ℕ) (num : ℕ → ℕ) (t : Tree) (p : ℕ)
+    → length (form w (object_of num t p)) ≡ object_size w t
+form_size w num (Leaf x) p = omega arith
+form_size w num (Array ts) p = simp (length-append, length-table, length-references)
+form_size w num (Dictionary ms) p =
+    simp (length-append, length-table, length-keys_of, length-values_of, length-pairs) (grind arith)
 
 pub wide_length : (text : List ℕ) → is_ascii_text text ≡ false
     → length (length_form 0x6 (length (units_of text))) + length (units_of text) * 2
@@ -236,9 +206,9 @@ wide_length text wide =
     rw (wide) (omega (arith, head, length-table 2 (units_of text)))
 
 -- in a tree's events, each event that isn't an end begins a tree
-pub occurs_at : (es : List PlainEvent) → IsBracketed es → (p : ℕ) → p < length es
-    → is_end (event_at es p) ≡ false → (u : Tree) × OccursAt es u p
-occurs_at es (t, e) p lt b =
+pub occurs_at : (es : List PlainEvent) → IsBracketed es → (p : ℕ) → HasItem es p
+    → (u : Tree) × OccursAt es u p
+occurs_at es (t, e) p item =
     positions_all es (λ q. (u : Tree) × OccursAt es u q) t e
     (all_from (λ one. (u : Tree) × OccursAt es u _) (Stands es) (λ one s. (one.1, s)) _
-    (positions_stand es t 0 (occurs_whole e))) p lt b
+    (positions_stand es t 0 (occurs_whole e))) p item.0 item.1

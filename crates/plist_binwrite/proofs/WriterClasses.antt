@@ -14,7 +14,7 @@ use Rattle.plist_binwrite.specs.Sizes.{object_count, scalars_in, collections_in,
 use Rattle.plist_binwrite.specs.Numberings.{object_of}
 use Rattle.plist_binwrite.specs.inner.Scalars.{Identity, shared, alone, identity_of, identity_at, AreIdentities}
 use Rattle.plist_buffer.specs.Occurrences.{event_count, OccursAt, positions, positions_in_items, positions_in_pairs}
-use Rattle.plist_binwrite.specs.Forms.{reference_width}
+use Rattle.plist_binwrite.specs.Forms.{reference_width, scalar_form}
 use Rattle.plist_buffer.proofs.TreePositions.{Stands, one_tree, positions_stand}
 use Rattle.plist_binwrite.proofs.Identities.{owner_eq, owners_tell}
 use Rattle.plist_buffer.proofs.SameScalars.{tells_both}
@@ -192,9 +192,12 @@ module _ (tree : Tree) {class : ℕ → ℕ} {count : ℕ} (o : AreIdentities
 
   pub owned_size : size_by class tree ≡ file_size tree
   owned_size =
-      λ i. size_with (owned_count i)
-      ((ap (λ n. objects_by class (reference_width n) tree) owned_count
-      ∙ kept_total (object_size (reference_width (object_count tree)))) i)
+      let w = reference_width (object_count tree) in
+      let leaves : (x : Scalar) → object_size w (Leaf x) ≡ length (scalar_form x) = λ x. omega arith in
+      λ i. size_with (owned_count i) ((ap (λ n. objects_by class (reference_width n) tree) owned_count
+      ∙ kept_total (object_size w)
+      ∙ (λ i. total (λ (one : One). object_size w one.1) (collections_in tree)
+      + total (λ x. leaves x i) (unique_keys scalar_eq (scalars_in tree)))) i)
 
 -- ---- no collection is entered twice
 

@@ -7,14 +7,14 @@ ghost use Rattle.plist_base.specs.Faults.{OutOfMemory, PlistTooLarge, fault_with
 ghost use Rattle.plist_base.specs.Outcomes.{IfFault};
 ghost use Rattle.plist_base.specs.Sinks.{IsSizeOrNone};
 ghost use Rattle.plist_binwrite.specs.Classes.{size_by};
-ghost use Rattle.plist_binwrite.specs.EventClasses.{IsClassed, IsListed, class_in, events_in};
+ghost use Rattle.plist_binwrite.specs.EventClasses.{IsClassed, class_in, events_in};
 ghost use Rattle.plist_binwrite.specs.SendingAs.{IsOfTree};
 ghost use Rattle.plist_binwrite.specs.Sizes.{size_with};
 ghost use Rattle.plist_binwrite.specs.inner.Layout.{IsFilePlan};
-ghost use Rattle.plist_binwrite.specs.inner.Numbering.{IsNumberingOfEvents, number_by, stored_by};
+ghost use Rattle.plist_binwrite.specs.inner.Numbering.{IsNumberingOfEvents, object_number};
 ghost use Rattle.plist_binwrite.specs.inner.ObjectSizes.{IsCapped};
 ghost use Rattle.plist_buffer.specs.Children.{half_of};
-ghost use Rattle.plist_buffer.specs.EventTable.{IsBracketed, plain_events};
+ghost use Rattle.plist_buffer.specs.EventTable.{HasItem, IsBracketed, plain_events};
 ghost use Rattle.plist_buffer.specs.declared.children.Half.TheVariants.{Values};
 
 use crate::classes::Classed;
@@ -30,25 +30,10 @@ use std::alloc::{AllocError, Global};
 pub struct FilePlan<'p, 'e> {
     /// The events with their classes.
     pub given: Classed<'p, 'e>,
-    /// One more than the number of each class's object, indexed by the class.
-    pub by_class: CompactNumbers,
-    /// The number of objects. Their numbers are those below `count`.
-    pub count: usize,
+    /// The numbers of all objects.
+    pub numbering: Numbering,
     /// The number of bytes in a reference.
     pub width: usize,
-}
-
-/// Returns the number of the object of the event at an index. `by_class` contains one more than the
-/// number of each class's object.
-#[inline(always)]
-pub fn object_number(given: &Classed<'_, '_>, by_class: &CompactNumbers, index: usize) -> usize
-    requires index { index < length (events_in given.now) }
-    requires listed { IsListed given.now }
-    requires class { class_in given.now index < length by_class.now }
-    requires numbered { 0 < stored_by (class_in given.now) by_class.now index }
-    ensures { result ≡ number_by (class_in given.now) by_class.now index }
-{
-    by_class.get(given.class_at(index)) - 1
 }
 
 /// The number of each class's object, and the sizes of the objects.
@@ -76,10 +61,12 @@ pub struct ObjectSizes {
 impl ObjectSizes {
     ghost use Rattle.std.specs.Prelude.{◌≡◌, ◌+◌, ◌*◌, ◌≤◌, ◌<◌, ℕ, length};
     ghost use Rattle.plist_base.specs.Events.{ScalarEvent};
-    ghost use Rattle.plist_base.specs.Trees.{Scalar};
+    ghost use Rattle.plist_base.specs.Trees.{Scalar, Tree};
     ghost use Rattle.plist_binwrite.specs.Forms.{IsWritableScalar};
-    ghost use Rattle.plist_binwrite.specs.inner.ObjectSizes.{AreSizes, IsCapped, fixed_at, references_at};
-    ghost use Rattle.plist_buffer.specs.EventTable.{plain_events, table_event};
+    ghost use Rattle.plist_binwrite.specs.inner.ObjectSizes.{AreSizes, IsCapped};
+    ghost use Rattle.plist_binwrite.specs.Sizes.{fixed_size, reference_count};
+    ghost use Rattle.plist_buffer.specs.EventTable.{HasItem, plain_events, table_event};
+    ghost use Rattle.plist_buffer.specs.Occurrences.{OccursAt};
 
     /// Returns the size of no objects.
     pub fn none() -> ObjectSizes
@@ -101,12 +88,12 @@ impl ObjectSizes {
         self.references = self.references.saturating_add(references);
     }
 
-    /// Adds the size of the object of the event at an index. An end has no object.
+    /// Adds the size of the object of the event at an index, which must not be an end.
     pub fn add_object(&mut self, events: &EventTable<'_>, index: usize)
-        requires index { index < length (plain_events events.now) }
-        ensures size { (a b : ℕ) → AreSizes self.old a b
-            → AreSizes self.new (fixed_at (plain_events events.now) index + a)
-            (references_at (plain_events events.now) index + b) }
+        requires { HasItem (plain_events events.now) index }
+        ensures size { (a b : ℕ) → AreSizes self.old a b → (t : Tree)
+            → OccursAt (plain_events events.now) t index
+            → AreSizes self.new (fixed_size t + a) (reference_count t + b) }
         ensures writable { (x : Scalar) → table_event events.now index ≡ ScalarEvent x
             → IsWritableScalar x }
     {
@@ -144,6 +131,16 @@ pub fn count_children(events: &EventTable<'_>, index: usize) -> usize
     ensures { result ≡ length (half_of (plain_events events.now) Values index) }
 {
     Children::new(events, index, Half::Values).count()
+}
+
+/// Returns the number of the object of the event at an index. All objects must have numbers.
+#[inline(always)]
+pub fn object_number(given: &Classed<'_, '_>, numbering: &Numbering, index: usize) -> usize
+    requires numbered { IsNumberingOfEvents given.now numbering.now }
+    requires item { HasItem (events_in given.now) index }
+    ensures { result ≡ object_number given.now numbering.now index }
+{
+    numbering.by_class.get(given.class_at(index)) - 1
 }
 
 impl Numbering {
@@ -267,8 +264,7 @@ pub fn plan_file<'p, 'e>(alloc: Global, given: Classed<'p, 'e>) -> Result<FilePl
     match size_of_file(objects, numbering.count as u64) {
         Some(_) => Ok(FilePlan {
             given,
-            by_class: numbering.by_class,
-            count: numbering.count,
+            numbering,
             width,
         }),
         None => Err(ErrorKind::PlistTooLarge.without_position()),

@@ -21,7 +21,7 @@ use Rattle.plist_buffer.specs.inner.Entries.{AreDistinct}
 use Rattle.plist_buffer.proofs.Changes.{at_set}
 use Rattle.plist_binwrite.proofs.ClassObjects.{sound, the_items, the_pairs}
 use Rattle.plist_binwrite.proofs.WriterClasses.{class_owner, owner_class}
-use Rattle.plist_binwrite.proofs.TreeObjects.{refs_are, keys_are, values_are}
+use Rattle.plist_binwrite.proofs.TreeObjects.{keys_are, values_are}
 use Rattle.plist_binwrite.proofs.Reading.{dictionary_is, length-keys_of, length-values_of}
 use Rattle.plist_buffer.proofs.TreeStarts.{stands_single, starts_array, starts_dictionary, occurs_in}
 use Rattle.plist_share.proofs.EqualClasses.{complete}
@@ -97,8 +97,7 @@ module _ {es : List PlainEvent} {scalar class : ℕ → ℕ} {count : ℕ} {keys
   one_object (Leaf x) (Leaf y) p q s r e = ap obj.Scalar (one_scalar x y p q s r e)
   one_object (Array ts) (Array us) p q s r e =
       let k = one_key _ _ p q (all (Array ts) p s) (all (Array us) q r) e in
-      ap obj.Array (refs_are class ts (p + 1) ∙ ap (λ (k : Node). k.1) k
-      ∙ sym (refs_are class us (q + 1)))
+      ap obj.Array (ap (λ (k : Node). k.1) k)
   one_object (Array ts) (Dictionary ns) p q s r e =
       apart_kinds _ _ p q (all (Array ts) p s) (all _ q r) e
   one_object (Dictionary ms) (Array us) p q s r e =
@@ -127,8 +126,7 @@ module _ {es : List PlainEvent} {scalar class : ℕ → ℕ} {count : ℕ} {keys
     given (Leaf x) p q s r e =
         all (Leaf x) p s ∙ owner_class owners _ _ p q s r refl ∙ sym (all _ q r)
     given (Array ts) p q s r e =
-        let k = sym (refs_are class ts (p + 1)) ∙ the_items _ _ e ∙ refs_are class ts (q + 1) in
-        one_class p q _ _ (ap (λ l. (false, l)) k) (all (Array ts) p s) (all (Array ts) q r)
+        one_class p q _ _ (ap (λ l. (false, l)) (the_items _ _ e)) (all (Array ts) p s) (all (Array ts) q r)
     given (Dictionary ms) p q s r e =
         let k = same_halves _ _ ms _ _ (the_pairs _ _ e) in
         one_class p q _ _ (ap (λ l. (true, l)) k) (all (Dictionary ms) p s)

@@ -2,7 +2,7 @@
 use Rattle.std.specs.Prelude.{◌≡◌, ◌≢◌, ◌↔◌, ℕ, ◌+◌, ◌*◌, ◌^◌, ◌<◌, ◌≤◌, true, eqb, List, [], ◌∷◌, ◌++◌, length, slice_index, map, Option, Ok, OnOk}
 use Rattle.std.specs.List.{list_any, AllByRecursion, IsDistinct}
 use Rattle.std.specs.Str.{IsUtf8}
-use Rattle.plist_base.specs.Bracketing.{bracketing, lengthless, AreAlike}
+use Rattle.plist_base.specs.Bracketing.{bracketing, AreAlike}
 use Rattle.plist_base.specs.Sinks.{HasPut, PutsBytes, buffered, room}
 use Rattle.plist_base.specs.declared.fixed_buffer.FixedBuffer.{FixedBuffer}
 use Rattle.plist_base.specs.Trees.{Tree}
@@ -15,13 +15,14 @@ use Rattle.plist_buffer.specs.declared.children.Half.{Half}
 use Rattle.plist_buffer.specs.declared.children.Half.TheVariants.{Keys, Values}
 use Rattle.plist_format.specs.Marker.{high_half}
 use Rattle.plist_format.specs.declared.marker.CountedKind.{CountedKind}
-use Rattle.plist_binwrite.specs.Classes.{IsFileBy, size_by}
-use Rattle.plist_binwrite.specs.EventClasses.{IsListed, events_in, class_in}
-use Rattle.plist_binwrite.specs.Forms.{IsWritable, form, length_form, reference_width, table_form, units_of}
+use Rattle.plist_binwrite.specs.Classes.{IsFileBy}
+use Rattle.plist_binwrite.specs.EventClasses.{events_in, class_in}
+use Rattle.plist_binwrite.specs.Forms.{form, length_form, reference_width, table_form, units_of}
 use Rattle.plist_binwrite.specs.Numberings.{Describes, object_of}
+use Rattle.plist_binwrite.specs.Sizes.{object_size, size_with}
 use Rattle.plist_binwrite.specs.Written.{Laid, laid_out}
 use Rattle.plist_binwrite.specs.declared.plan.FilePlan.{FilePlan}
-use Rattle.plist_binwrite.specs.inner.Numbering.{IsPlanned, number_by}
+use Rattle.plist_binwrite.specs.inner.Numbering.{IsNumberingOfEvents, object_number}
 use Rattle.plist_binwrite.specs.inner.ObjectSizes.{total_below}
 
 -- the UTF-16 units of the first characters of a string are pushed; `old` and `new` are the buffer
@@ -36,7 +37,7 @@ pub record PushesUnits (old new : FixedBuffer × List ℕ) : Type 0 where
 module _ (plan : FilePlan) where
   -- the number of the object of the event at an index
   abbrev pub number_of_event : (index : ℕ) → ℕ
-  number_of_event = number_by (class_in plan.given) plan.by_class
+  number_of_event = object_number plan.given plan.numbering
 
   -- these are the objects of a planned file
   abbrev pub AreObjectsOf : (ℕ → Object) → Type 0
@@ -44,16 +45,12 @@ module _ (plan : FilePlan) where
 
   -- the file of the tree with these events is planned; it has less than 2^64 bytes
   pub record IsFilePlan : Type 0 where
-    pub listed : IsListed plan.given
-    pub planned : IsPlanned (events_in plan.given) (class_in plan.given) plan.by_class plan.count
-    pub width : plan.width ≡ reference_width plan.count
+    pub numbered : IsNumberingOfEvents plan.given plan.numbering
+    pub width : plan.width ≡ reference_width plan.numbering.count
     pub narrow : plan.width ≤ 8
-    pub writable : (objects : ℕ → Object) → AreObjectsOf objects → (k : ℕ)
-        → k < plan.count → IsWritable plan.width (objects k)
-    pub few : (objects : ℕ → Object) → AreObjectsOf objects
-        → 8 + total_below (λ k. length (form plan.width (objects k))) plan.count < 2 ^ 64
-    pub small : (t : Tree) → events_in plan.given ≡ lengthless t
-        → size_by (class_in plan.given) t < 2 ^ 64
+    pub small : size_with plan.numbering.count
+        (total_below (λ k. object_size plan.width (numbered.so_far.first k).1) plan.numbering.count)
+        < 2 ^ 64
 
   -- the references to a half of the children of the collection that begins at an index
   abbrev pub references_of : Half → (index : ℕ) → List ℕ
@@ -86,7 +83,7 @@ module _ (plan : FilePlan) where
   -- have an offset other than 0
   pub record IsLayout (objects : ℕ → Object) (order offsets : List ℕ) : Type 0 where
     pub described : AreObjectsOf objects
-    pub long : length offsets ≡ plan.count
+    pub long : length offsets ≡ plan.numbering.count
     pub distinct : IsDistinct eqb order
     pub marked : (k : ℕ) → (list_any (eqb k) order ≡ true) ↔ (slice_index offsets k ≢ 0)
     pub laid : Laid plan.width objects offsets order 8

@@ -2,70 +2,60 @@
 -- that has no number yet. `count` objects have numbers, which are those below `count`.
 use Rattle.std.specs.Prelude.{◌≡◌, ℕ, ◌+◌, ◌-◌, ◌^◌, ◌<◌, ◌≤◌, List, length, slice_index}
 use Rattle.std.specs.List.{AllByRecursion}
-use Rattle.plist_base.specs.Events.{PlainEvent}
-use Rattle.plist_buffer.specs.EventTable.{HasItem, IsBracketed}
-use Rattle.plist_binwrite.specs.Classes.{AreClasses}
-use Rattle.plist_binwrite.specs.EventClasses.{IsListed, class_in, events_in}
+use Rattle.plist_base.specs.Events.{ScalarEvent}
+use Rattle.plist_base.specs.Trees.{Scalar, Tree}
+use Rattle.plist_buffer.specs.EventTable.{HasItem, IsBracketed, event_at}
+use Rattle.plist_buffer.specs.Occurrences.{OccursAt}
+use Rattle.plist_binwrite.specs.EventClasses.{IsClassed, class_in, events_in}
+use Rattle.plist_binwrite.specs.Forms.{IsWritableScalar}
+use Rattle.plist_binwrite.specs.Sizes.{fixed_size, reference_count}
 use Rattle.plist_binwrite.specs.declared.classes.Classed.{Classed}
 use Rattle.plist_binwrite.specs.declared.plan.Numbering.{Numbering}
-use Rattle.plist_binwrite.specs.inner.ObjectSizes.{AreSizesOf}
+use Rattle.plist_binwrite.specs.inner.ObjectSizes.{AreSizes, total_below}
 
--- 1 more than the number of an event's object, or 0 if that has no number yet
-abbrev pub stored_by : (class : ℕ → ℕ) (by_class : List ℕ) → (index : ℕ) → ℕ
-stored_by class by_class index = slice_index by_class (class index)
+module _ (given : Classed) (numbering : Numbering) where
+  -- 1 more than the number of an event's object, or 0 if that has no number yet
+  abbrev pub stored_number : (index : ℕ) → ℕ
+  stored_number index = slice_index numbering.by_class (class_in given index)
 
--- the number of an event's object
-abbrev pub number_by : (class : ℕ → ℕ) (by_class : List ℕ) → (index : ℕ) → ℕ
-number_by class by_class index = stored_by class by_class index - 1
-
--- each class has the number of one object, or no number yet; `first` is the index of an event of
--- each object; the ends need no class
-pub record IsPlan (es : List PlainEvent) (class : ℕ → ℕ) (by_class : List ℕ) (count : ℕ) : Type 0
-  where
-    pub first : ℕ → ℕ
-    pub below : (p : ℕ) → HasItem es p → class p < length by_class
-    pub small : count < 2 ^ 64
-    pub known : (k : ℕ) → k < count
-        → HasItem es (first k) × (stored_by class by_class (first k) ≡ k + 1)
-    pub same : (c : ℕ) → c < length by_class → 0 < slice_index by_class c
-        → class (first (slice_index by_class c - 1)) ≡ c
-    pub few : (c : ℕ) → c < length by_class → slice_index by_class c ≤ count
-
--- the events are those of a tree, and each of its objects has the number of its class
-pub record IsPlanned (es : List PlainEvent) (class : ℕ → ℕ) (by_class : List ℕ) (count : ℕ)
-    : Type 0 where
-  pub whole : IsBracketed es
-  pub classes : AreClasses es class
-  pub numbered : IsPlan es class by_class count
-  pub all : (p : ℕ) → HasItem es p → 0 < stored_by class by_class p
-  pub root : number_by class by_class 0 ≡ 0
-
-module _ (given : Classed) where
   -- the number of an event's object
-  abbrev pub object_number : Numbering → (index : ℕ) → ℕ
-  object_number numbering = number_by (class_in given) numbering.by_class
+  abbrev pub object_number : (index : ℕ) → ℕ
+  object_number index = stored_number index - 1
 
   -- the object of the event at an index has a number
-  abbrev pub IsNumbered : Numbering → (index : ℕ) → Type 0
-  IsNumbered numbering index = 0 < stored_by (class_in given) numbering.by_class index
+  abbrev pub IsNumbered : (index : ℕ) → Type 0
+  IsNumbered index = 0 < stored_number index
 
-  -- all objects of a tree's events have numbers, and their sizes are known
-  pub record IsNumberingOfEvents (numbering : Numbering) : Type 0 where
-    pub listed : IsListed given
-    pub planned : IsPlanned (events_in given) (class_in given) numbering.by_class numbering.count
-    pub open planned use *
-    pub sizes : AreSizesOf (events_in given) planned.numbered.first numbering.count numbering.sizes
+  -- each class has the number of one object, or no number yet, and the sizes are those of all
+  -- objects; `first` has an index of each object, and its tree; the ends need no class
+  pub record IsNumberedSoFar : Type 0 where
+    pub whole : IsBracketed (events_in given)
+    pub classed : IsClassed given
+    pub first : ℕ → ℕ × Tree
+    pub below : (p : ℕ) → HasItem (events_in given) p
+        → class_in given p < length numbering.by_class
+    pub small : numbering.count < 2 ^ 64
+    pub known : (k : ℕ) → k < numbering.count
+        → OccursAt (events_in given) (first k).1 (first k).0 × (stored_number (first k).0 ≡ k + 1)
+    pub same : (p : ℕ) → HasItem (events_in given) p → IsNumbered p
+        → class_in given (first (object_number p)).0 ≡ class_in given p
+    pub few : (p : ℕ) → HasItem (events_in given) p → stored_number p ≤ numbering.count
+    pub sizes : AreSizes numbering.sizes
+        (total_below (λ k. fixed_size (first k).1) numbering.count)
+        (total_below (λ k. reference_count (first k).1) numbering.count)
+    pub writable : (k : ℕ) → k < numbering.count → (x : Scalar)
+        → event_at (events_in given) (first k).0 ≡ ScalarEvent x → IsWritableScalar x
 
-  -- the classes are as many as the list says, and the numbers and sizes so far follow the classes
-  pub record IsNumberedSoFar (found : Numbering) : Type 0 where
-    pub listed : IsListed given
-    pub plan : IsPlan (events_in given) (class_in given) found.by_class found.count
-    pub sizes : AreSizesOf (events_in given) plan.first found.count found.sizes
+  -- all objects have numbers
+  pub record IsNumberingOfEvents : Type 0 where
+    pub so_far : IsNumberedSoFar
+    pub all : (p : ℕ) → HasItem (events_in given) p → IsNumbered p
+    pub root : object_number 0 ≡ 0
 
-  -- the objects of the events at these indices have numbers now, and each object that had a number
-  -- keeps it
-  pub record Numbers (indices : List ℕ) (old new : Numbering) : Type 0 where
-    pub so_far : IsNumberedSoFar new
-    pub keeps : (p : ℕ) → IsNumbered old p
-        → stored_by (class_in given) new.by_class p ≡ stored_by (class_in given) old.by_class p
-    pub numbered : AllByRecursion (IsNumbered new) indices
+-- the objects of the events at these indices have numbers now, and each object that had a number
+-- keeps it
+pub record Numbers (given : Classed) (indices : List ℕ) (old new : Numbering) : Type 0 where
+  pub so_far : IsNumberedSoFar given new
+  pub keeps : (p : ℕ) → IsNumbered given old p
+      → stored_number given new p ≡ stored_number given old p
+  pub numbered : AllByRecursion (IsNumbered given new) indices

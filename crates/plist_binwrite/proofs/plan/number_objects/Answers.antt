@@ -5,17 +5,15 @@ use Rattle.plist_binwrite.specs.inner.Numbering.{IsNumbered}
 use Rattle.plist_buffer.proofs.ChildIndices.{keys_are_in, values_are_in}
 use Rattle.plist_buffer.proofs.TreePositions.{positions_all, positions_have}
 use Rattle.plist_buffer.proofs.TreeOccurrences.{occurs_whole}
-use Rattle.plist_binwrite.proofs.NumberingSteps.{plan_none, sizes_none, still_numbered}
+use Rattle.plist_binwrite.proofs.NumberingSteps.{numbered_none, still_numbered}
 use Rattle.plist_buffer.proofs.TreeStarts.{begins, occurs_in}
 use Rattle.plist_buffer.proofs.Uniques.{all_from, all_left, all_right}
 use Rattle.plist_binwrite.proofs.plan.number_objects.Goals as goal
 
 pub number_one-requires-clause-so_far : goal.number_one-requires-clause-so_far
-number_one-requires-clause-so_far c = record {
-  listed = c.requires.classed.listed;
-  plan = rw c.in_ok-by_class.ensures.zeros (plan_none _ c.bound_of_items.ensures);
-  sizes = sizes_none c.none.ensures;
-}
+number_one-requires-clause-so_far c =
+    numbered_none _ c.requires.whole c.requires.classed c.bound_of_items.ensures
+    c.in_ok-by_class.ensures.zeros c.none.ensures
 
 pub number_one-requires-clause-item : goal.number_one-requires-clause-item
 number_one-requires-clause-item c =
@@ -51,18 +49,12 @@ returns c =
     let one = IsNumbered given c.loop-index.numbering in
     let es = events_in given in
     record {
-      listed = i.so_far.listed;
-      planned = record {
-        whole = c.requires.whole;
-        classes = c.requires.classed.objects;
-        numbered = i.so_far.plan;
-        all = λ p item. positions_all es one t e (positions_have es one
-            (λ u r s. let o = i.children r (omega (arith, occurs_in s)) in (
-              subst (AllByRecursion one) (keys_are_in _ u r s) (all_left one _ _ o),
-              subst (AllByRecursion one) (values_are_in _ u r s) (all_right one _ _ o),
-            ))
-            t 0 (occurs_whole e) i.numbered) p item.0 item.1;
-        root = i.root;
-      };
-      sizes = i.so_far.sizes;
+      so_far = i.so_far;
+      all = λ p item. positions_all es one t e (positions_have es one
+          (λ u r s. let o = i.children r (omega (arith, occurs_in s)) in (
+            subst (AllByRecursion one) (keys_are_in _ u r s) (all_left one _ _ o),
+            subst (AllByRecursion one) (values_are_in _ u r s) (all_right one _ _ o),
+          ))
+          t 0 (occurs_whole e) i.numbered) p item.0 item.1;
+      root = i.root;
     }

@@ -1,9 +1,5 @@
-use Rattle.std.proofs.Common.{◌<◌, ◌^◌, inr, refl, arith, length}
-use Rattle.plist_binwrite.specs.EventClasses.{events_in}
-use Rattle.plist_binwrite.specs.declared.classes.Classed.{Classed}
-use Rattle.plist_buffer.proofs.EntryEvents.{long_shown}
+use Rattle.std.proofs.Common.{inr, refl, arith}
 use Rattle.plist_buffer.proofs.Lengthless.{whole_bracketed}
-use Rattle.plist_buffer.specs.EventTable.{scalars_of}
 use Rattle.plist_binwrite.proofs.PlannedFiles.{oversized, plan_made}
 use Rattle.plist_binwrite.proofs.plan.plan_file.Goals as goal
 
@@ -11,18 +7,12 @@ pub number_objects-requires-clause-whole : goal.number_objects-requires-clause-w
 number_objects-requires-clause-whole c =
     whole_bracketed c.args.given.events.now c.requires.whole
 
--- there are fewer than 2^64 events
-few : (given : Classed) → length (events_in given) < 2 ^ 64
-few given =
-    let held = given.events.now in
-    omega (arith, long_shown (scalars_of held) held.entries, held.few)
-
 pub returns-in-Some-clause-plan : goal.returns-in-Some-clause-plan
 returns-in-Some-clause-plan c =
     let wide = c.reference_width-width.ensures in (
       plan_made c.in_ok-numbering.ensures c.with_width-objects.result
           (rw wide.value at c.with_width-objects.ensures) c.reference_width-width.result wide.value
-          wide.range.1 wide.fits (few c.args.given)
+          wide.range.1
           (λ size capped. omega (arith, c.in-Some.ensures.size size capped, c.in-Some.ensures.fits)),
       refl,
     )

@@ -10,7 +10,7 @@ use Rattle.plist_binwrite.proofs.send.put_keys.Given as goal
 
 abbrev pub invariant-loop-key : goal.invariant-loop-key
 invariant-loop-key g l = record {
-  long : length l.offsets ≡ l.plan.count;
+  long : length l.offsets ≡ l.plan.numbering.count;
   rest : (answer : Answer) (after : List ℕ × Sink g.row.W.Denot)
       → PutsObjects l.plan g.W.Write.contents (indices_left l.key-iterator) (l.offsets, l.sink)
       answer after

@@ -1,7 +1,6 @@
 use Rattle.std.proofs.Common.{refl}
 use Rattle.plist_base.proofs.SinkSteps.{puts_as}
-use Rattle.plist_binwrite.proofs.TreeObjects.{array_is, dictionary_is, of_array, of_dictionary, of_nothing, scalar_there}
-use Rattle.plist_binwrite.specs.inner.Layout.{number_of_event}
+use Rattle.plist_binwrite.proofs.TreeObjects.{array_is, dictionary_is, of_array, of_dictionary, of_nothing, of_scalar}
 use Rattle.plist_binwrite.proofs.send.put_object.Goals as goal
 
 pub returns-in-StartArray : goal.returns-in-StartArray
@@ -15,10 +14,7 @@ returns-in-StartDictionary g c =
     (λ ms s. puts_as (dictionary_is c.args.plan.now s) c.put_collection-in-StartDictionary.ensures)
 
 pub returns-in-Some : goal.returns-in-Some
-returns-in-Some g c = λ tree s.
-    let plan = c.args.plan.now in
-    puts_as (scalar_there (number_of_event plan) plan.width _ c.in-Some.ensures.some tree s)
-    c.put_scalar.ensures
+returns-in-Some g c = of_scalar _ c.in-Some.ensures.some c.put_scalar.ensures
 
 pub returns-in-None : goal.returns-in-None
 returns-in-None g c =

@@ -1,6 +1,7 @@
 use Rattle.std.proofs.Common.{◌≢◌, ◌∷◌, [], inl, inr, Ok, Err, arith, below_more, get_or, subst, sym, ◌∙◌}
 use Rattle.std.proofs.lemmas.Bool.{true≢false}
 use Rattle.std.proofs.lemmas.Result.{err_from_is_err_and}
+use Rattle.plist_buffer.proofs.TreeStarts.{begins, occurs_in}
 use Rattle.plist_binwrite.proofs.NumberingSteps.{known_number}
 use Rattle.plist_binwrite.specs.inner.Layout.{PutsObjects}
 use Rattle.plist_binwrite.proofs.PuttingObjects.{puts_both, puts_some}
@@ -78,12 +79,12 @@ returns-in_err-put_keys g c = λ start none put.
 
 pub returns : goal.returns
 returns g c = λ start none put.
-    let planned = c.requires.plan.planned in
+    let n = c.requires.plan.numbered in
     let after = c.loop-index.invariant.put start none put in (
       after.0,
       λ k h.
-          let known = planned.numbered.known k h in
-          subst (λ n. get_or c.loop-index.offsets n 0 ≢ 0) (known_number planned.numbered k h)
-          (after.1 _ (omega (arith, known.0.0, c.loop-index-test.false, c.len-index-end.ensures))
-          known.0),
+          let known = (n.so_far.known k h).0 in
+          subst (λ n. get_or c.loop-index.offsets n 0 ≢ 0) (known_number n k h)
+          (after.1 _ (omega (arith, occurs_in known, c.loop-index-test.false, c.len-index-end.ensures))
+          (occurs_in known, begins _ _ known)),
     )

@@ -8,7 +8,7 @@ use Rattle.plist_binwrite.proofs.send.put_objects.Given as goal
 
 abbrev pub invariant-loop-index : goal.invariant-loop-index
 invariant-loop-index g l = record {
-  long : length l.offsets ≡ l.plan.count;
+  long : length l.offsets ≡ l.plan.numbering.count;
   put : (start : Sink g.row.W.Denot) → HasPut start 0
       → ArePut l.plan g.W.Write.contents start l.fn.offsets (Ok tt) l.fn.sink
       → ArePut l.plan g.W.Write.contents start l.offsets (Ok tt) l.sink

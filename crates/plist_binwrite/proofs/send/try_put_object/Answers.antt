@@ -1,7 +1,6 @@
 use Rattle.std.proofs.Common.{refl}
 use Rattle.plist_base.proofs.SinkSteps.{puts_as, puts_pending}
-use Rattle.plist_binwrite.proofs.TreeObjects.{array_is, dictionary_is, of_array, of_dictionary, scalar_there}
-use Rattle.plist_binwrite.specs.inner.Layout.{number_of_event}
+use Rattle.plist_binwrite.proofs.TreeObjects.{array_is, dictionary_is, of_array, of_dictionary, of_scalar}
 use Rattle.plist_binwrite.proofs.send.try_put_object.Goals as goal
 
 pub returns-in-StartArray-clause-put : goal.returns-in-StartArray-clause-put
@@ -16,7 +15,6 @@ returns-in-StartDictionary-clause-put g c = λ done.
     (c.try_put_collection-in-StartDictionary.ensures.put done))
 
 pub returns-in-Some-clause-put : goal.returns-in-Some-clause-put
-returns-in-Some-clause-put g c = λ done tree s.
-    let plan = c.args.plan.now in
-    puts_as (scalar_there (number_of_event plan) plan.width _ c.in-Some.ensures.some tree s)
+returns-in-Some-clause-put g c = λ done.
+    of_scalar _ c.in-Some.ensures.some
     (puts_pending (record { writer = refl; buffer = refl }) refl (c.push_scalar.ensures.pushed done) refl)

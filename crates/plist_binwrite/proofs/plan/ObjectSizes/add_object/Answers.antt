@@ -1,11 +1,9 @@
-use Rattle.std.proofs.Common.{◌∙◌, arith, sym, ap, length}
-use Rattle.plist_buffer.specs.Children.{half_of}
-use Rattle.plist_binwrite.specs.inner.ObjectSizes.{fixed_of, references_of_event}
-use Rattle.plist_buffer.specs.EventTable.{event_at, plain_events, scalars_of}
+use Rattle.std.proofs.Common.{◌∙◌, arith, refl}
+use Rattle.plist_buffer.specs.EventTable.{plain_events, scalars_of}
 use Rattle.plist_buffer.specs.declared.children.Half.TheVariants.{Values}
 use Rattle.plist_buffer.proofs.ChildIndices.{few_children}
 use Rattle.plist_buffer.proofs.EntryEvents.{long_shown}
-use Rattle.plist_binwrite.proofs.TreeObjects.{array_sizes, capped_small, dictionary_sizes, sizes_with}
+use Rattle.plist_binwrite.proofs.TreeObjects.{capped_small, count_items, count_pairs, of_array, of_dictionary, of_nothing, of_scalar}
 use Rattle.plist_binwrite.proofs.plan.ObjectSizes.add_object.Goals as goal
 
 pub overflow_mul-count : goal.overflow_mul-count
@@ -20,33 +18,25 @@ overflow_mul-count c =
     )
 
 pub returns-in-StartArray-clause-size : goal.returns-in-StartArray-clause-size
-returns-in-StartArray-clause-size c =
-    let es = plain_events c.args.events.now in
-    let event = event_at es c.args.index in
-    let count = c.count_children-count.ensures in
-    let sizes = array_sizes event c.count_children-count.result
-    (sym c.in-StartArray.is ∙ c.kind_at.ensures) in
-    sizes_with es c.args.index c.length_of_count.result _ _
-    (capped_small (c.length_of_count.ensures.value 0xa) (omega (arith, c.length_of_count.ensures.small))) (sizes.0 ∙ ap (fixed_of event) count)
-    (sizes.1 ∙ ap (references_of_event event) count) c.add.ensures
+returns-in-StartArray-clause-size c = λ a b s.
+    of_array c.kind_at.ensures _ c.in-StartArray.is (λ ts o.
+    rw (← (c.count_children-count.ensures ∙ count_items o)) (c.add.ensures a b _ s
+    (capped_small (c.length_of_count.ensures.value 0xa)
+    (omega (arith, c.length_of_count.ensures.small)))))
 
 pub returns-in-StartDictionary-clause-size : goal.returns-in-StartDictionary-clause-size
-returns-in-StartDictionary-clause-size c =
-    let es = plain_events c.args.events.now in
-    let event = event_at es c.args.index in
-    let count = c.count_children-count-in-StartDictionary.ensures in
-    let sizes = dictionary_sizes event c.count_children-count-in-StartDictionary.result
-    (sym c.in-StartDictionary.is ∙ c.kind_at.ensures) in
-    sizes_with es c.args.index c.length_of_count-in-StartDictionary.result _ _
+returns-in-StartDictionary-clause-size c = λ a b s.
+    of_dictionary c.kind_at.ensures _ c.in-StartDictionary.is (λ ms o.
+    rw (← (c.count_children-count-in-StartDictionary.ensures ∙ count_pairs o))
+    (c.add-in-StartDictionary.ensures a b _ s
     (capped_small (c.length_of_count-in-StartDictionary.ensures.value 0xd)
-    (omega (arith, c.length_of_count-in-StartDictionary.ensures.small))) (sizes.0 ∙ ap (fixed_of event) count)
-    (sizes.1 ∙ ap (references_of_event event) count) c.add-in-StartDictionary.ensures
+    (omega (arith, c.length_of_count-in-StartDictionary.ensures.small)))))
 
 pub returns-in-Some-clause-size : goal.returns-in-Some-clause-size
-returns-in-Some-clause-size c =
-    let es = plain_events c.args.events.now in
-    let count = length (half_of es Values c.args.index) in
-    let single = sym c.in-Some.ensures.some in
-    sizes_with es c.args.index c.length_of_scalar.result _ 0 c.length_of_scalar.ensures.value
-    (ap (λ event. fixed_of event count) single)
-    (ap (λ event. references_of_event event count) single) c.add-in-Some.ensures
+returns-in-Some-clause-size c = λ a b s.
+    of_scalar _ c.in-Some.ensures.some
+    (c.add-in-Some.ensures a b _ s c.length_of_scalar.ensures.value)
+
+pub returns-in_default-clause-size : goal.returns-in_default-clause-size
+returns-in_default-clause-size c = λ a b s.
+    of_nothing c.kind_at.ensures _ c.in-Scalar.is (c.in_default.ensures.none refl)
