@@ -5,8 +5,7 @@ use Rattle.plist_base.specs.Trees as trees
 use Rattle.plist_base.specs.Trees.{Scalar, Tree, Leaf, Array, Dictionary, Trees, NoTrees, TreeAnd, Members, NoMembers, MemberAnd}
 use Rattle.plist_format.specs.Object as obj
 use Rattle.plist_format.specs.Object.{Object}
-use Rattle.plist_binwrite.specs.Classes.{AreClasses}
-use Rattle.plist_binwrite.specs.Numberings.{object_of, Describes}
+use Rattle.plist_binwrite.specs.Classes.{AreClasses, object_of, Describes}
 use Rattle.plist_binwrite.specs.EventClasses.{class_in, events_in}
 use Rattle.plist_binwrite.specs.declared.classes.Classed.{Classed}
 use Rattle.plist_binwrite.specs.declared.plan.Numbering.{Numbering}

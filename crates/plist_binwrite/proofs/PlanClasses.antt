@@ -12,7 +12,7 @@ use Rattle.plist_binwrite.specs.Classes.{representatives, count_by, objects_by, 
 use Rattle.plist_binwrite.specs.EventClasses.{class_in, events_in}
 use Rattle.plist_binwrite.specs.declared.classes.Classed.{Classed}
 use Rattle.plist_binwrite.specs.declared.plan.Numbering.{Numbering}
-use Rattle.plist_binwrite.specs.inner.Numbering.{IsNumberingOfEvents, object_number}
+use Rattle.plist_binwrite.specs.inner.Numbering.{IsNumberingOfEvents, object_number, total_below}
 use Rattle.plist_binwrite.specs.Sizes.{total, object_size, size_with}
 use Rattle.plist_binwrite.specs.Forms.{reference_width}
 use Rattle.plist_buffer.specs.Occurrences.{positions}
@@ -22,7 +22,6 @@ use Rattle.plist_buffer.proofs.SameScalars.{tells_both}
 use Rattle.plist_buffer.proofs.TreeOccurrences.{occurs_whole}
 use Rattle.plist_buffer.proofs.TreeStarts.{begins, occurs_in}
 use Rattle.plist_binwrite.proofs.NumberingSteps.{known_number}
-use Rattle.plist_binwrite.specs.inner.ObjectSizes.{total_below}
 use Rattle.plist_binwrite.proofs.Totals.{count_below, total_all, unique_member, unique_distinct, total-map, total_equal, total_one}
 use Rattle.plist_buffer.proofs.Uniques.{all_from, all_unique, members_self, member_has, unique_seen}
 

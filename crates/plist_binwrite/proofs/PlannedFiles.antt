@@ -17,10 +17,9 @@ use Rattle.plist_binwrite.specs.Sizes.{collections_in, object_size, size_with}
 use Rattle.plist_binwrite.specs.Forms.{form, table_form, AllFit, reference_width, least_width}
 use Rattle.plist_binwrite.specs.EventClasses.{class_in, events_in}
 use Rattle.plist_binwrite.specs.inner.Layout.{IsFilePlan, IsLayout, PutsFile, number_of_event}
-use Rattle.plist_binwrite.specs.inner.ObjectSizes.{AreSizes, IsCapped, total_below}
+use Rattle.plist_binwrite.specs.inner.Numbering.{AreSizes, IsCapped, total_below, IsNumberingOfEvents}
 use Rattle.plist_binwrite.specs.declared.plan.Numbering.{Numbering}
 use Rattle.plist_binwrite.proofs.Totals.{total_below_sum}
-use Rattle.plist_binwrite.specs.inner.Numbering.{IsNumberingOfEvents}
 use Rattle.plist_buffer.specs.Occurrences.{positions}
 use Rattle.plist_binwrite.specs.Written.{Laid, file_with, laid_out, object_table}
 use Rattle.plist_binwrite.specs.declared.classes.Classed.{Classed}

@@ -17,12 +17,12 @@ use Rattle.plist_binwrite.proofs.ClassObjects.{numbered}
 use Rattle.plist_binwrite.proofs.NumberingSteps.{numbers_below}
 use Rattle.plist_binwrite.specs.EventClasses.{events_in}
 use Rattle.plist_binwrite.specs.declared.plan.FilePlan.{FilePlan}
-use Rattle.plist_binwrite.specs.inner.Layout.{ArePut, HasStoredOffset, IsFilePlan, KeepsOffsets, LacksObject, PutsFile, PutsObject, PutsObjects, number_of_event}
+use Rattle.plist_binwrite.specs.inner.Layout.{ArePut, HasStoredOffset, IsFilePlan, LacksObject, PutsFile, PutsObject, PutsObjects, number_of_event}
 use Rattle.plist_base.specs.Trees.{Tree}
 use Rattle.plist_buffer.proofs.Uniques.{all_both, all_from, all_left}
 use Rattle.plist_buffer.specs.EventTable.{HasItem}
 use Rattle.plist_buffer.specs.Occurrences.{OccursAt}
-use Rattle.plist_binwrite.specs.Numberings.{object_of}
+use Rattle.plist_binwrite.specs.Classes.{object_of}
 use Rattle.plist_binwrite.proofs.TreeObjects.{occurs_at}
 use Rattle.plist_binwrite.proofs.ObjectOffsets.{all_zero, continued, laid_below, laid_more, laid_one, length-magic, next_layout, placed, still_placed}
 use Rattle.plist_binwrite.proofs.PlannedFiles.{file_made}
@@ -122,7 +122,7 @@ module _ {plan : FilePlan} (r : IsFilePlan plan) {W : Type 0} {contents : W → 
       positive : 0 < v
       positive = omega (arith, position_is v is, length-magic (object_table plan.width a.objects a.order))
 
-      pub put_kept : KeepsOffsets plan offsets (set offsets k v)
+      pub put_kept : (q : ℕ) → get_or offsets q 0 ≢ 0 → get_or (set offsets k v) q 0 ≢ 0
       put_kept = still_placed offsets k v low positive
 
       pub put_placed : HasStoredOffset plan (set offsets k v) p

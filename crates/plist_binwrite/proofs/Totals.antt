@@ -8,7 +8,7 @@ use Rattle.std.proofs.lemmas.List.Elements.{All-filter, All-from_recursion, recu
 use Rattle.std.proofs.lemmas.Map.Made.{is_member-filter}
 use Rattle.std.proofs.lemmas.Bool.Decides.{eqb_tells}
 use Rattle.plist_binwrite.specs.Sizes.{total}
-use Rattle.plist_binwrite.specs.inner.ObjectSizes.{total_below}
+use Rattle.plist_binwrite.specs.inner.Numbering.{total_below}
 use Rattle.std.proofs.Math.Nat.{add-mul}
 use Rattle.plist_buffer.proofs.Uniques.{few_below}
 

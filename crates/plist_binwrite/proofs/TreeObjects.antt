@@ -6,12 +6,12 @@ use Rattle.plist_base.specs.Trees.{number_of_trees, number_of_members, Scalar, S
 use Rattle.plist_base.specs.declared.event.EventShape.{EventShape}
 use Rattle.plist_base.specs.declared.event.EventShape.TheVariants as shape
 use Rattle.plist_buffer.specs.Occurrences.{event_count, OccursAt, ItemsOccurAt, PairsOccurAt}
-use Rattle.plist_binwrite.specs.Numberings.{object_of}
+use Rattle.plist_binwrite.specs.Classes.{object_of}
 use Rattle.plist_binwrite.specs.Forms.{length_form, units_of, is_ascii_text, scalar_form, form, key_numbers, value_numbers, IsWritable, IsWritableScalar, AllFit}
 use Rattle.std.specs.Int.{bytes_high_first}
 use Rattle.plist_buffer.specs.EventTable.{HasItem, event_at, item_indices, key_indices, value_indices, IsBracketed}
 use Rattle.plist_binwrite.specs.Sizes.{object_size}
-use Rattle.plist_binwrite.specs.inner.ObjectSizes.{IsCapped}
+use Rattle.plist_binwrite.specs.inner.Numbering.{IsCapped}
 use Rattle.plist_buffer.specs.Children.{half_of}
 use Rattle.plist_buffer.specs.declared.children.Half.TheVariants.{Values}
 use Rattle.plist_format.specs.declared.marker.CountedKind.TheVariants as counted

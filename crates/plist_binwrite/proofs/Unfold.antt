@@ -17,7 +17,7 @@ use Rattle.plist_format.specs.Visits.{visits_within, visits_of}
 use Rattle.plist_binwrite.specs.Sizes.{collection_of}
 use Rattle.plist_buffer.specs.EventTable.{item_indices, key_indices, value_indices}
 use Rattle.plist_buffer.specs.Occurrences.{event_count, OccursAt, ItemsOccurAt, PairsOccurAt, positions, positions_in_items, positions_in_pairs}
-use Rattle.plist_binwrite.specs.Numberings.{object_of}
+use Rattle.plist_binwrite.specs.Classes.{object_of}
 use Rattle.plist_buffer.proofs.Uniques.{all_from}
 use Rattle.plist_buffer.proofs.TreeOccurrences.{occurs_items, occurs_pairs, occurs_item, occurs_next, occurs_key, occurs_value, occurs_next_pair}
 

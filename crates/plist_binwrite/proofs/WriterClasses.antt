@@ -8,10 +8,9 @@ use Rattle.std.proofs.lemmas.List.{map-id}
 use Rattle.plist_base.specs.Bracketing.{lengthless, lengthless_items, lengthless_pairs}
 use Rattle.plist_base.specs.Events.{PlainEvent, EndCollection}
 use Rattle.plist_base.specs.Trees.{Scalar, Tree, Leaf, Array, Dictionary, Trees, NoTrees, TreeAnd, Members, NoMembers, MemberAnd}
-use Rattle.plist_binwrite.specs.Classes.{AreClasses, representatives, count_by, objects_by, size_by}
+use Rattle.plist_binwrite.specs.Classes.{AreClasses, representatives, count_by, objects_by, size_by, object_of}
 use Rattle.plist_base.specs.Scalars.{scalar_eq}
 use Rattle.plist_binwrite.specs.Sizes.{object_count, scalars_in, collections_in, leaf_scalar, collection_of, total, object_size, size_with, file_size}
-use Rattle.plist_binwrite.specs.Numberings.{object_of}
 use Rattle.plist_binwrite.specs.inner.Scalars.{Identity, shared, alone, identity_of, identity_at, AreIdentities}
 use Rattle.plist_buffer.specs.Occurrences.{event_count, OccursAt, positions, positions_in_items, positions_in_pairs}
 use Rattle.plist_binwrite.specs.Forms.{reference_width, scalar_form}

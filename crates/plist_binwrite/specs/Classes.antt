@@ -1,16 +1,31 @@
 -- Classes of the indices at which trees begin, and files that have one object for each class.
-use Rattle.std.specs.Prelude.{◌≡◌, ℕ, ◌^◌, ◌<◌, List, length, map, nat_eq}
+use Rattle.std.specs.Prelude.{◌≡◌, ℕ, ◌+◌, ◌^◌, ◌<◌, List, length, map, nat_eq, zip}
 use Rattle.std.specs.Set.{unique_keys}
 use Rattle.plist_base.specs.Bracketing.{lengthless}
 use Rattle.plist_base.specs.Events.{PlainEvent}
-use Rattle.plist_base.specs.Trees.{Tree}
+use Rattle.plist_base.specs.Trees.{Tree, Leaf, Array, Dictionary}
+use Rattle.plist_format.specs.Object as obj
+use Rattle.plist_format.specs.Object.{Object}
 use Rattle.plist_format.specs.Visits.{visits}
 use Rattle.plist_binwrite.specs.Sizes.{HasObjects, collections_in, total, object_size, size_with}
-use Rattle.plist_binwrite.specs.Numberings.{object_of}
 use Rattle.plist_binwrite.specs.SendingAs.{FileKind}
+use Rattle.plist_buffer.specs.EventTable.{item_indices, key_indices, value_indices}
 use Rattle.plist_buffer.specs.Occurrences.{OccursAt, positions}
 use Rattle.plist_binwrite.specs.Forms.{reference_width}
 use Rattle.plist_binwrite.specs.Written.{IsWrittenAs}
+
+-- the object of the tree that begins at index p, if `num` maps the index of an event to the number
+-- of its object
+abbrev pub object_of : (num : ℕ → ℕ) → Tree → ℕ → Object
+object_of num (Leaf x) p = obj.Scalar x
+object_of num (Array ts) p = obj.Array (map num (item_indices ts (p + 1)))
+object_of num (Dictionary ms) p =
+    obj.Dictionary (zip (map num (key_indices ms (p + 1))) (map num (value_indices ms (p + 1))))
+
+-- these are the objects of the trees among the events, by their numbers
+abbrev pub Describes : List PlainEvent → (number : ℕ → ℕ) → (ℕ → Object) → Type 0
+Describes es number objects = (t : Tree) (p : ℕ) → OccursAt es t p
+    → objects (number p) ≡ object_of number t p
 
 -- if the class of an index is taken as its object number, trees that begin at indices of one class
 -- have the same object

@@ -2,6 +2,5 @@
 pub mod Laws
 pub mod Layout
 pub mod Numbering
-pub mod ObjectSizes
 pub mod Scalars
 pub mod Units

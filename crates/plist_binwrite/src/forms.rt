@@ -9,7 +9,7 @@
 ghost use Rattle.std.specs.Prelude.{◌≡◌, ◌≤◌, ◌<◌, ◌+◌, ℕ, Ok, length, true, false};
 ghost use Rattle.plist_base.specs.Trees as trees;
 ghost use Rattle.plist_binwrite.specs.Forms.{IsWritableScalar, unsigned_form, length_form, scalar_form, table_form};
-ghost use Rattle.plist_binwrite.specs.inner.ObjectSizes.{IsCapped};
+ghost use Rattle.plist_binwrite.specs.inner.Numbering.{IsCapped};
 ghost use Rattle.std.specs.Int.{bytes_high_first};
 ghost use Rattle.plist_buffer.specs.StoredScalars.{scalar_of_ref};
 ghost use Rattle.plist_format.specs.Marker.{high_half};

@@ -11,8 +11,7 @@ ghost use Rattle.plist_binwrite.specs.EventClasses.{IsClassed, class_in, events_
 ghost use Rattle.plist_binwrite.specs.SendingAs.{IsOfTree};
 ghost use Rattle.plist_binwrite.specs.Sizes.{size_with};
 ghost use Rattle.plist_binwrite.specs.inner.Layout.{IsFilePlan};
-ghost use Rattle.plist_binwrite.specs.inner.Numbering.{IsNumberingOfEvents, object_number};
-ghost use Rattle.plist_binwrite.specs.inner.ObjectSizes.{IsCapped};
+ghost use Rattle.plist_binwrite.specs.inner.Numbering.{IsNumberingOfEvents, object_number, IsCapped};
 ghost use Rattle.plist_buffer.specs.Children.{half_of};
 ghost use Rattle.plist_buffer.specs.EventTable.{HasItem, IsBracketed, plain_events};
 ghost use Rattle.plist_buffer.specs.declared.children.Half.TheVariants.{Values};
@@ -63,7 +62,7 @@ impl ObjectSizes {
     ghost use Rattle.plist_base.specs.Events.{ScalarEvent};
     ghost use Rattle.plist_base.specs.Trees.{Scalar, Tree};
     ghost use Rattle.plist_binwrite.specs.Forms.{IsWritableScalar};
-    ghost use Rattle.plist_binwrite.specs.inner.ObjectSizes.{AreSizes, IsCapped};
+    ghost use Rattle.plist_binwrite.specs.inner.Numbering.{AreSizes, IsCapped};
     ghost use Rattle.plist_binwrite.specs.Sizes.{fixed_size, reference_count};
     ghost use Rattle.plist_buffer.specs.EventTable.{HasItem, plain_events, table_event};
     ghost use Rattle.plist_buffer.specs.Occurrences.{OccursAt};

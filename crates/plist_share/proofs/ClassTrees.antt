@@ -8,10 +8,9 @@ use Rattle.plist_base.specs.Trees.{Scalar, Tree, Leaf, Array, Dictionary, Trees,
 use Rattle.plist_base.specs.Events.{PlainEvent, shape_of}
 use Rattle.plist_format.specs.Object as obj
 use Rattle.plist_format.specs.Object.{dictionary}
-use Rattle.plist_binwrite.specs.Classes.{AreClasses}
+use Rattle.plist_binwrite.specs.Classes.{AreClasses, object_of}
 use Rattle.plist_binwrite.specs.Forms.{key_numbers, value_numbers}
 use Rattle.plist_buffer.specs.EventTable.{item_indices, key_indices, value_indices, keys_in, values_in, event_at, nth_number}
-use Rattle.plist_binwrite.specs.Numberings.{object_of}
 use Rattle.plist_binwrite.proofs.Unfold.{pairs}
 use Rattle.plist_buffer.specs.Occurrences.{OccursAt}
 use Rattle.plist_base.specs.declared.event.EventShape.{EventShape}

@@ -4,7 +4,7 @@ use Rattle.std.proofs.Common.{◌≡◌, ℕ, ◌+◌, List, ◌∷◌, refl, ap
 use Rattle.plist_base.specs.Events.{PlainEvent}
 use Rattle.plist_base.specs.Trees.{Tree, Leaf, Array, Dictionary, Trees, NoTrees, TreeAnd, Members, NoMembers, MemberAnd}
 use Rattle.plist_format.specs.Object as obj
-use Rattle.plist_binwrite.specs.Numberings.{object_of}
+use Rattle.plist_binwrite.specs.Classes.{object_of}
 use Rattle.plist_binwrite.proofs.Unfold.{pairs, references}
 use Rattle.plist_buffer.specs.Occurrences.{event_count, OccursAt, ItemsOccurAt, PairsOccurAt}
 use Rattle.plist_buffer.proofs.TreeOccurrences.{occurs_items, occurs_pairs, occurs_item, occurs_next, occurs_key, occurs_value, occurs_next_pair}

@@ -1,15 +1,15 @@
 -- Each call of a `FileWriter` satisfies the laws of `Writer`.
-use Rattle.std.proofs.Common.{◌≡◌, ◌⊎◌, inl, inr, true, false, [], ◌∷◌, ◌++◌, Ok, Err, ap, ◌∙◌, map}
+use Rattle.std.proofs.Common.{◌≡◌, inl, inr, true, false, [], ◌∷◌, ◌++◌, Ok, Err, ap, ◌∙◌, map}
 use Rattle.std.specs.declared.io.traits.Write.{Ghosts}
 use Rattle.plist_base.specs.Bracketing.{without_length}
 use Rattle.plist_base.specs.Events.{PlainEvent}
 use Rattle.plist_base.specs.Faults.{FaultKind, fault_without_offset, UnexpectedEventType, ExpectedEndOfEventStream, Io, OutOfMemory, WriterFailed, PlistTooLarge}
-use Rattle.plist_base.specs.Writing.{Answer, MatchKind, AnswersByOrder, IsHeldAfter}
+use Rattle.plist_base.specs.Writing.{Answer, MatchKind, AnswersByOrder}
 use Rattle.std.proofs.lemmas.Bool.{MatchBool-at_true, MatchBool-at_false}
 use Rattle.plist_base.proofs.Lengths.{alike_last, continue_alike}
 use Rattle.plist_binwrite.specs.declared.sharing.Sharing.{Ghosts as SharingGhosts}
 use Rattle.plist_binwrite.specs.declared.writer.FileWriter.{FileWriter}
-use Rattle.plist_binwrite.specs.FileWriter.{IsWriterStep, TakesEvent, Completes, Holds, open_events, failed_of}
+use Rattle.plist_binwrite.specs.FileWriter.{IsWriterStep, TakesEvent, open_events, failed_of}
 
 -- a fact that depends on a fault's kind implies another one if each case of the first implies that
 -- of the other
@@ -24,22 +24,18 @@ by_kind kind a b c d f g h = h
 
 module _ {W S : Type 0} {g : Ghosts W} {h : SharingGhosts S}
     (before : FileWriter W S g h) (event : PlainEvent) where
-  -- after an accepted event, the buffered events are as the law says
-  goes_on : (after : FileWriter W S g h)
-      → Completes before event after
-      ⊎ Holds before event after
-      → IsHeldAfter (open_events before) event (open_events after)
-  goes_on after (inl c) = inl c.0.1.0.0
-  goes_on after (inr h) =
-      inr (continue_alike (open_events after) (open_events before ++ event ∷ [])
-      (ap (map without_length) h.1 ∙ alike_last (open_events before) event))
-
   -- if the writer hasn't failed, the effect of a call satisfies the law
   taken : (answer : Answer) (after : FileWriter W S g h)
       → TakesEvent before event answer after
       → AnswersByOrder (open_events before) event answer (open_events after) (failed_of after)
       (after ≡ before)
-  taken (Ok done) after t = (t.0, t.1, goes_on after t.2)
+  taken (Ok done) after (can, fine, inl completes) = (can, fine, inl completes.0.1.0.0)
+  taken (Ok done) after (can, fine, inr holds) = (
+    can,
+    fine,
+    inr (continue_alike (open_events after) (open_events before ++ event ∷ [])
+        (ap (map without_length) holds.1 ∙ alike_last (open_events before) event)),
+  )
   taken (Err fault) after t =
       (t.0, by_kind fault.kind _ _ _ _ (λ r. (r.0, r.2)) (λ f. (f.0, f.1)) t.1)
 

@@ -15,15 +15,13 @@ use Rattle.plist_buffer.specs.declared.children.Half.{Half}
 use Rattle.plist_buffer.specs.declared.children.Half.TheVariants.{Keys, Values}
 use Rattle.plist_format.specs.Marker.{high_half}
 use Rattle.plist_format.specs.declared.marker.CountedKind.{CountedKind}
-use Rattle.plist_binwrite.specs.Classes.{IsFileBy}
+use Rattle.plist_binwrite.specs.Classes.{Describes, IsFileBy, object_of}
 use Rattle.plist_binwrite.specs.EventClasses.{events_in, class_in}
 use Rattle.plist_binwrite.specs.Forms.{form, length_form, reference_width, table_form, units_of}
-use Rattle.plist_binwrite.specs.Numberings.{Describes, object_of}
 use Rattle.plist_binwrite.specs.Sizes.{object_size, size_with}
 use Rattle.plist_binwrite.specs.Written.{Laid, laid_out}
 use Rattle.plist_binwrite.specs.declared.plan.FilePlan.{FilePlan}
-use Rattle.plist_binwrite.specs.inner.Numbering.{IsNumberingOfEvents, object_number}
-use Rattle.plist_binwrite.specs.inner.ObjectSizes.{total_below}
+use Rattle.plist_binwrite.specs.inner.Numbering.{IsNumberingOfEvents, object_number, total_below}
 
 -- the UTF-16 units of the first characters of a string are pushed; `old` and `new` are the buffer
 -- and the rest of the string
@@ -38,10 +36,6 @@ module _ (plan : FilePlan) where
   -- the number of the object of the event at an index
   abbrev pub number_of_event : (index : ℕ) → ℕ
   number_of_event = object_number plan.given plan.numbering
-
-  -- these are the objects of a planned file
-  abbrev pub AreObjectsOf : (ℕ → Object) → Type 0
-  AreObjectsOf objects = Describes (events_in plan.given) number_of_event objects
 
   -- the file of the tree with these events is planned; it has less than 2^64 bytes
   pub record IsFilePlan : Type 0 where
@@ -75,52 +69,49 @@ module _ (plan : FilePlan) where
   abbrev pub HasStoredOffset : (offsets : List ℕ) → (index : ℕ) → Type 0
   HasStoredOffset offsets index = slice_index offsets (number_of_event index) ≢ 0
 
-  -- each object that had an offset has one
-  abbrev pub KeepsOffsets : (old new : List ℕ) → Type 0
-  KeepsOffsets old new = (k : ℕ) → slice_index old k ≢ 0 → slice_index new k ≢ 0
-
   -- these are the objects of a planned file; those in the order lie back to back, and exactly these
   -- have an offset other than 0
   pub record IsLayout (objects : ℕ → Object) (order offsets : List ℕ) : Type 0 where
-    pub described : AreObjectsOf objects
+    pub described : Describes (events_in plan.given) number_of_event objects
     pub long : length offsets ≡ plan.numbering.count
     pub distinct : IsDistinct eqb order
     pub marked : (k : ℕ) → (list_any (eqb k) order ≡ true) ↔ (slice_index offsets k ≢ 0)
     pub laid : Laid plan.width objects offsets order 8
 
-  module _ {W : Type 0} (contents : W → Option (List ℕ)) (start : Sink W) where
+  module _ {W : Type 0} (contents : W → Option (List ℕ)) where
     -- the magic and some of the objects are put
-    pub record ArePut (offsets : List ℕ) (answer : Answer) (sink : Sink W) : Type 0 where
+    pub record ArePut (start : Sink W) (offsets : List ℕ) (answer : Answer) (sink : Sink W)
+        : Type 0 where
       pub objects : ℕ → Object
       pub order : List ℕ
       pub layout : IsLayout objects order offsets
       pub put : PutsBytes contents start (laid_out plan.width objects order) answer sink
 
     -- a file of the tree with these events is put
-    abbrev pub PutsFile : Answer → Sink W → Type 0
-    PutsFile answer sink = (file : List ℕ) × ((tree : Tree)
+    abbrev pub PutsFile : (start : Sink W) → Answer → Sink W → Type 0
+    PutsFile start answer sink = (file : List ℕ) × ((tree : Tree)
         → AreAlike (events_in plan.given) (bracketing tree) → IsFileBy (class_in plan.given) tree file)
         × PutsBytes contents start file answer sink
 
-  -- a call puts the object of the tree that begins at an index, with this result
-  abbrev pub PutsObject : {W : Type 0} (contents : W → Option (List ℕ)) (index : ℕ) (old : Sink W)
-      (answer : Answer) (new : Sink W) → Type 0
-  PutsObject contents index old answer new =
-      (tree : Tree) → OccursAt (events_in plan.given) tree index → PutsBytes contents old
-      (form plan.width (object_of number_of_event tree index)) answer new
+    -- a call puts the object of the tree that begins at an index, with this result
+    abbrev pub PutsObject : (index : ℕ) (old : Sink W) → Answer → (new : Sink W) → Type 0
+    PutsObject index old answer new =
+        (tree : Tree) → OccursAt (events_in plan.given) tree index → PutsBytes contents old
+        (form plan.width (object_of number_of_event tree index)) answer new
 
-  -- the objects of the events at these indices, and maybe others, are put, unless they were put
-  -- before; `old` and `new` are the offsets and the sink before and after
-  pub record PutsObjects {W : Type 0} (contents : W → Option (List ℕ)) (indices : List ℕ)
-      (old : List ℕ × Sink W) (answer : Answer) (new : List ℕ × Sink W) : Type 0 where
-    pub long : length new.0 ≡ length old.0
-    pub step : (start : Sink W) → HasPut start 0 → ArePut contents start old.0 (Ok tt) old.1
-        → ArePut contents start new.0 answer new.1 × KeepsOffsets old.0 new.0
-        × OnOk answer (AllByRecursion (HasStoredOffset new.0) indices)
+    -- the objects of the events at these indices, and maybe others, are put, unless they were put
+    -- before, and each object that had an offset has one; `old` and `new` are the offsets and the
+    -- sink before and after
+    pub record PutsObjects (indices : List ℕ) (old : List ℕ × Sink W) (answer : Answer)
+        (new : List ℕ × Sink W) : Type 0 where
+      pub long : length new.0 ≡ length old.0
+      pub step : (start : Sink W) → HasPut start 0 → ArePut start old.0 (Ok tt) old.1
+          → ArePut start new.0 answer new.1
+          × ((k : ℕ) → slice_index old.0 k ≢ 0 → slice_index new.0 k ≢ 0)
+          × OnOk answer (AllByRecursion (HasStoredOffset new.0) indices)
 
-  -- only the object of the event at an index, whose offset is stored, still has to be put
-  abbrev pub LacksObject : {W : Type 0} (contents : W → Option (List ℕ)) (index : ℕ)
-      (old new : List ℕ × Sink W) → Type 0
-  LacksObject {W} contents index old new = (answer : Answer) (after : Sink W)
-      → PutsObject contents index new.1 answer after
-      → PutsObjects contents (index ∷ []) old answer (new.0, after)
+    -- only the object of the event at an index, whose offset is stored, still has to be put
+    abbrev pub LacksObject : (index : ℕ) (old new : List ℕ × Sink W) → Type 0
+    LacksObject index old new = (answer : Answer) (after : Sink W)
+        → PutsObject index new.1 answer after
+        → PutsObjects (index ∷ []) old answer (new.0, after)

@@ -1,6 +1,8 @@
--- The numbers of objects. `by_class` has 1 more than the number of each class's object, or 0 if
--- that has no number yet. `count` objects have numbers, which are those below `count`.
-use Rattle.std.specs.Prelude.{◌≡◌, ℕ, ◌+◌, ◌-◌, ◌^◌, ◌<◌, ◌≤◌, List, length, slice_index}
+-- The sizes and the numbers of objects. A size is the bytes without references, and the number of
+-- references, whose width isn't known yet. `by_class` has 1 more than the number of each class's
+-- object, or 0 if that has no number yet. `count` objects have numbers, which are those below
+-- `count`.
+use Rattle.std.specs.Prelude.{◌≡◌, ℕ, zero, suc, ◌+◌, ◌-◌, ◌^◌, ◌<◌, ◌≤◌, List, length, min, slice_index}
 use Rattle.std.specs.List.{AllByRecursion}
 use Rattle.plist_base.specs.Events.{ScalarEvent}
 use Rattle.plist_base.specs.Trees.{Scalar, Tree}
@@ -11,7 +13,23 @@ use Rattle.plist_binwrite.specs.Forms.{IsWritableScalar}
 use Rattle.plist_binwrite.specs.Sizes.{fixed_size, reference_count}
 use Rattle.plist_binwrite.specs.declared.classes.Classed.{Classed}
 use Rattle.plist_binwrite.specs.declared.plan.Numbering.{Numbering}
-use Rattle.plist_binwrite.specs.inner.ObjectSizes.{AreSizes, total_below}
+use Rattle.plist_binwrite.specs.declared.plan.ObjectSizes.{ObjectSizes}
+
+-- the sum of the weights of the numbers below a count
+abbrev pub total_below : (weight : ℕ → ℕ) → (count : ℕ) → ℕ
+total_below weight zero = 0
+total_below weight (suc count) = weight count + total_below weight count
+
+-- the number is a size, or 2^64 - 1 if the size is greater
+abbrev pub IsCapped : (number size : ℕ) → Type 0
+IsCapped number size = number ≡ min size (2 ^ 64 - 1)
+
+-- objects have this many bytes, without their references, and this many references
+pub record AreSizes (sizes : ObjectSizes) (fixed references : ℕ) : Type 0 where
+  pub bytes : IsCapped sizes.fixed fixed
+  pub links : IsCapped sizes.references references
+
+-- ---- numbers
 
 module _ (given : Classed) (numbering : Numbering) where
   -- 1 more than the number of an event's object, or 0 if that has no number yet
