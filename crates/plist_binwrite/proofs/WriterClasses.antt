@@ -11,32 +11,20 @@ use Rattle.plist_base.specs.Trees.{Scalar, Tree, Leaf, Array, Dictionary, Trees,
 use Rattle.plist_binwrite.specs.Classes.{AreClasses, representatives, count_by, objects_by, size_by, object_of}
 use Rattle.plist_base.specs.Scalars.{scalar_eq}
 use Rattle.plist_binwrite.specs.Sizes.{object_count, scalars_in, collections_in, leaf_scalar, collection_of, total, object_size, size_with, file_size}
-use Rattle.plist_binwrite.specs.inner.Scalars.{Identity, shared, alone, identity_of, identity_at, AreIdentities}
+use Rattle.plist_binwrite.specs.inner.Scalars.{alone, identity_of, AreIdentities}
 use Rattle.plist_buffer.specs.Occurrences.{event_count, OccursAt, positions, positions_in_items, positions_in_pairs}
 use Rattle.plist_binwrite.specs.Forms.{reference_width, scalar_form}
 use Rattle.plist_buffer.proofs.TreePositions.{Stands, one_tree, positions_stand}
 use Rattle.plist_binwrite.proofs.Identities.{owner_eq, owners_tell}
 use Rattle.plist_buffer.proofs.SameScalars.{tells_both}
 use Rattle.plist_buffer.proofs.TreeOccurrences.{occurs_whole}
-use Rattle.plist_buffer.proofs.TreeStarts.{stands_single, starts_array, starts_dictionary, occurs_in}
 use Rattle.plist_binwrite.proofs.Totals.{total_one}
 use Rattle.plist_buffer.proofs.Uniques.{unique_seen}
 use Rattle.plist_binwrite.proofs.ClassObjects.{same_class}
 
--- ---- the owner of a tree: its scalar, or the index at which a collection begins
-
-abbrev own_tree : Tree → ℕ → Identity
-own_tree (Leaf x) p = shared x
-own_tree t p = alone p
-
-owner_is : {es : List PlainEvent} (t : Tree) (p : ℕ) → OccursAt es t p → identity_at es p ≡ own_tree t p
-owner_is (Leaf x) p s = ap (λ e. identity_of e p) (stands_single s)
-owner_is (Array ts) p s = ap (λ e. identity_of e p) (starts_array s)
-owner_is (Dictionary ms) p s = ap (λ e. identity_of e p) (starts_dictionary s)
-
--- trees with one owner share an object
+-- trees with one identity have one object
 same_owner : {es : List PlainEvent} (num : ℕ → ℕ) (u v : Tree) (p q : ℕ)
-    → own_tree v q ≡ own_tree u p → OccursAt es u p → OccursAt es v q
+    → identity_of v q ≡ identity_of u p → OccursAt es u p → OccursAt es v q
     → object_of num v q ≡ object_of num u p
 same_owner num (Leaf x) (Leaf y) p q e s r = cc
 same_owner num (Leaf x) v p q e s r = cc
@@ -46,20 +34,9 @@ same_owner {es} num u v p q e s r =
     let t = one_tree v u p (rw (← k) r) s in λ i. object_of num (t i) (k i)
 
 module _ {es : List PlainEvent} {class : ℕ → ℕ} {count : ℕ} (o : AreIdentities es class count) where
-  pub class_owner : (t u : Tree) (p q : ℕ) → OccursAt es t p → OccursAt es u q → class p ≡ class q
-      → own_tree t p ≡ own_tree u q
-  class_owner t u p q s r e =
-      sym (owner_is t p s) ∙ (o.same p q (occurs_in s) (occurs_in r)).0 e ∙ owner_is u q r
-
-  pub owner_class : (t u : Tree) (p q : ℕ) → OccursAt es t p → OccursAt es u q
-      → own_tree t p ≡ own_tree u q
-      → class p ≡ class q
-  owner_class t u p q s r e =
-      (o.same p q (occurs_in s) (occurs_in r)).1 (owner_is t p s ∙ e ∙ sym (owner_is u q r))
-
   pub owners_classes : AreClasses es class
   owners_classes =
-      record { object = λ t u p q s r e. same_owner class u t q p (class_owner t u p q s r e) r s }
+      record { object = λ t u p q s r e. same_owner class u t q p ((o.same t u p q s r).0 e) r s }
 
 -- ---- positions
 
@@ -67,7 +44,7 @@ abbrev One : Type 0
 One = ℕ × Tree
 
 abbrev owned_eq : One → One → Bool
-owned_eq a b = owner_eq (own_tree a.1 a.0) (own_tree b.1 b.0)
+owned_eq a b = owner_eq (identity_of a.1 a.0) (identity_of b.1 b.0)
 
 -- the indices rise, starting at a bound
 abbrev Rise : ℕ → List One → Type 0
@@ -130,7 +107,7 @@ text_member ((q, t) ∷ ones) p x = text_member ones p x
 
 -- no position after that of a collection has the same owner
 no_other : (ones : List One) (p : ℕ) → AllByRecursion (λ later. p < later.0) ones
-    → list_any (λ one. owner_eq (alone p) (own_tree one.1 one.0)) ones ≡ false
+    → list_any (λ one. owner_eq (alone p) (identity_of one.1 one.0)) ones ≡ false
 no_other [] p a = refl
 no_other ((q, Leaf y) ∷ ones) p a = no_other ones p a.1
 no_other ((q, u) ∷ ones) p a =
@@ -169,8 +146,8 @@ module _ (tree : Tree) {class : ℕ → ℕ} {count : ℕ} (o : AreIdentities
         map-id (representatives class tree),
         unique_seen (same_class class) owned_eq (λ one. one)
             (Stands (lengthless tree)) (λ a b s r. tells_both eqb owner_eq (class a.0) (class b.0)
-            (own_tree a.1 a.0) (own_tree b.1 b.0) (eqb_tells _ _) (owners_tell _ _)
-            (class_owner o a.1 b.1 a.0 b.0 s r) (owner_class o a.1 b.1 a.0 b.0 s r))
+            (identity_of a.1 a.0) (identity_of b.1 b.0) (eqb_tells _ _) (owners_tell _ _)
+            (o.same a.1 b.1 a.0 b.0 s r).0 (o.same a.1 b.1 a.0 b.0 s r).1)
             (positions tree 0)
             (positions_stand (lengthless tree) tree 0 (occurs_whole refl)),
         map-id (positions tree 0),
@@ -204,7 +181,7 @@ module _ {es : List PlainEvent} {class : ℕ → ℕ} {count : ℕ} (o : AreIden
     (num : ℕ → ℕ) (num_apart : (t u : Tree) (p q : ℕ) → OccursAt es t p → OccursAt es u q
     → num p ≡ num q
     → class p ≡ class q) where
-  all_apart : (a : One) → Stands es a → own_tree a.1 a.0 ≡ alone a.0 → (ones : List One)
+  all_apart : (a : One) → Stands es a → identity_of a.1 a.0 ≡ alone a.0 → (ones : List One)
       → AllByRecursion (Stands es) ones → AllByRecursion (λ later. a.0 < later.0) ones
       → AllByRecursion (λ y. eqb (num a.0) y ≡ false)
       (map (λ one. num one.0) (flat_map collection_of ones))
@@ -213,7 +190,7 @@ module _ {es : List PlainEvent} {class : ℕ → ℕ} {count : ℕ} (o : AreIden
   all_apart a s i ((q, t) ∷ ones) r h = (
     ne_eqb _ _ (λ e.
         let k = sym i
-        ∙ class_owner o a.1 t a.0 q s r.0 (num_apart a.1 t a.0 q s r.0 e) in
+        ∙ (o.same a.1 t a.0 q s r.0).0 (num_apart a.1 t a.0 q s r.0 e) in
         let j : a.0 ≡ q = cc in omega arith),
     all_apart a s i ones r.1 h.1,
   )

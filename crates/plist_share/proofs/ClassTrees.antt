@@ -19,7 +19,6 @@ use Rattle.plist_binwrite.specs.inner.Scalars.{AreIdentities}
 use Rattle.plist_buffer.specs.inner.Entries.{AreDistinct}
 use Rattle.plist_buffer.proofs.Changes.{at_set}
 use Rattle.plist_binwrite.proofs.ClassObjects.{sound, the_items, the_pairs}
-use Rattle.plist_binwrite.proofs.WriterClasses.{class_owner, owner_class}
 use Rattle.plist_binwrite.proofs.TreeObjects.{keys_are, values_are}
 use Rattle.plist_binwrite.proofs.Reading.{dictionary_is, length-keys_of, length-values_of}
 use Rattle.plist_buffer.proofs.TreeStarts.{stands_single, starts_array, starts_dictionary, occurs_in}
@@ -72,7 +71,7 @@ module _ {es : List PlainEvent} {scalar class : ℕ → ℕ} {count : ℕ} {keys
   one_scalar : (x y : Scalar) (p q : ℕ) → OccursAt es (Leaf x) p → OccursAt es (Leaf y) q
       → class p ≡ class q → x ≡ y
   one_scalar x y p q s r e =
-      let h = class_owner owners _ _ p q s r (sym (all _ p s) ∙ e ∙ all _ q r) in
+      let h = (owners.same _ _ p q s r).0 (sym (all _ p s) ∙ e ∙ all _ q r) in
       cc
 
   -- the index has the class of this node
@@ -123,7 +122,7 @@ module _ {es : List PlainEvent} {scalar class : ℕ → ℕ} {count : ℕ} {keys
         → object_of class t p ≡ object_of class t q
         → class p ≡ class q
     given (Leaf x) p q s r e =
-        all (Leaf x) p s ∙ owner_class owners _ _ p q s r refl ∙ sym (all _ q r)
+        all (Leaf x) p s ∙ (owners.same _ _ p q s r).1 refl ∙ sym (all _ q r)
     given (Array ts) p q s r e =
         one_class p q _ _ (ap (λ l. (false, l)) (the_items _ _ e)) (all (Array ts) p s) (all (Array ts) q r)
     given (Dictionary ms) p q s r e =
