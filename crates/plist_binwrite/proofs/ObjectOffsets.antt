@@ -1,13 +1,13 @@
 -- Objects that lie back to back: their order, their offsets and their sizes.
-use Rattle.std.proofs.Common.{◌≡◌, ◌≢◌, ◌↔◌, inl, inr, ℕ, ◌+◌, ◌-◌, ◌<◌, ◌≤◌, true, false, ◌||◌, eqb, below_more, List, [], ◌∷◌, ◌++◌, ◌^◌, zero, suc, length, get_or, set, refl, ap, sym, ◌∙◌, arith, append_assoc, append-nil, length-append, subst}
+use Rattle.std.proofs.Common.{◌≡◌, ◌≢◌, ◌↔◌, inl, inr, ℕ, ◌+◌, ◌-◌, ◌<◌, ◌≤◌, true, false, ◌||◌, eqb, below_more, List, [], ◌∷◌, ◌++◌, ◌^◌, zero, suc, length, get_or, replicate, set, refl, ap, sym, ◌∙◌, arith, append_assoc, append-nil, length-append, subst}
 use Rattle.std.specs.List.{list_any, IsDistinct}
 use Rattle.std.proofs.lemmas.Bool.{cases_lt, or_cases, or_left, or_right, or_parts, false_from_ne_true, true≢false}
 use Rattle.std.proofs.lemmas.Cmp.{nat_eq_equiv}
 use Rattle.std.proofs.lemmas.Grind.{flat_map-append}
 use Rattle.std.proofs.lemmas.List.Recursion.{or_push}
 use Rattle.std.proofs.lemmas.Map.Keys.{IsDistinct-push}
-use Rattle.std.proofs.lemmas.Bool.Decides.{eqb_tells, leb_tells}
-use Rattle.std.proofs.lemmas.List.{get_or-set_same, get_or-set_other, length-set}
+use Rattle.std.proofs.lemmas.Bool.Decides.{eqb_tells}
+use Rattle.std.proofs.lemmas.List.{get_or-replicate, get_or-set_same, get_or-set_other, length-replicate, length-set}
 use Rattle.plist_format.specs.Container.{magic}
 use Rattle.plist_format.specs.Object.{Object}
 use Rattle.plist_binwrite.specs.Forms.{form, IsWritable}
@@ -188,10 +188,13 @@ laid_one w objects order k =
     ∙ ap (λ l. laid_out w objects order ++ l) (append-nil (form w (objects k)))
 
 -- a list of zeros has 0 at each index
-pub all_zero : (xs : List ℕ) (n : ℕ) → length xs ≡ n → ((k : ℕ) → k < n → get_or xs k 0 ≡ 0) → (k : ℕ)
-    → get_or xs k 0 ≡ 0
-all_zero xs n e h k =
-    elim (leb_tells n k) [ inl a ↦ get_or-eq_default xs 0 (omega arith) | inr b ↦ h k b.1 ]
+pub all_zero : (n k : ℕ) → get_or (replicate {A = ℕ} n 0) k 0 ≡ 0
+all_zero n k = elim (cases_lt k n) [
+  | inl low ↦ get_or-replicate n k 0 0 low
+  | inr high ↦
+      let short : length (replicate {A = ℕ} n 0) ≤ k =
+      omega (arith, high, length-replicate {A = ℕ} n 0) in get_or-eq_default _ 0 short
+]
 
 -- ---- the objects of a planned file
 

@@ -3,10 +3,9 @@ use Rattle.std.proofs.Common.{◌≡◌, ◌≢◌, ℕ, ◌<◌, List, [], ◌�
 use Rattle.std.specs.Option.{unwrap_or}
 use Rattle.std.specs.List.{AllByRecursion, IsDistinct}
 use Rattle.std.specs.Result.{OnOk}
-use Rattle.std.proofs.lemmas.List.{get_or-replicate, length-replicate, length-set}
+use Rattle.std.proofs.lemmas.List.{length-replicate, length-set}
 use Rattle.plist_format.specs.Container.{magic}
 use Rattle.plist_format.specs.Object.{Object}
-use Rattle.plist_binwrite.specs.Forms.{form}
 use Rattle.plist_binwrite.specs.Written.{file_with, object_table, laid_out, table_and_trailer}
 use Rattle.plist_base.specs.Faults.{Fault}
 use Rattle.plist_base.specs.Sinks.{HasPut, IsSizeOrNone, PutsBytes, PutsNothing}
@@ -18,11 +17,8 @@ use Rattle.plist_binwrite.proofs.NumberingSteps.{numbers_below}
 use Rattle.plist_binwrite.specs.EventClasses.{events_in}
 use Rattle.plist_binwrite.specs.declared.plan.FilePlan.{FilePlan}
 use Rattle.plist_binwrite.specs.inner.Layout.{ArePut, HasStoredOffset, IsFilePlan, LacksObject, PutsFile, PutsObject, PutsObjects, number_of_event}
-use Rattle.plist_base.specs.Trees.{Tree}
 use Rattle.plist_buffer.proofs.Uniques.{all_both, all_from, all_left}
 use Rattle.plist_buffer.specs.EventTable.{HasItem}
-use Rattle.plist_buffer.specs.Occurrences.{OccursAt}
-use Rattle.plist_binwrite.specs.Classes.{object_of}
 use Rattle.plist_binwrite.proofs.TreeObjects.{occurs_at}
 use Rattle.plist_binwrite.proofs.ObjectOffsets.{all_zero, continued, laid_below, laid_more, laid_one, length-magic, next_layout, placed, still_placed}
 use Rattle.plist_binwrite.proofs.PlannedFiles.{file_made}
@@ -37,18 +33,16 @@ module _ {plan : FilePlan} (r : IsFilePlan plan) {W : Type 0} {contents : W → 
   start_put {offsets} zeros put =
       let of = numbered r.numbered in
       let count = plan.numbering.count in
-      let long : length offsets ≡ count = ap length zeros ∙ length-replicate count 0 in
       record {
         objects = of.objects;
         order = [];
         layout = record {
           described = of.describes;
-          long = long;
+          long = ap length zeros ∙ length-replicate count 0;
           distinct = tt;
           marked = λ k. (
             λ any. cc,
-            λ n. absurd (n (all_zero offsets count long
-                (λ k h. ap (λ l. get_or l k 0) zeros ∙ get_or-replicate count k 0 0 h) k)),
+            λ n. absurd (n (ap (λ l. get_or l k 0) zeros ∙ all_zero count k)),
           );
           laid = tt;
         };
@@ -92,42 +86,6 @@ module _ {plan : FilePlan} (r : IsFilePlan plan) {W : Type 0} {contents : W → 
     all_put all v is answer new put =
         (_, file_made r a.layout all, puts_then a.put (rw (position_is v is) at put))
 
-    module _ (p : ℕ) (item : HasItem (events_in plan.given) p)
-        (free : get_or offsets (number_of_event plan p) 0 ≡ 0) (v : ℕ)
-        (is : (n : ℕ) → HasPut sink n → n < 2 ^ 64 → v ≡ n) where
-      abbrev k : ℕ
-      k = number_of_event plan p
-
-      below : k < plan.numbering.count
-      below = numbers_below r.numbered p item
-
-      -- the object of one more event is put
-      pub put_next : {answer : Answer} {new : Sink W}
-          → ((t : Tree) → OccursAt (events_in plan.given) t p
-          → PutsBytes contents sink (form plan.width (object_of (number_of_event plan) t p)) answer new)
-          → ArePut plan contents start (set offsets k v) answer new
-      put_next put =
-          let u = occurs_at (events_in plan.given) r.numbered.so_far.whole p item in
-          record {
-            objects = a.objects;
-            order = a.order ++ k ∷ [];
-            layout = next_layout a.layout r k v below free (position_is v is);
-            put = puts_as (sym (laid_one plan.width a.objects a.order k))
-                (puts_then a.put (rw (← a.layout.described u.0 p u.1) at (put u.0 u.1)));
-          }
-
-      low : k < length offsets
-      low = omega (arith, below, a.layout.long)
-
-      positive : 0 < v
-      positive = omega (arith, position_is v is, length-magic (object_table plan.width a.objects a.order))
-
-      pub put_kept : (q : ℕ) → get_or offsets q 0 ≢ 0 → get_or (set offsets k v) q 0 ≢ 0
-      put_kept = still_placed offsets k v low positive
-
-      pub put_placed : HasStoredOffset plan (set offsets k v) p
-      put_placed = placed offsets k v low positive
-
 -- a fact holds on success
 on_ok : {A : Type 0} (answer : Answer) → A → OnOk answer A
 on_ok (Ok done) a = a
@@ -152,12 +110,25 @@ module _ {plan : FilePlan} (r : IsFilePlan plan) {W : Type 0}
   pub puts_first : (answer : Answer) {new : Sink W} → PutsObject plan contents p sink answer new
       → PutsObjects plan contents (p ∷ []) (offsets, sink) answer (set offsets (number_of_event plan p) v, new)
   puts_first answer put = record {
-    long = length-set offsets (number_of_event plan p) v;
-    step = λ start none a. (
-      put_next r a none p item free v is put,
-      put_kept r a none p item free v is,
-      on_ok answer (put_placed r a none p item free v is, tt),
-    );
+    long = length-set offsets _ v;
+    step = λ start none a.
+        let k = number_of_event plan p in
+        let below = numbers_below r.numbered p item in
+        let at = position_is r a none v is in
+        let low : k < length offsets = omega (arith, below, a.layout.long) in
+        let positive : 0 < v =
+        omega (arith, at, length-magic (object_table plan.width a.objects a.order)) in
+        let u = occurs_at (events_in plan.given) r.numbered.so_far.whole p item in (
+          record {
+            objects = a.objects;
+            order = a.order ++ k ∷ [];
+            layout = next_layout a.layout r k v below free at;
+            put = puts_as (sym (laid_one plan.width a.objects a.order k))
+                (puts_then a.put (rw (← a.layout.described u.0 p u.1) at (put u.0 u.1)));
+          },
+          still_placed offsets k v low positive,
+          on_ok answer (placed offsets k v low positive, tt),
+        );
   }
 
   -- the offset of an event's object is stored, and nothing is put
