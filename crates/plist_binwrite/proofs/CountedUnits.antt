@@ -1,18 +1,14 @@
 -- The UTF-16 units of a string are counted by its bytes in UTF-8.
-use Rattle.std.proofs.Common.{◌≡◌, inl, inr, ℕ, ◌+◌, ◌*◌, ◌/◌, ◌%◌, ◌<◌, ◌≤◌, List, [], ◌∷◌, ◌++◌, length, flat_map, IsUtf8, refl, ap, sym, ◌∙◌, arith, length-append}
+use Rattle.std.proofs.Common.{◌≡◌, inl, inr, ℕ, ◌+◌, ◌*◌, ◌/◌, ◌%◌, ◌<◌, ◌≤◌, List, [], ◌∷◌, length, flat_map, IsUtf8, refl, ap, sym, ◌∙◌, arith, length-append}
 use Rattle.std.specs.Char.Escape.{encode_utf16}
 use Rattle.std.specs.Char.{encode_utf8}
 use Rattle.std.specs.Str.{encode_utf8_all}
+use Rattle.std.proofs.lemmas.List.Sums.{sum_by-append, sum_by-cons}
 use Rattle.std.proofs.lemmas.Bool.{cases_lt, le-ltb, lt-ltb}
 use Rattle.plist_binwrite.specs.Forms.{units_of}
-use Rattle.plist_binwrite.specs.Sizes.{total}
+use Rattle.std.specs.List.{sum_by}
 use Rattle.plist_binwrite.specs.inner.Units.{units_begun}
 use Rattle.plist_binwrite.proofs.Reading.{units_are}
-
-pub total-append : (weight : ℕ → ℕ) (xs ys : List ℕ)
-    → total weight (xs ++ ys) ≡ total weight xs + total weight ys
-total-append weight [] ys = omega arith
-total-append weight (x ∷ xs) ys = omega (arith, total-append weight xs ys)
 
 begins_none : (b : ℕ) → 0x80 ≤ b → b < 0xc0 → units_begun b ≡ 0
 begins_none b least most = rw (le-ltb b 0x80 least, lt-ltb b 0xc0 most) refl
@@ -33,7 +29,7 @@ begins_two b least = rw (
 ) refl
 
 -- the bytes of a character count its units
-units_of_char : (c : ℕ) → total units_begun (encode_utf8 c) ≡ length (encode_utf16 c)
+units_of_char : (c : ℕ) → sum_by units_begun (encode_utf8 c) ≡ length (encode_utf16 c)
 unfolding encode_utf8
 units_of_char c = elim (cases_lt c 0x80) [
   | inl one ↦ rw (lt-ltb c 0x80 one, lt-ltb c 0x80 one, lt-ltb c 0x1_0000 (omega (arith, one))) refl
@@ -62,11 +58,11 @@ units_of_char c = elim (cases_lt c 0x80) [
 ]
 
 units_of_chars : (cs : List ℕ)
-    → total units_begun (encode_utf8_all cs) ≡ length (flat_map encode_utf16 cs)
+    → sum_by units_begun (encode_utf8_all cs) ≡ length (flat_map encode_utf16 cs)
 units_of_chars [] = refl
 units_of_chars (c ∷ cs) = omega (
   arith,
-  total-append units_begun (encode_utf8 c) (encode_utf8_all cs),
+  sum_by-append units_begun (encode_utf8 c) (encode_utf8_all cs),
   units_of_char c,
   units_of_chars cs,
   length-append (encode_utf16 c) (flat_map encode_utf16 cs),
@@ -74,15 +70,16 @@ units_of_chars (c ∷ cs) = omega (
 
 -- the bytes of a string count its units
 pub units_counted : (text : List ℕ) → IsUtf8 text
-    → total units_begun text ≡ length (units_of text)
+    → sum_by units_begun text ≡ length (units_of text)
 units_counted text is =
-    ap (total units_begun) (sym is.1.1) ∙ units_of_chars is.0
+    ap (sum_by units_begun) (sym is.1.1) ∙ units_of_chars is.0
     ∙ ap length (sym (units_are text is.0 is.1.0 is.1.1))
 
 -- a byte counts at most two units
 few_begun : (b : ℕ) → units_begun b ≤ 2
 few_begun b = grind arith
 
-pub few_units_begun : (bytes : List ℕ) → total units_begun bytes ≤ 2 * length bytes
+pub few_units_begun : (bytes : List ℕ) → sum_by units_begun bytes ≤ 2 * length bytes
 few_units_begun [] = omega arith
-few_units_begun (b ∷ bytes) = omega (arith, few_begun b, few_units_begun bytes)
+few_units_begun (b ∷ bytes) =
+    omega (arith, few_begun b, few_units_begun bytes, sum_by-cons units_begun b bytes)

@@ -16,10 +16,10 @@ use Rattle.std.proofs.Math.ListN.{get_or-eq_default}
 use Rattle.plist_binwrite.specs.declared.plan.FilePlan.{FilePlan}
 use Rattle.plist_binwrite.specs.inner.Layout.{IsFilePlan, IsLayout}
 use Rattle.plist_binwrite.specs.inner.Numbering.{total_below}
-use Rattle.plist_binwrite.specs.Sizes.{total}
+use Rattle.std.proofs.lemmas.List.Concat.{length-flat_map}
 use Rattle.plist_binwrite.proofs.LeastWidths.{width_holds}
 use Rattle.plist_binwrite.proofs.NumberingSteps.{can_write, size_told}
-use Rattle.plist_binwrite.proofs.Totals.{total_all}
+use Rattle.plist_binwrite.proofs.Totals.{total_all, total_sum}
 
 -- each number below a count is in the order, once
 pub record AllOnce (count : ℕ) (order : List ℕ) : Type 0 where
@@ -154,25 +154,14 @@ module _ (offsets : List ℕ) (k v : ℕ) (h : k < length offsets) (positive : 0
 
 -- ---- the bytes of objects
 
--- the bytes of the objects are as many as those of their forms together
-length-bodies : (w : ℕ) (objects : ℕ → Object) (order : List ℕ)
-    → length (object_table w objects order) ≡ total (λ k. length (form w (objects k))) order
-length-bodies w objects [] = refl
-length-bodies w objects (k ∷ order) =
-    omega (
-      arith,
-      length-append (form w (objects k)) (object_table w objects order),
-      length-bodies w objects order,
-    )
-
 -- the number of bytes doesn't depend on the order
 pub total_bodies : (w : ℕ) (objects : ℕ → Object) (order : List ℕ) (count : ℕ)
     → AllOnce count order
     → length (object_table w objects order) ≡ total_below (λ k. length (form w (objects k))) count
 total_bodies w objects order count all =
-    length-bodies w objects _
-    ∙ total_all (λ k. length _) _ _ all.distinct
-    (λ k. (all.numbered k).0) (λ k. (all.numbered k).1)
+    length-flat_map (λ k. form w (objects k)) order
+    ∙ sym (total_sum (λ k. length (form w (objects k))) order)
+    ∙ total_all _ _ _ all.distinct (λ k. (all.numbered k).0) (λ k. (all.numbered k).1)
 
 -- the objects in a longer order
 pub laid_more : (w : ℕ) (objects : ℕ → Object) (order more : List ℕ)

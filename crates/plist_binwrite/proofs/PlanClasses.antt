@@ -13,7 +13,7 @@ use Rattle.plist_binwrite.specs.EventClasses.{class_in, events_in}
 use Rattle.plist_binwrite.specs.declared.classes.Classed.{Classed}
 use Rattle.plist_binwrite.specs.declared.plan.Numbering.{Numbering}
 use Rattle.plist_binwrite.specs.inner.Numbering.{IsNumberingOfEvents, object_number, total_below}
-use Rattle.plist_binwrite.specs.Sizes.{total, object_size, size_with}
+use Rattle.plist_binwrite.specs.Sizes.{object_size, size_with}
 use Rattle.plist_binwrite.specs.Forms.{reference_width}
 use Rattle.plist_buffer.specs.Occurrences.{positions}
 use Rattle.plist_binwrite.proofs.ClassObjects.{first_same, number_below, number_apart, number_same, same_class}
@@ -22,7 +22,7 @@ use Rattle.plist_buffer.proofs.SameScalars.{tells_both}
 use Rattle.plist_buffer.proofs.TreeOccurrences.{occurs_whole}
 use Rattle.plist_buffer.proofs.TreeStarts.{begins, occurs_in}
 use Rattle.plist_binwrite.proofs.NumberingSteps.{known_number}
-use Rattle.plist_binwrite.proofs.Totals.{count_below, total_all, unique_member, unique_distinct, total-map, total_equal, total_one}
+use Rattle.plist_binwrite.proofs.Totals.{count_below, total, total_all, unique_member, unique_distinct, total-map, total_equal, total_one, total_sum}
 use Rattle.plist_buffer.proofs.Uniques.{all_from, all_unique, members_self, member_has, unique_seen}
 
 -- ---- a plan's numbers
@@ -86,6 +86,7 @@ module _ {given : Classed} {numbering : Numbering} (n : IsNumberingOfEvents give
       (all_from _ (Stands es) (λ one s. ap (object_size w) (first_same n one.1 one.0 s).0)
       (representatives class whole)
       (all_unique (Stands es) (same_class class) (positions whole 0) stand))
+      ∙ total_sum (λ one. object_size w one.1) (representatives class whole)
 
   pub size_by_numbers : size_by class whole ≡ size_with numbering.count
       (total_below (λ k. object_size (reference_width numbering.count) (n.so_far.first k).1) numbering.count)

@@ -1,16 +1,24 @@
 -- Totals over distinct keys.
 use Rattle.std.proofs.Common.{◌≡◌, ◌⊎◌, inl, inr, ℕ, zero, suc, ◌+◌, ◌*◌, ◌<◌, ◌≤◌, Bool, true, false, not, cond, ◌||◌, ◌&&◌, eqb, List, [], ◌∷◌, length, map, refl, ap, sym, ◌∙◌, subst, arith}
-use Rattle.std.specs.List.{AllByRecursion, IsDistinct, filter}
+use Rattle.std.specs.List.{AllByRecursion, IsDistinct, filter, sum_by}
 use Rattle.std.specs.Set.{is_member, unique_keys}
 use Rattle.std.proofs.lemmas.Bool.{or_parts, or_left, and_parts, and_from, eq-eqb, ne_eqb, eqb-true, eqb-false, not-true, not_from_false}
 use Rattle.std.proofs.lemmas.Cmp.{nat_eq_equiv}
 use Rattle.std.proofs.lemmas.List.Elements.{All-filter, All-from_recursion, recursion_from_All}
 use Rattle.std.proofs.lemmas.Map.Made.{is_member-filter}
 use Rattle.std.proofs.lemmas.Bool.Decides.{eqb_tells}
-use Rattle.plist_binwrite.specs.Sizes.{total}
+use Rattle.std.proofs.lemmas.List.Recursion.{is_sum_by}
 use Rattle.plist_binwrite.specs.inner.Numbering.{total_below}
 use Rattle.std.proofs.Math.Nat.{add-mul}
 use Rattle.plist_buffer.proofs.Uniques.{few_below}
+
+-- the sum of the weights of a list's items
+abbrev pub total : {K : Type 0} → (K → ℕ) → List K → ℕ
+total weight [] = 0
+total weight (x ∷ xs) = weight x + total weight xs
+
+pub total_sum : {K : Type 0} (weight : K → ℕ) (xs : List K) → total weight xs ≡ sum_by weight xs
+total_sum weight xs = is_sum_by (total weight) weight refl (λ x xs. refl) xs
 
 pub total_below_same : (f g : ℕ → ℕ) (n : ℕ) → ((k : ℕ) → k < n → f k ≡ g k)
     → total_below f n ≡ total_below g n

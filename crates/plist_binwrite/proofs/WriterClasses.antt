@@ -1,6 +1,6 @@
 -- The classes of `BinaryWriter`: one for each collection, and one for each different scalar.
 use Rattle.std.proofs.Common.{◌≡◌, ℕ, ◌+◌, ◌<◌, ◌≤◌, Bool, true, false, cond, ◌||◌, eqb, List, [], ◌∷◌, ◌++◌, length, map, refl, ap, sym, ◌∙◌, arith, append_assoc, append-nil, length-append}
-use Rattle.std.specs.List.{list_any, flat_map, AllByRecursion, IsDistinct}
+use Rattle.std.specs.List.{list_any, flat_map, sum_by, AllByRecursion, IsDistinct}
 use Rattle.std.specs.Set.{is_member, unique_keys}
 use Rattle.std.proofs.lemmas.Bool.{ne_eqb}
 use Rattle.std.proofs.lemmas.Bool.Decides.{eqb_tells}
@@ -10,7 +10,7 @@ use Rattle.plist_base.specs.Events.{PlainEvent, EndCollection}
 use Rattle.plist_base.specs.Trees.{Scalar, Tree, Leaf, Array, Dictionary, Trees, NoTrees, TreeAnd, Members, NoMembers, MemberAnd}
 use Rattle.plist_binwrite.specs.Classes.{AreClasses, representatives, count_by, objects_by, size_by, object_of}
 use Rattle.plist_base.specs.Scalars.{scalar_eq}
-use Rattle.plist_binwrite.specs.Sizes.{object_count, scalars_in, collections_in, leaf_scalar, collection_of, total, object_size, size_with, file_size}
+use Rattle.plist_binwrite.specs.Sizes.{object_count, scalars_in, collections_in, leaf_scalar, collection_of, object_size, size_with, file_size}
 use Rattle.plist_binwrite.specs.inner.Scalars.{alone, identity_of, AreIdentities}
 use Rattle.plist_buffer.specs.Occurrences.{event_count, OccursAt, positions, positions_in_items, positions_in_pairs}
 use Rattle.plist_binwrite.specs.Forms.{reference_width, scalar_form}
@@ -18,7 +18,7 @@ use Rattle.plist_buffer.proofs.TreePositions.{Stands, one_tree, positions_stand}
 use Rattle.plist_binwrite.proofs.Identities.{owner_eq, owners_tell}
 use Rattle.plist_buffer.proofs.SameScalars.{tells_both}
 use Rattle.plist_buffer.proofs.TreeOccurrences.{occurs_whole}
-use Rattle.plist_binwrite.proofs.Totals.{total_one}
+use Rattle.plist_binwrite.proofs.Totals.{total, total_one, total_sum}
 use Rattle.plist_buffer.proofs.Uniques.{unique_seen}
 use Rattle.plist_binwrite.proofs.ClassObjects.{same_class}
 
@@ -171,9 +171,12 @@ module _ (tree : Tree) {class : ℕ → ℕ} {count : ℕ} (o : AreIdentities
       let w = reference_width (object_count tree) in
       let leaves : (x : Scalar) → object_size w (Leaf x) ≡ length (scalar_form x) = λ x. omega arith in
       λ i. size_with (owned_count i) ((ap (λ n. objects_by class (reference_width n) tree) owned_count
+      ∙ sym (total_sum (λ (one : One). object_size w one.1) (representatives class tree))
       ∙ kept_total (object_size w)
-      ∙ (λ i. total (λ (one : One). object_size w one.1) (collections_in tree)
-      + total (λ x. leaves x i) (unique_keys scalar_eq (scalars_in tree)))) i)
+      ∙ (λ i. total_sum (λ (one : One). object_size w one.1) (collections_in tree) i
+      + total_sum (λ y. object_size w (Leaf y)) (unique_keys scalar_eq (scalars_in tree)) i)
+      ∙ (λ i. sum_by (λ (one : One). object_size w one.1) (collections_in tree)
+      + sum_by (λ x. leaves x i) (unique_keys scalar_eq (scalars_in tree)))) i)
 
 -- ---- no collection is entered twice
 

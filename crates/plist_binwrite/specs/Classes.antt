@@ -1,5 +1,6 @@
 -- Classes of the indices at which trees begin, and files that have one object for each class.
 use Rattle.std.specs.Prelude.{◌≡◌, ℕ, ◌+◌, ◌^◌, ◌<◌, List, length, map, nat_eq, zip}
+use Rattle.std.specs.List.{sum_by}
 use Rattle.std.specs.Set.{unique_keys}
 use Rattle.plist_base.specs.Bracketing.{lengthless}
 use Rattle.plist_base.specs.Events.{PlainEvent}
@@ -7,7 +8,7 @@ use Rattle.plist_base.specs.Trees.{Tree, Leaf, Array, Dictionary}
 use Rattle.plist_format.specs.Object as obj
 use Rattle.plist_format.specs.Object.{Object}
 use Rattle.plist_format.specs.Visits.{visits}
-use Rattle.plist_binwrite.specs.Sizes.{HasObjects, collections_in, total, object_size, size_with}
+use Rattle.plist_binwrite.specs.Sizes.{HasObjects, collections_in, object_size, size_with}
 use Rattle.plist_binwrite.specs.SendingAs.{FileKind}
 use Rattle.plist_buffer.specs.EventTable.{item_indices, key_indices, value_indices}
 use Rattle.plist_buffer.specs.Occurrences.{OccursAt, positions}
@@ -44,7 +45,7 @@ module _ (class : ℕ → ℕ) where
 
   -- the number of bytes of the objects, one for each class
   abbrev pub objects_by : (width : ℕ) → Tree → ℕ
-  objects_by width tree = total (λ one. object_size width one.1) (representatives tree)
+  objects_by width tree = sum_by (λ one. object_size width one.1) (representatives tree)
 
   -- the number of bytes of a file with one object for each class
   abbrev pub size_by : Tree → ℕ

@@ -7,7 +7,7 @@ ghost use Rattle.std.specs.Char.Escape.{encode_utf16};
 ghost use Rattle.plist_base.specs.Trees.{String};
 ghost use Rattle.plist_binwrite.specs.Forms.{units_of, is_ascii_text, length_form, scalar_form, table_form};
 ghost use Rattle.plist_base.specs.Sinks.{Puts, buffered, room};
-ghost use Rattle.plist_binwrite.specs.Sizes.{total};
+ghost use Rattle.std.specs.List.{sum_by};
 ghost use Rattle.plist_binwrite.specs.inner.Layout.{PushesUnits};
 ghost use Rattle.plist_binwrite.specs.inner.Units.{units_begun};
 
@@ -86,7 +86,7 @@ fn units_begun(byte: u8) -> u8
 // sixteen numbers in a register.
 fn count_few_units(bytes: &[u8]) -> u8
     requires { length bytes.now ≤ 64 }
-    ensures { result ≡ total units_begun bytes.now }
+    ensures { result ≡ sum_by units_begun bytes.now }
 {
     let mut count = 0;
     for &byte in bytes {

@@ -1,12 +1,14 @@
 -- A file with one object for each class has one for each different subtree.
-use Rattle.std.proofs.Common.{◌≡◌, inl, inr, ℕ, ◌+◌, ◌^◌, ◌<◌, true, nat_eq, List, [], ◌∷◌, length, map, refl, sym, ap, ◌∙◌, subst}
+use Rattle.std.proofs.Common.{◌≡◌, inl, inr, ℕ, ◌+◌, ◌^◌, ◌<◌, true, nat_eq, List, length, map, sym, ap, ◌∙◌, subst}
+use Rattle.std.specs.List.{sum_by}
+use Rattle.std.proofs.lemmas.List.Folds.{fold-map}
 use Rattle.std.specs.Set.{unique_keys}
 use Rattle.std.proofs.lemmas.Bool.Decides.{eqb_tells}
 use Rattle.std.proofs.lemmas.List.{length-map}
 use Rattle.plist_base.specs.Events.{PlainEvent}
 use Rattle.plist_base.specs.Trees.{Tree}
 use Rattle.plist_binwrite.specs.Classes.{representatives, count_by, objects_by, size_by, IsFileBy}
-use Rattle.plist_binwrite.specs.Sizes.{total, object_size, size_with}
+use Rattle.plist_binwrite.specs.Sizes.{object_size, size_with}
 use Rattle.plist_buffer.specs.Occurrences.{OccursAt, positions}
 use Rattle.plist_binwrite.specs.Forms.{reference_width}
 use Rattle.plist_buffer.proofs.TreePositions.{Stands, positions_stand}
@@ -22,12 +24,7 @@ tree_positions a = a.1
 
 -- the number of bytes of the objects, one for each different subtree of the tree
 abbrev shared_objects_size : (width : ℕ) → Tree → ℕ
-shared_objects_size width tree = total (object_size width) (unique_keys tree_eq (subtrees tree))
-
-total_trees : (weight : Tree → ℕ) (xs : List (ℕ × Tree))
-    → total (λ a. weight a.1) xs ≡ total weight (map tree_positions xs)
-total_trees weight [] = refl
-total_trees weight (x ∷ xs) = ap (λ n. weight x.1 + n) (total_trees _ xs)
+shared_objects_size width tree = sum_by (object_size width) (unique_keys tree_eq (subtrees tree))
 
 module _ (es : List PlainEvent) (class : ℕ → ℕ) (given : SeparatesTrees es class) where
   separate_alike : (a b : ℕ × Tree) → OccursAt es a.1 a.0 → OccursAt es b.1 b.0
@@ -50,7 +47,8 @@ module _ (es : List PlainEvent) (class : ℕ → ℕ) (given : SeparatesTrees es
 
     objects_are : (width : ℕ) → objects_by class width t ≡ shared_objects_size width t
     objects_are width =
-        total_trees _ _ ∙ ap (total _) trees_kept
+        sym (fold-map (λ a t. a + object_size width t) tree_positions 0 (representatives class t))
+        ∙ ap (sum_by (object_size width)) trees_kept
 
     pub size_is : size_by class t ≡ shared_file_size t
     size_is =

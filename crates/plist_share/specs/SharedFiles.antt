@@ -3,6 +3,7 @@
 -- as strings, and the collections. Two collections that differ only in order or in repeated keys
 -- are different.
 use Rattle.std.specs.Prelude.{◌≡◌, ℕ, ◌^◌, ◌<◌, ◌≤◌, Bool, true, false, ◌&&◌, List, length, map, Ok}
+use Rattle.std.specs.List.{sum_by}
 use Rattle.std.specs.Set.{distinct_count, unique_keys}
 use Rattle.std.specs.Str.{bytes_eq}
 use Rattle.plist_base.specs.Bracketing.{bracketing}
@@ -11,7 +12,7 @@ use Rattle.plist_base.specs.Trees.{Tree, Leaf, Array, Dictionary, Trees, NoTrees
 use Rattle.plist_format.specs.Container.{Head, head_of}
 use Rattle.plist_format.specs.Unfolding.{items_of_file}
 use Rattle.plist_buffer.specs.Occurrences.{positions}
-use Rattle.plist_binwrite.specs.Sizes.{HasObjects, total, object_size, size_with}
+use Rattle.plist_binwrite.specs.Sizes.{HasObjects, object_size, size_with}
 use Rattle.plist_binwrite.specs.SendingAs.{FileKind}
 use Rattle.plist_binwrite.specs.Forms.{reference_width}
 use Rattle.plist_binwrite.specs.Written.{IsWrittenAs}
@@ -55,7 +56,7 @@ IsLeastOfAll tree = (file : List ℕ) → items_of_file file ≡ map Ok (bracket
 abbrev pub shared_file_size : Tree → ℕ
 shared_file_size tree =
     let count = distinct_subtrees tree in
-    let objects = total (object_size (reference_width count)) (unique_keys tree_eq (subtrees tree))
+    let objects = sum_by (object_size (reference_width count)) (unique_keys tree_eq (subtrees tree))
     in size_with count objects
 
 -- the bytes are such a file of the tree

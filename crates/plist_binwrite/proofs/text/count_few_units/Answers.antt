@@ -1,6 +1,5 @@
 use Rattle.std.proofs.Common.{arith}
-use Rattle.std.proofs.lemmas.List.{at_drop_more}
-use Rattle.plist_binwrite.specs.Sizes.{total}
+use Rattle.std.proofs.lemmas.List.Sums.{sum_by-drop_more}
 use Rattle.plist_binwrite.specs.inner.Units.{units_begun}
 use Rattle.plist_binwrite.proofs.CountedUnits.{few_units_begun}
 use Rattle.plist_binwrite.proofs.text.count_few_units.Goals as goal
@@ -12,7 +11,7 @@ overflow_add-count c = omega (
   c.loop-byte.invariant,
   c.units_begun-count.ensures,
   few_units_begun c.args.bytes.now,
-  at_drop_more (total units_begun) c.args.bytes.now c.loop-byte.byte-index 0 c.loop-byte-test.true,
+  sum_by-drop_more units_begun c.args.bytes.now c.loop-byte.byte-index 0 c.loop-byte-test.true,
 )
 
 pub loop-byte-preserved : goal.loop-byte-preserved
@@ -20,5 +19,5 @@ loop-byte-preserved c = omega (
   arith,
   c.loop-byte.invariant,
   c.units_begun-count.ensures,
-  at_drop_more (total units_begun) c.args.bytes.now c.loop-byte.byte-index 0 c.loop-byte-test.true,
+  sum_by-drop_more units_begun c.args.bytes.now c.loop-byte.byte-index 0 c.loop-byte-test.true,
 )

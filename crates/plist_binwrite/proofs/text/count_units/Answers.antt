@@ -1,9 +1,10 @@
 use Rattle.std.proofs.Common.{◌∙◌, ap, arith}
 use Rattle.std.proofs.lemmas.List.{nil_from_length}
 use Rattle.std.specs.Slice.Iter.{chunks_rest}
-use Rattle.plist_binwrite.specs.Sizes.{total}
+use Rattle.std.specs.List.{sum_by}
 use Rattle.plist_binwrite.specs.inner.Units.{units_begun}
-use Rattle.plist_binwrite.proofs.CountedUnits.{few_units_begun, total-append, units_counted}
+use Rattle.plist_binwrite.proofs.CountedUnits.{few_units_begun, units_counted}
+use Rattle.std.proofs.lemmas.List.Sums.{sum_by-append}
 use Rattle.plist_binwrite.proofs.text.count_units.Goals as goal
 
 pub overflow_add-count : goal.overflow_add-count
@@ -14,8 +15,8 @@ overflow_add-count c =
       arith,
       c.loop-bytes.invariant.counted,
       c.count_few_units.ensures,
-      ap (total units_begun) c.in-Some.ensures.steps.1.0,
-      total-append units_begun bytes rest,
+      ap (sum_by units_begun) c.in-Some.ensures.steps.1.0,
+      sum_by-append units_begun bytes rest,
       few_units_begun c.args.text.now,
     )
 
@@ -29,8 +30,8 @@ loop-bytes-preserved c =
         arith,
         c.loop-bytes.invariant.counted,
         c.count_few_units.ensures,
-        ap (total units_begun) c.in-Some.ensures.steps.1.0,
-        total-append units_begun bytes rest,
+        ap (sum_by units_begun) c.in-Some.ensures.steps.1.0,
+        sum_by-append units_begun bytes rest,
       );
     }
 
@@ -39,7 +40,7 @@ returns c = record {
   value = omega (
     arith,
     c.loop-bytes.invariant.counted,
-    ap (total units_begun) (nil_from_length _ c.in-None.ensures.steps.1.0),
+    ap (sum_by units_begun) (nil_from_length _ c.in-None.ensures.steps.1.0),
     units_counted c.args.text.now c.utf8.text,
   );
 }

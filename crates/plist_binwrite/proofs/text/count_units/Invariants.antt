@@ -1,6 +1,6 @@
 use Rattle.std.proofs.Common.{◌≡◌, ◌+◌}
 use Rattle.std.specs.Slice.Iter.{chunks_rest, chunks_size}
-use Rattle.plist_binwrite.specs.Sizes.{total}
+use Rattle.std.specs.List.{sum_by}
 use Rattle.plist_binwrite.specs.inner.Units.{units_begun}
 use Rattle.plist_binwrite.proofs.text.count_units.Given as goal
 
@@ -8,6 +8,6 @@ use Rattle.plist_binwrite.proofs.text.count_units.Given as goal
 abbrev pub invariant-loop-bytes : goal.invariant-loop-bytes
 invariant-loop-bytes l = record {
   size : chunks_size l.bytes-iterator ≡ 64;
-  counted : l.count + total units_begun (chunks_rest l.bytes-iterator)
-      ≡ total units_begun l.text;
+  counted : l.count + sum_by units_begun (chunks_rest l.bytes-iterator)
+      ≡ sum_by units_begun l.text;
 }
