@@ -1,7 +1,9 @@
 -- Putting objects, one after the other, and storing their offsets.
-use Rattle.std.proofs.Common.{◌≡◌, ◌≢◌, ℕ, ◌<◌, List, [], ◌∷◌, ◌++◌, ◌^◌, length, get_or, set, ap, sym, ◌∙◌, arith, append_assoc, append-nil, Option, None, Some, Ok, Err, refl, replicate, subst}
+use Rattle.std.proofs.Common.{◌≡◌, ◌≢◌, ◌⊎◌, inl, inr, ℕ, ◌<◌, List, [], ◌∷◌, ◌++◌, ◌^◌, length, get_or, set, ap, sym, ◌∙◌, arith, append_assoc, append-nil, Option, None, Some, Ok, Err, refl, replicate, subst}
 use Rattle.std.specs.Option.{unwrap_or}
-use Rattle.std.specs.List.{AllByRecursion, IsDistinct}
+use Rattle.std.specs.List.{Contains, IsDistinct}
+use Rattle.std.proofs.lemmas.Bool.{cases_eq}
+use Rattle.std.proofs.lemmas.Map.Made.{Contains-tail}
 use Rattle.std.specs.Result.{OnOk}
 use Rattle.std.proofs.lemmas.List.{length-replicate, length-set}
 use Rattle.plist_format.specs.Container.{magic}
@@ -13,11 +15,11 @@ use Rattle.plist_base.specs.Writing.{Answer}
 use Rattle.plist_base.specs.declared.sink.Sink.{Sink}
 use Rattle.plist_base.proofs.SinkSteps.{puts_after, puts_as, puts_front, puts_then}
 use Rattle.plist_binwrite.proofs.ClassObjects.{numbered}
-use Rattle.plist_binwrite.proofs.NumberingSteps.{numbers_below}
+use Rattle.plist_binwrite.proofs.NumberingSteps.{known_number, numbers_below}
+use Rattle.plist_buffer.proofs.TreeStarts.{begins, occurs_in}
 use Rattle.plist_binwrite.specs.EventClasses.{events_in}
 use Rattle.plist_binwrite.specs.declared.plan.FilePlan.{FilePlan}
 use Rattle.plist_binwrite.specs.inner.Layout.{ArePut, HasStoredOffset, IsFilePlan, LacksObject, PutsFile, PutsObject, PutsObjects, number_of_event}
-use Rattle.plist_buffer.proofs.Uniques.{all_both, all_from, all_left}
 use Rattle.plist_buffer.specs.EventTable.{HasItem}
 use Rattle.plist_binwrite.proofs.TreeObjects.{occurs_at}
 use Rattle.plist_binwrite.proofs.ObjectOffsets.{all_zero, continued, laid_below, laid_more, laid_one, length-magic, next_layout, placed, still_placed}
@@ -79,12 +81,18 @@ module _ {plan : FilePlan} (r : IsFilePlan plan) {W : Type 0} {contents : W → 
         (laid_below r a.layout)
 
     -- the offset table and the trailer follow all objects
-    pub all_put : ((k : ℕ) → k < plan.numbering.count → get_or offsets k 0 ≢ 0) → (v : ℕ)
-        → ((n : ℕ) → HasPut sink n → n < 2 ^ 64 → v ≡ n) → (answer : Answer) (new : Sink W)
+    pub all_put : ((p : ℕ) → HasItem (events_in plan.given) p → HasStoredOffset plan offsets p)
+        → (v : ℕ) → ((n : ℕ) → HasPut sink n → n < 2 ^ 64 → v ≡ n) → (answer : Answer) (new : Sink W)
         → PutsBytes contents sink (table_and_trailer offsets v) answer new
         → PutsFile plan contents start answer new
-    all_put all v is answer new put =
-        (_, file_made r a.layout all, puts_then a.put (rw (position_is v is) at put))
+    all_put all v is answer new put = (
+      _,
+      file_made r a.layout (λ k h.
+          let known = (r.numbered.so_far.known k h).0 in
+          subst (λ n. get_or offsets n 0 ≢ 0) (known_number r.numbered k h)
+          (all _ (occurs_in known, begins _ _ known))),
+      puts_then a.put (rw (position_is v is) at put),
+    )
 
 -- a fact holds on success
 on_ok : {A : Type 0} (answer : Answer) → A → OnOk answer A
@@ -108,7 +116,7 @@ module _ {plan : FilePlan} (r : IsFilePlan plan) {W : Type 0}
     (v : ℕ) (is : (n : ℕ) → HasPut sink n → n < 2 ^ 64 → v ≡ n) where
   -- the offset of an event's object is stored, and the object is put
   pub puts_first : (answer : Answer) {new : Sink W} → PutsObject plan contents p sink answer new
-      → PutsObjects plan contents (p ∷ []) (offsets, sink) answer (set offsets (number_of_event plan p) v, new)
+      → PutsObjects plan contents (λ q. p ≡ q) (offsets, sink) answer (set offsets (number_of_event plan p) v, new)
   puts_first answer put = record {
     long = length-set offsets _ v;
     step = λ start none a.
@@ -127,7 +135,7 @@ module _ {plan : FilePlan} (r : IsFilePlan plan) {W : Type 0}
                 (puts_then a.put (rw (← a.layout.described u.0 p u.1) at (put u.0 u.1)));
           },
           still_placed offsets k v low positive,
-          on_ok answer (placed offsets k v low positive, tt),
+          on_ok answer (λ q e. subst (HasStoredOffset plan (set offsets k v)) e (placed offsets k v low positive)),
         );
   }
 
@@ -136,52 +144,45 @@ module _ {plan : FilePlan} (r : IsFilePlan plan) {W : Type 0}
       → LacksObject plan contents p (offsets, sink) (set offsets (number_of_event plan p) v, same)
   lacks_first n answer after put = puts_first answer (λ t o. puts_after n (put t o))
 
-module _ {plan : FilePlan} {W : Type 0} {contents : W → Option (List ℕ)} {one : List ℕ}
+module _ {plan : FilePlan} {W : Type 0} {contents : W → Option (List ℕ)} {asked : ℕ → Type 0}
     {a b : List ℕ × Sink W} where
   -- a write fails before all objects are put
-  pub puts_part : {fault : Fault} (two : List ℕ) → PutsObjects plan contents one a (Err fault) b
-      → PutsObjects plan contents two a (Err fault) b
-  puts_part two p = record {
+  pub puts_part : {other : ℕ → Type 0} {fault : Fault}
+      → PutsObjects plan contents asked a (Err fault) b
+      → PutsObjects plan contents other a (Err fault) b
+  puts_part p = record {
     long = p.long;
     step = λ start none put. let some = p.step start none put in (some.0, some.1, tt);
   }
 
   -- objects are put in two steps
-  pub puts_both : {two : List ℕ} {c : List ℕ × Sink W} (answer : Answer)
-      → PutsObjects plan contents one a (Ok tt) b → PutsObjects plan contents two b answer c
-      → PutsObjects plan contents (one ++ two) a answer c
-  puts_both {two} answer p q = record {
+  pub puts_both : {more all : ℕ → Type 0} {c : List ℕ × Sink W} (answer : Answer)
+      → ((p : ℕ) → all p → asked p ⊎ more p) → PutsObjects plan contents asked a (Ok tt) b
+      → PutsObjects plan contents more b answer c → PutsObjects plan contents all a answer c
+  puts_both answer split p q = record {
     long = q.long ∙ p.long;
     step = λ start none put.
         let first = p.step start none put in
         let second = q.step start none first.0 in (
           second.0,
           λ k some. second.1 k (first.1 k some),
-          from_ok answer
-              (all_both _ one two (all_from _ _ (λ k has. second.1 _ has) one first.2)) second.2,
+          from_ok answer (λ has r is. elim (split r is) [
+            | inl x ↦ second.1 _ (first.2 r x)
+            | inr x ↦ has r x
+          ]) second.2,
         );
   }
 
--- equal lists of indices are of the same events
-pub puts_same : {plan : FilePlan} {W : Type 0} {contents : W → Option (List ℕ)}
-    {a b : List ℕ × Sink W} {one two : List ℕ} {answer : Answer} → one ≡ two
-    → PutsObjects plan contents one a answer b → PutsObjects plan contents two a answer b
-puts_same {plan} {contents = contents} {a} {b} {answer = answer} e p =
-    subst (λ all. PutsObjects plan contents all a answer b) e p
-
--- the objects of the first of these events are put
-pub puts_some : {plan : FilePlan} {W : Type 0} {contents : W → Option (List ℕ)}
-    {a b : List ℕ × Sink W} (one two : List ℕ) (answer : Answer)
-    → PutsObjects plan contents (one ++ two) a answer b → PutsObjects plan contents one a answer b
-puts_some one two answer p = record {
-  long = p.long;
-  step = λ start none put.
-      let all = p.step start none put in
-      (all.0, all.1, from_ok answer (all_left _ one two) all.2);
-}
-
 -- the objects of these events were put before
 pub puts_before : {plan : FilePlan} {W : Type 0} {contents : W → Option (List ℕ)}
-    {indices : List ℕ} {a : List ℕ × Sink W} → AllByRecursion (HasStoredOffset plan a.0) indices
-    → PutsObjects plan contents indices a (Ok tt) a
+    {asked : ℕ → Type 0} {a : List ℕ × Sink W}
+    → ((p : ℕ) → asked p → HasStoredOffset plan a.0 p) → PutsObjects plan contents asked a (Ok tt) a
 puts_before all = record { long = refl; step = λ start none put. (put, λ k some. some, all) }
+
+-- the next child, or one of those that are left
+pub next_or_left : {left : List ℕ} (child : ℕ) (rest : List ℕ) → left ≡ child ∷ rest → (p : ℕ)
+    → Contains left p → (child ≡ p) ⊎ Contains rest p
+next_or_left child rest is p has = elim (cases_eq child p) [
+  | inl e ↦ inl e
+  | inr d ↦ inr (Contains-tail child rest p d (subst (λ l. Contains l p) is has))
+]

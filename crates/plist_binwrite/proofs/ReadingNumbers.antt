@@ -183,7 +183,7 @@ with_table_and_trailer file offsets = file ++ table_and_trailer offsets (length 
 
 trailer_back : (ow rf count at : ℕ) → count < 2 ^ 64 → at < 2 ^ 64
     → trailer_in (0 ∷ 0 ∷ 0 ∷ 0 ∷ 0 ∷ 0 ∷ ow ∷ rf
-    ∷ (bytes_high_first 8 count ++ (bytes_high_first 8 0 ++ bytes_high_first 8 at)))
+    ∷ table_form 8 (count ∷ 0 ∷ at ∷ []))
     ≡ record { offset_width = ow; reference_width = rf; count = count; root = 0; table = at }
 trailer_back ow rf count at few short =
     let a : number_of (ow ∷ []) ≡ ow = omega arith in

@@ -1,5 +1,5 @@
 -- The objects of trees by their indices: their forms, their sizes, and that they can be written.
-use Rattle.std.proofs.Common.{◌≡◌, ◌⊎◌, ℕ, ◌+◌, ◌*◌, ◌^◌, ◌<◌, ◌≤◌, false, List, ◌∷◌, length, flat_map, map, refl, ap, subst, ◌∙◌, arith, length-append}
+use Rattle.std.proofs.Common.{◌≡◌, ◌⊎◌, inl, inr, ℕ, ◌+◌, ◌*◌, ◌^◌, ◌<◌, ◌≤◌, false, List, ◌∷◌, length, flat_map, map, refl, ap, subst, ◌∙◌, arith, length-append}
 use Rattle.std.proofs.lemmas.List.{length-map}
 use Rattle.plist_base.specs.Events.{PlainEvent, ScalarEvent, shape_of}
 use Rattle.plist_base.specs.Trees.{number_of_trees, number_of_members, Scalar, String, Tree, Leaf, Array, Dictionary, Trees, NoTrees, TreeAnd, Members, NoMembers, MemberAnd}
@@ -9,7 +9,7 @@ use Rattle.plist_buffer.specs.Occurrences.{event_count, OccursAt, ItemsOccurAt, 
 use Rattle.plist_binwrite.specs.Classes.{object_of}
 use Rattle.plist_binwrite.specs.Forms.{length_form, units_of, is_ascii_text, scalar_form, form, key_numbers, value_numbers, IsWritable, IsWritableScalar, AllFit}
 use Rattle.std.specs.Int.{bytes_high_first}
-use Rattle.plist_buffer.specs.EventTable.{HasItem, event_at, item_indices, key_indices, value_indices, IsBracketed}
+use Rattle.plist_buffer.specs.EventTable.{HasItem, LacksItem, is_end, event_at, item_indices, key_indices, value_indices, IsBracketed}
 use Rattle.plist_binwrite.specs.Sizes.{object_size}
 use Rattle.plist_binwrite.specs.inner.Numbering.{IsCapped}
 use Rattle.plist_buffer.specs.Children.{half_of}
@@ -122,15 +122,11 @@ module _ {es : List PlainEvent} {k : EventShape} {p : ℕ} (at : k ≡ shape_of 
 
   -- no collection begins at this index
   module _ (other : (k ≡ shape.Scalar) ⊎ (k ≡ shape.EndCollection)) where
-    neither : ((x : Scalar) → event_at es p ≡ ScalarEvent x → P (Leaf x)) → (t : Tree) → OccursAt es t p
-        → P t
-    neither h (Leaf x) s = h x (stands_single s)
-    neither h (Array ts) s = absurd ((no_start other).0 (cc (starts_array s)))
-    neither h (Dictionary ms) s = absurd ((no_start other).1 (cc (starts_dictionary s)))
-
     -- neither a collection nor a scalar is at this index
     pub of_nothing : is_leaf (event_at es p) ≡ false → (t : Tree) → OccursAt es t p → P t
-    of_nothing n = neither (λ x single. cc (ap is_leaf single))
+    of_nothing n (Leaf x) s = cc (ap is_leaf (stands_single s))
+    of_nothing n (Array ts) s = absurd ((no_start other).0 (cc (starts_array s)))
+    of_nothing n (Dictionary ms) s = absurd ((no_start other).1 (cc (starts_dictionary s)))
 
 -- a scalar is at this index
 pub of_scalar : {es : List PlainEvent} {p : ℕ} (P : Tree → Type 0) {x : Scalar}
@@ -212,3 +208,8 @@ occurs_at es (t, e) p item =
     positions_all es (λ q. (u : Tree) × OccursAt es u q) t e
     (all_from (λ one. (u : Tree) × OccursAt es u _) (Stands es) (λ one s. (one.1, s)) _
     (positions_stand es t 0 (occurs_whole e))) p item.0 item.1
+
+-- an index at which a tree begins isn't one at which none does
+pub items_apart : (es : List PlainEvent) {p k : ℕ} → HasItem es p → LacksItem es k → p ≡ k → ⊥
+items_apart es item (inl end) same = cc (item.1, end, ap (λ q. is_end (event_at es q)) same)
+items_apart es item (inr past) same = omega (arith, item.0, past, same)

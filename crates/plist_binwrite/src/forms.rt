@@ -161,9 +161,7 @@ pub fn put_trailer<W: Write>(sink: &mut Sink<'_, W>, count: usize, table: u64) -
     let wide = offset_width(table) as u8;
     let narrow = reference_width(count as u64) as u8;
     sink.put(&[0, 0, 0, 0, 0, 0, wide, narrow])?;
-    put_number(sink, 8, count as u64)?;
-    put_number(sink, 8, 0)?;
-    put_number(sink, 8, table)
+    put_numbers(sink, 8, &[count as u64, 0, table])
 }
 
 /// Puts the offset table, which contains the byte offset of each object, and then the trailer. The

@@ -1,6 +1,6 @@
 -- A planned file, the order of its objects, and their offsets.
-use Rattle.std.specs.Prelude.{◌≡◌, ◌≢◌, ◌↔◌, ℕ, ◌+◌, ◌*◌, ◌^◌, ◌<◌, ◌≤◌, true, eqb, List, [], ◌∷◌, ◌++◌, length, slice_index, map, Option, Ok, OnOk}
-use Rattle.std.specs.List.{list_any, AllByRecursion, IsDistinct}
+use Rattle.std.specs.Prelude.{◌≡◌, ◌≢◌, ◌↔◌, ℕ, ◌+◌, ◌*◌, ◌^◌, ◌<◌, ◌≤◌, true, eqb, List, ◌++◌, length, slice_index, map, Option, Ok, OnOk}
+use Rattle.std.specs.List.{list_any, IsDistinct}
 use Rattle.std.specs.Str.{IsUtf8}
 use Rattle.plist_base.specs.Bracketing.{bracketing, AreAlike}
 use Rattle.plist_base.specs.Sinks.{HasPut, PutsBytes, buffered, room}
@@ -99,19 +99,19 @@ module _ (plan : FilePlan) where
         (tree : Tree) → OccursAt (events_in plan.given) tree index → PutsBytes contents old
         (form plan.width (object_of number_of_event tree index)) answer new
 
-    -- the objects of the events at these indices, and maybe others, are put, unless they were put
-    -- before, and each object that had an offset has one; `old` and `new` are the offsets and the
-    -- sink before and after
-    pub record PutsObjects (indices : List ℕ) (old : List ℕ × Sink W) (answer : Answer)
+    -- the objects of the events at the asked indices, and maybe others, are put, unless they were
+    -- put before, and each object that had an offset has one; `old` and `new` are the offsets and
+    -- the sink before and after
+    pub record PutsObjects (asked : ℕ → Type 0) (old : List ℕ × Sink W) (answer : Answer)
         (new : List ℕ × Sink W) : Type 0 where
       pub long : length new.0 ≡ length old.0
       pub step : (start : Sink W) → HasPut start 0 → ArePut start old.0 (Ok tt) old.1
           → ArePut start new.0 answer new.1
           × ((k : ℕ) → slice_index old.0 k ≢ 0 → slice_index new.0 k ≢ 0)
-          × OnOk answer (AllByRecursion (HasStoredOffset new.0) indices)
+          × OnOk answer ((p : ℕ) → asked p → HasStoredOffset new.0 p)
 
     -- only the object of the event at an index, whose offset is stored, still has to be put
     abbrev pub LacksObject : (index : ℕ) (old new : List ℕ × Sink W) → Type 0
     LacksObject index old new = (answer : Answer) (after : Sink W)
         → PutsObject index new.1 answer after
-        → PutsObjects (index ∷ []) old answer (new.0, after)
+        → PutsObjects (λ p. index ≡ p) old answer (new.0, after)

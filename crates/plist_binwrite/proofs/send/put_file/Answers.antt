@@ -22,12 +22,12 @@ returns-in_err-put_objects g c =
     c.from_residual-in_err-put_objects.ensures.1 in
     let b = (goal.at.returns-in_err-put_objects g c).In_ok-put in
     rw (p.1, p.2) (part_put c.requires.plan
-    (c.in_err-put_objects.ensures c.args.sink.now c.requires.start (begun g b)).0)
+    (c.in_err-put_objects.ensures.step c.args.sink.now c.requires.start (begun g b)).0)
 
 pub returns : goal.returns
 returns g c =
     let b = (goal.at.returns g c).In_ok-put in
-    let all = c.in_ok-put_objects.ensures c.args.sink.now c.requires.start (begun g b) in
-    all_put c.requires.plan all.0 c.requires.start all.1 c.unwrap_or-table.result
+    let all = c.in_ok-put_objects.ensures.step c.args.sink.now c.requires.start (begun g b) in
+    all_put c.requires.plan all.0 c.requires.start all.2 c.unwrap_or-table.result
     (λ n put. number_told c.position.result _ _ c.unwrap_or-table.ensures n (c.position.ensures n put))
     (answer_of c.put_table_and_trailer.result) _ c.put_table_and_trailer.ensures

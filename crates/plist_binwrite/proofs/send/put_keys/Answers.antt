@@ -1,12 +1,13 @@
-use Rattle.std.proofs.Common.{◌≡◌, Err, Ok, sym, subst, ◌∙◌}
+use Rattle.std.proofs.Common.{◌≡◌, Err, Ok, ap, arith, length, sym, subst, ◌∙◌}
 use Rattle.std.proofs.lemmas.Result.{err_from_is_err_and}
-use Rattle.std.specs.List.{AllByRecursion}
+use Rattle.std.specs.List.{AllByRecursion, Contains}
 use Rattle.plist_buffer.specs.Children.{half_of, indices_left}
 use Rattle.plist_binwrite.specs.EventClasses.{events_in}
 use Rattle.plist_buffer.specs.EventTable.{HasItem}
 use Rattle.plist_buffer.specs.declared.children.Half.TheVariants.{Keys}
 use Rattle.plist_buffer.proofs.ChildIndices.{are_items}
-use Rattle.plist_binwrite.proofs.PuttingObjects.{puts_same, puts_before, puts_both, puts_part}
+use Rattle.plist_binwrite.proofs.PuttingObjects.{next_or_left, puts_before, puts_both, puts_part}
+use Rattle.plist_binwrite.specs.inner.Layout.{PutsObjects}
 use Rattle.plist_binwrite.proofs.send.put_keys.Goals as goal
 use Rattle.plist_binwrite.proofs.send.put_keys.Goals.{After-into_iter-key-iterator as Begun}
 
@@ -31,7 +32,7 @@ loop-key-preserved g c =
     record {
       long = one.long ∙ i.long;
       rest = λ answer after more.
-          i.rest answer after (puts_same (sym next) (puts_both answer one more));
+          i.rest answer after (puts_both answer (next_or_left _ _ next) one more);
       items = (subst (AllByRecursion (HasItem _)) next i.items).1;
     }
 
@@ -44,7 +45,7 @@ loop-key-preserved-in-Continue-1 g c =
     record {
       long = one.long ∙ i.long;
       rest = λ answer after more.
-          i.rest answer after (puts_same (sym next) (puts_both answer one more));
+          i.rest answer after (puts_both answer (next_or_left _ _ next) one more);
       items = (subst (AllByRecursion (HasItem _)) next i.items).1;
     }
 
@@ -52,13 +53,13 @@ pub returns-in_err-put_object : goal.returns-in_err-put_object
 returns-in_err-put_object g c =
     let p = err_from_is_err_and c.from_residual.result c.from_residual.ensures.1 in
     rw (p.1, p.2)
-    (puts_same (begun g (goal.at.returns-in_err-put_object g c).After-into_iter-key-iterator)
-    (c.loop-key.invariant.rest (Err _) _
-    (puts_part _
+    (puts_part (c.loop-key.invariant.rest (Err _) _ (puts_part
     (c.begin_object.ensures.begun c.if-begin_object.true (Err _) _ c.in_err-put_object.ensures))))
 
 pub returns : goal.returns
 returns g c =
-    puts_same (begun g (goal.at.returns g c).After-into_iter-key-iterator)
-    (c.loop-key.invariant.rest (Ok tt) _
-    (puts_same (sym c.in-None.ensures.steps.0) (puts_before tt)))
+    subst (λ all. PutsObjects c.args.plan.now g.W.Write.contents (Contains all)
+    (c.args.offsets.now, c.args.sink.now) (Ok tt) (c.loop-key.offsets, c.loop-key.sink))
+    (begun g (goal.at.returns g c).After-into_iter-key-iterator)
+    (c.loop-key.invariant.rest (Ok tt) _ (puts_before (λ p (k, low, is).
+    absurd (omega (arith, low, ap length c.in-None.ensures.steps.0)))))
