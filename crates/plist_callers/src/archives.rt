@@ -1,7 +1,8 @@
 //! Proved callers of an archive: the calls that allocate no memory, and the error of a tree.
 
-ghost use Rattle.std.specs.Prelude.{◌≡◌, Err, IfSome, IsNone, false};
-ghost use Rattle.plist_keyed.specs.Archives.{RecursiveUid, resolved_tree, trees_in};
+ghost use Rattle.std.specs.Prelude.{◌≡◌, Err, IfSome, IsNone, false, map};
+ghost use Rattle.plist.specs.ValueTrees.{tree_of};
+ghost use Rattle.plist_keyed.specs.Archives.{RecursiveUid, objects_of, resolved_tree};
 ghost use Rattle.plist_callers.specs.Objects.{HasNoObjectAt, IsObjectAt};
 
 use plist::{Uid, Value};
@@ -23,7 +24,8 @@ pub fn object_at<'a>(archive: &Archive<'a>, key: &str) -> Option<&'a Value>
 /// Requests a tree that can't be made, because the object of the Uid `nested` contains `nested`
 /// again, possibly through other Uids. Returns whether the error names another Uid.
 pub fn names_another_open_uid(alloc: Global, archive: &Archive<'_>, uid: Uid, nested: u64) -> bool
-    requires { resolved_tree (trees_in archive.now) uid ≡ Err (RecursiveUid nested) }
+    requires { resolved_tree (map tree_of (objects_of archive.now)) uid
+        ≡ Err (RecursiveUid nested) }
     ensures { result ≡ false }
 {
     match archive.tree(alloc, uid) {

@@ -7,7 +7,7 @@ use Rattle.plist_base.specs.Prefixes.{AppendsPrefix}
 use Rattle.plist_base.specs.Trees.{Tree}
 use Rattle.plist.specs.declared.value.Value.{Value}
 use Rattle.plist.specs.ValueTrees.{tree_of}
-use Rattle.plist_keyed.specs.Archives.{ArchiveFault, IsArchive, IsArchiveOf, IsUidAt, MatchError, resolved_tree}
+use Rattle.plist_keyed.specs.Archives.{ArchiveFault, IsArchiveOf, IsNoArchive, IsUidAt, MatchError, resolved_tree}
 use Rattle.plist_print.specs.EscapedLines.{lines_of_events}
 use Rattle.plist_commands.specs.Commands.{PlainFailure, OfPlist, OfArchive, NoSuchTop}
 
@@ -23,7 +23,7 @@ IsResolvedAt root key answer =
 abbrev pub IsRefusedAt : (root : Value) → (key : List ℕ) → PlainFailure → Type 0
 IsRefusedAt root key (OfPlist fault) = ⊥
 IsRefusedAt root key (OfArchive error) =
-    MatchError error (¬ (IsArchive root)) ⊤ (λ fault. IsResolvedAt root key (Err fault))
+    MatchError error (IsNoArchive root error) ⊤ (λ fault. IsResolvedAt root key (Err fault))
 IsRefusedAt root key NoSuchTop =
     (objects : List Value) × (names : List (List ℕ × Value)) × IsArchiveOf root objects names
     × ((uid : ℕ) → ¬ (IsUidAt key names uid))

@@ -13,7 +13,8 @@ use Rattle.plist_base.specs.Trees.{Tree}
 use Rattle.plist_base.specs.inner.Paths.{IsPath}
 use Rattle.plist_base.proofs.Paths.{path_fuel, path_none, path_push}
 use Rattle.plist_keyed.specs.Archives.{ArchiveFault, resolved_tree}
-use Rattle.plist_keyed.specs.inner.Walks.{AreSettled, IsIn, NameOnly, events_at, uid_of_event, uid_of_tree}
+use Rattle.plist_keyed.specs.inner.Walks.{AreSettled, IsIn, NameOnly, events_at, uid_of_event}
+use Rattle.plist.specs.Accessors.{uid_in}
 use Rattle.plist_keyed.proofs.Replaced.{Outcome, collected, events_in, join, join-assoc, join-nil, outcome}
 use Rattle.plist_keyed.proofs.Settled.{AreApart, first-in, found_in, found-parts, later-in, named-append, named-more, named-outcome, opened_in, refused_in, resolved_in, settled-same, uid-events}
 
@@ -180,11 +181,11 @@ module _ (objects : List Tree) where
 
   end-kept : (end other : ℕ → ℕ) (object : Tree) (uids : List ℕ) (uid : ℕ)
       → NameOnly (bracketing object) uids → ((u : ℕ) → IsIn u uids → other u ≡ end u)
-      → option_map_or end (uid_of_tree object) uid
-      ≡ option_map_or other (uid_of_tree object) uid
-  end-kept end other object uids uid named kept = by (uid_of_tree object) refl
+      → option_map_or end (uid_in object) uid
+      ≡ option_map_or other (uid_in object) uid
+  end-kept end other object uids uid named kept = by (uid_in object) refl
     where
-      by : (found : Option ℕ) → uid_of_tree object ≡ found
+      by : (found : Option ℕ) → uid_in object ≡ found
           → option_map_or end found uid ≡ option_map_or other found uid
       by None is = refl
       by (Some next) is =
@@ -288,7 +289,7 @@ module _ (objects : List Tree) where
 
     -- the innermost object is left
     pub leaves : (other : ℕ → ℕ) (uid : ℕ) (below : List (List PlainEvent)) (path : List ℕ)
-        → other uid ≡ option_map_or end (option_and_then uid_of_tree (slice_get objects uid)) uid
+        → other uid ≡ option_map_or end (option_and_then uid_in (slice_get objects uid)) uid
         → ((u : ℕ) → IsIn u uids → other u ≡ end u)
         → IsCheck start end uids ([] ∷ below) (uid ∷ path)
         → IsCheck start other (uid ∷ uids) below path
@@ -296,8 +297,8 @@ module _ (objects : List Tree) where
         let ((object, before, at, all, named, new), r) = o.read in
         let whole_named : NameOnly (bracketing object) uids =
         subst (λ es. NameOnly es uids) (sym (all ∙ append-nil before)) named in
-        let own : other uid ≡ option_map_or other (uid_of_tree object) uid =
-        ends ∙ ap (λ f. option_map_or end (option_and_then uid_of_tree f) uid) at
+        let own : other uid ≡ option_map_or other (uid_in object) uid =
+        ends ∙ ap (λ f. option_map_or end (option_and_then uid_in f) uid) at
         ∙ end-kept end other object uids uid whole_named kept in
         record {
           settled = (

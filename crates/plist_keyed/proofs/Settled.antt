@@ -13,7 +13,8 @@ use Rattle.plist_base.specs.Trees.{Tree, Leaf, Uid}
 use Rattle.plist_base.specs.inner.Paths.{IsPath}
 use Rattle.plist_base.proofs.Paths.{path_none, path_push, path_rises}
 use Rattle.plist_keyed.specs.Archives.{ArchiveFault, and_then, object_found, replaced, resolved, resolved_tree}
-use Rattle.plist_keyed.specs.inner.Walks.{AreSettled, IsIn, NameOnly, events_at, replaced_events, uid_of_event, uid_of_tree}
+use Rattle.plist_keyed.specs.inner.Walks.{AreSettled, IsIn, NameOnly, events_at, replaced_events, uid_of_event}
+use Rattle.plist.specs.Accessors.{uid_in}
 use Rattle.plist_keyed.proofs.Replaced.{collected, events_in, outcome, tree-collects}
 
 -- ---- Uids and events
@@ -40,7 +41,7 @@ named-append [] after uids h g = g
 named-append (e ∷ before) after uids h g = (h.0, named-append before after uids h.1 g)
 
 -- the events of a tree that is a Uid are that Uid
-pub uid-events : (t : Tree) (uid : ℕ) → uid_of_tree t ≡ Some uid
+pub uid-events : (t : Tree) (uid : ℕ) → uid_in t ≡ Some uid
     → bracketing t ≡ ScalarEvent (Uid uid) ∷ []
 uid-events (Leaf (Uid n)) uid h =
     let e : n ≡ uid = cc in ap (λ m. ScalarEvent (Uid m) ∷ []) e
@@ -187,7 +188,7 @@ module _ (objects : List Tree) where
     abbrev pub IsEndOf : (uids : List ℕ) → (uid : ℕ) → Type 0
     IsEndOf uids uid =
         (object : Tree) × (slice_get objects (end uid) ≡ Some object)
-        × NameOnly (bracketing object) uids × (uid_of_tree object ≡ None)
+        × NameOnly (bracketing object) uids × (uid_in object ≡ None)
         × (events_at objects uid ≡ replaced_events objects (bracketing object))
 
     more-ends : (uids : List ℕ) (uid other : ℕ) → IsEndOf uids uid → IsEndOf (other ∷ uids) uid
@@ -201,7 +202,7 @@ module _ (objects : List Tree) where
     )
 
     -- a Uid whose object is another Uid has the end of that one
-    next-end : (uids : List ℕ) (uid next : ℕ) (object : Tree) → uid_of_tree object ≡ Some next
+    next-end : (uids : List ℕ) (uid next : ℕ) (object : Tree) → uid_in object ≡ Some next
         → end uid ≡ end next → events_at objects uid ≡ replaced_events objects (bracketing object)
         → IsEndOf uids next → IsEndOf uids uid
     next-end uids uid next object is ends events (other, at, named, plain, same) = (
@@ -223,12 +224,12 @@ module _ (objects : List Tree) where
               (settled-same uids s) (path_none _)
               (λ p. absurd (cc)) (λ u p q. absurd (cc)) in
               subst (IsEndOf (first ∷ uids)) (sym e.1)
-              (by (settled-end uids s) (uid_of_tree r.object) refl (sym (at-top first _ top)))
+              (by (settled-end uids s) (uid_in r.object) refl (sym (at-top first _ top)))
           | inr e ↦ more-ends uids uid first (settled-end uids s uid (rw e.0 at member))
         ]
       where
         by : ((n : ℕ) → IsIn n uids → IsEndOf uids n) → (found : Option ℕ)
-            → uid_of_tree r.object ≡ found
+            → uid_in r.object ≡ found
             → events_at objects first ≡ replaced_events objects (bracketing r.object)
             → IsEndOf (first ∷ uids) first
         by below None is events =

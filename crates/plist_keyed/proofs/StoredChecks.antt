@@ -21,7 +21,8 @@ use Rattle.plist_keyed.specs.declared.error.KeyedError.{KeyedError}
 use Rattle.plist_keyed.specs.declared.error.KeyedError.TheVariants as keyed
 use Rattle.plist_keyed.specs.declared.state.ArchiveWalk.{ArchiveWalk}
 use Rattle.plist_keyed.specs.Archives.{IsFaultOf, UidOutOfRange, RecursiveUid, resolved_tree}
-use Rattle.plist_keyed.specs.inner.Walks.{FollowsUid, IsIn, end_in, objects_in, settled_in, uid_of_event, uid_of_tree}
+use Rattle.plist_keyed.specs.inner.Walks.{FollowsUid, IsIn, end_in, objects_in, settled_in, uid_of_event}
+use Rattle.plist.specs.Accessors.{uid_in}
 use Rattle.plist_keyed.proofs.Replaced.{events_in, join, join-nil, join-none, outcome}
 use Rattle.plist_keyed.proofs.Settled.{first-in, found_in, found-parts, from-top, later-in, resolved_in}
 use Rattle.plist_keyed.proofs.Checks.{IsCheck, distance, leaves, opens, opens-nearer, outcome_of, passes, passes-nearer, read-passed, refuses, takes}
@@ -236,7 +237,7 @@ pub settles : (walk after : ArchiveWalk) (path shorter : List ℕ) (start uid : 
     → after.objects ≡ walk.objects
     → settled_in after.ends ≡ uid ∷ settled_in walk.ends
     → end_in after.ends uid ≡ option_map_or (end_in walk.ends)
-    (option_and_then uid_of_tree (slice_get (objects_in walk) uid)) uid
+    (option_and_then uid_in (slice_get (objects_in walk) uid)) uid
     → ((other : ℕ) → IsIn other (settled_in walk.ends)
     → end_in after.ends other ≡ end_in walk.ends other)
     → Checks start after (levels_of below) (reverse shorter)

@@ -15,7 +15,8 @@ use Rattle.plist.specs.declared.value.Value.{Value}
 use Rattle.plist.specs.Events.{BeginsWithStart, remaining_events}
 use Rattle.plist.specs.ValueTrees.{tree_of}
 use Rattle.plist_keyed.specs.declared.state.ArchiveWalk.{ArchiveWalk}
-use Rattle.plist_keyed.specs.inner.Walks.{AreAllSettled, AreSettled, IsIn, IsWalk, NameOnly, end_in, events_at, events_left, events_in_levels, objects_in, replaced_events, settled_in, uid_of_event, uid_of_tree}
+use Rattle.plist_keyed.specs.inner.Walks.{AreAllSettled, AreSettled, IsIn, IsWalk, NameOnly, end_in, events_at, events_left, events_in_levels, objects_in, replaced_events, settled_in, uid_of_event}
+use Rattle.plist.specs.Accessors.{uid_in}
 use Rattle.plist_base.proofs.Paths.{path_none}
 use Rattle.plist_keyed.specs.Archives.{resolved_tree}
 use Rattle.plist_keyed.proofs.Replaced.{events_in}
@@ -34,7 +35,7 @@ module _ (objects : List Tree) where
       ap (λ f. option_map_or (events_at objects) f (e ∷ []) ++ replaced_events objects es) is
 
   -- the first event of a tree that isn't a Uid
-  pub tree-first : (t : Tree) → uid_of_tree t ≡ None
+  pub tree-first : (t : Tree) → uid_in t ≡ None
       → (e : PlainEvent) × (es : List PlainEvent) × (bracketing t ≡ e ∷ es)
       × (uid_of_event e ≡ None)
   tree-first (Leaf x) plain = (ScalarEvent x, [], refl, plain)
@@ -89,7 +90,7 @@ module _ (walk : ArchiveWalk) (uid : ℕ) (o : IsWalk walk)
       ≡ events_at (objects_in walk) uid ++ events_left walk)
       × (flat_map remaining_events (reverse items) ≡ bracketing object ++ events_in_levels walk)
       × NameOnly (flat_map remaining_events (reverse items)) (settled_in walk.ends)
-      × (uid_of_tree object ≡ None)
+      × (uid_in object ≡ None)
   enters items level object at is all =
       let (other, found, named, plain, same) = end-of in
       let e : other ≡ object = same_Some other object (sym found ∙ at) in
@@ -104,7 +105,7 @@ module _ (walk : ArchiveWalk) (uid : ℕ) (o : IsWalk walk)
         subst (λ l. NameOnly l (settled_in walk.ends)) (sym within)
             (named-append (bracketing other) (events_in_levels walk) (settled_in walk.ends) named
             o.1),
-        ap uid_of_tree (sym e) ∙ plain,
+        ap uid_in (sym e) ∙ plain,
       )
 
 -- ---- the walk of one Uid

@@ -1,18 +1,16 @@
 -- Keyed archives: their contents, their errors, and the tree of each object, in which each Uid is
 -- replaced by the tree of the object that it names.
-use Rattle.std.specs.Prelude.{◌≡◌, ℕ, zero, suc, Bool, true, false, List, [], ◌∷◌, ◌++◌, length, map, Option, Some, None, Result, Ok, Err, codes, decimal, nat_eq, slice_get, ⊤}
+use Rattle.std.specs.Prelude.{◌≡◌, ℕ, zero, suc, Bool, true, false, List, [], ◌∷◌, ◌++◌, length, Option, Some, None, Result, Ok, Err, codes, decimal, nat_eq, slice_get, bytes_eq, Vec, ⊤}
 use Rattle.std.specs.List.{list_any}
 use Rattle.std.specs.Map.{lookup}
 use Rattle.std.specs.Option.{option_map_or}
-use Rattle.std.specs.Str.{bytes_eq}
 use Rattle.std.specs.declared.alloc.Global.{Global}
-use Rattle.std.specs.declared.vec.Vec.{Vec}
-use Rattle.plist_base.specs.Trees.{Scalar, Uid, Tree, Leaf, Array, Dictionary, Trees, NoTrees, TreeAnd, Members, NoMembers, MemberAnd}
+use Rattle.plist_base.specs.Trees.{Tree, Leaf, Array, Dictionary, Trees, NoTrees, TreeAnd, Members, NoMembers, MemberAnd}
 use Rattle.plist.specs.declared.value.Value.{Value}
 use Rattle.plist.specs.declared.value.Value.TheVariants as value
 use Rattle.plist.specs.declared.dictionary.Dictionary as plist
+use Rattle.plist.specs.Accessors.{uid_in}
 use Rattle.plist.specs.Dictionaries.{pairs_of}
-use Rattle.plist.specs.ValueTrees.{tree_of}
 use Rattle.plist_keyed.specs.declared.archive.Archive.{Archive}
 use Rattle.plist_keyed.specs.declared.error.KeyedError.{KeyedError}
 use Rattle.plist_keyed.specs.declared.error.KeyedError.TheVariants as error
@@ -21,21 +19,13 @@ use Rattle.plist_keyed.specs.declared.error.KeyedError.TheVariants as error
 abbrev pub objects_of : Archive → List Value
 objects_of archive = archive.objects.now.items
 
--- the trees of the objects, in which no Uid is replaced
-abbrev pub trees_in : Archive → List Tree
-trees_in archive = map tree_of (objects_of archive)
-
 -- the pairs of a name and a value, which names an object if it is a Uid
 abbrev pub names_of : Archive → List (List ℕ × Value)
 names_of archive = pairs_of archive.names.now
 
--- the key has this value
-abbrev pub IsValueAt : (key : List ℕ) → (pairs : List (List ℕ × Value)) → Value → Type 0
-IsValueAt key pairs v = lookup (bytes_eq key) pairs ≡ Some v
-
 -- the key's value is this Uid
 abbrev pub IsUidAt : (key : List ℕ) → (pairs : List (List ℕ × Value)) → (uid : ℕ) → Type 0
-IsUidAt key pairs uid = IsValueAt key pairs (value.Uid uid)
+IsUidAt key pairs uid = lookup (bytes_eq key) pairs ≡ Some (value.Uid uid)
 
 -- the property list is a dictionary with these objects in the array at `$objects`, and these names
 -- in the dictionary at `$top`
@@ -44,19 +34,15 @@ abbrev pub IsArchiveOf : (root : Value) → (objects : List Value) → (names : 
 IsArchiveOf root objects names =
     (dictionary : plist.Dictionary) × (array : Vec Value Global) × (top : plist.Dictionary)
     × (root ≡ value.Dictionary dictionary)
-    × IsValueAt (codes "$objects") (pairs_of dictionary) (value.Array array)
+    × (lookup (bytes_eq (codes "$objects")) (pairs_of dictionary) ≡ Some (value.Array array))
     × (array.items ≡ objects)
-    × IsValueAt (codes "$top") (pairs_of dictionary) (value.Dictionary top)
+    × (lookup (bytes_eq (codes "$top")) (pairs_of dictionary) ≡ Some (value.Dictionary top))
     × (pairs_of top ≡ names)
-
--- the property list is an archive
-abbrev pub IsArchive : (root : Value) → Type 0
-IsArchive root =
-    (objects : List Value) × (names : List (List ℕ × Value)) × IsArchiveOf root objects names
 
 -- the property list isn't an archive, and the error is `NotAnArchive`
 abbrev pub IsNoArchive : (root : Value) → KeyedError → Type 0
-IsNoArchive root answer = (answer ≡ error.NotAnArchive) × ¬ (IsArchive root)
+IsNoArchive root answer = (answer ≡ error.NotAnArchive)
+    × ¬ ((objects : List Value) × (names : List (List ℕ × Value)) × IsArchiveOf root objects names)
 
 -- ---- the tree of an object
 
@@ -71,16 +57,11 @@ abbrev pub and_then : {A B : Type 0} → Result A ArchiveFault → (A → Result
 and_then (Ok a) f = f a
 and_then (Err fault) f = Err fault
 
--- the number of a Uid, which no other scalar has
-abbrev pub number_of_uid : Scalar → Option ℕ
-number_of_uid (Uid uid) = Some uid
-number_of_uid scalar = None
-
 module _ (follow : ℕ → Result Tree ArchiveFault) where
   -- the tree in which each Uid is replaced, in order
   abbrev mutual
     pub replaced : Tree → Result Tree ArchiveFault
-    replaced (Leaf scalar) = option_map_or follow (number_of_uid scalar) (Ok (Leaf scalar))
+    replaced (Leaf scalar) = option_map_or follow (uid_in (Leaf scalar)) (Ok (Leaf scalar))
     replaced (Array items) = and_then (replaced_items items) (λ done. Ok (Array done))
     replaced (Dictionary pairs) = and_then (replaced_pairs pairs) (λ done. Ok (Dictionary done))
 

@@ -1,8 +1,8 @@
 //! An archive, with its objects and the names of its roots.
 
-ghost use Rattle.std.specs.Prelude.{◌≡◌, ℕ, Ok, IfErr, IfOk, IfSome, IsNone, slice_get};
+ghost use Rattle.std.specs.Prelude.{◌≡◌, ℕ, Ok, IfErr, IfOk, IfSome, IsNone, map, slice_get};
 ghost use Rattle.std.specs.Option.{option_copied};
-ghost use Rattle.plist_keyed.specs.Archives.{IsUidAt, names_of, objects_of, trees_in, IsArchiveOf, IsNoArchive, resolved_tree, IsFaultOf};
+ghost use Rattle.plist_keyed.specs.Archives.{IsUidAt, names_of, objects_of, IsArchiveOf, IsNoArchive, resolved_tree, IsFaultOf};
 ghost use Rattle.plist.specs.ValueTrees.{tree_of};
 
 use crate::KeyedError;
@@ -88,8 +88,10 @@ impl<'a> Archive<'a> {
     /// - `RecursiveUid` for a Uid that is reached while its own object is open.
     /// - `OutOfMemory` if an allocation fails.
     pub fn tree(&self, alloc: Global, uid: Uid) -> Result<Value, KeyedError>
-        ensures value { IfOk result (λ v. resolved_tree (trees_in self.now) uid ≡ Ok (tree_of v)) }
-        ensures fault { IfErr result (IsFaultOf (resolved_tree (trees_in self.now) uid)) }
+        ensures value { IfOk result (λ v. resolved_tree (map tree_of (objects_of self.now)) uid
+            ≡ Ok (tree_of v)) }
+        ensures fault { IfErr result
+            (IsFaultOf (resolved_tree (map tree_of (objects_of self.now)) uid)) }
     {
         value_at(alloc, self.objects.as_slice(), uid.get())
     }

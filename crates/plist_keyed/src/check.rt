@@ -8,7 +8,8 @@ ghost use Rattle.std.specs.List.{list_any};
 ghost use Rattle.std.specs.Option.{option_and_then, option_map_or};
 ghost use Rattle.plist_keyed.specs.declared.error.KeyedError.TheVariants.{OutOfMemory as NoMemory};
 ghost use Rattle.plist_keyed.specs.Archives.{IsFaultOf, object_found, resolved_tree};
-ghost use Rattle.plist_keyed.specs.inner.Walks.{IsIn, end_in, settled_in, uid_of_tree};
+ghost use Rattle.plist_keyed.specs.inner.Walks.{IsIn, end_in, settled_in};
+ghost use Rattle.plist.specs.Accessors.{uid_in};
 
 use crate::KeyedError;
 use crate::state::{ArchiveWalk, uid_of};
@@ -53,7 +54,7 @@ impl<'a> ArchiveWalk<'a> {
         // State afterwards.
         ensures settled { OnOk result (settled_in self.new.ends ≡ uid ∷ settled_in self.old.ends) }
         ensures end { OnOk result (end_in self.new.ends uid ≡ option_map_or (end_in self.old.ends)
-            (option_and_then uid_of_tree (slice_get (objects_in self.old) uid)) uid) }
+            (option_and_then uid_in (slice_get (objects_in self.old) uid)) uid) }
         ensures kept { OnOk result ((other : ℕ) → IsIn other (settled_in self.old.ends)
             → end_in self.new.ends other ≡ end_in self.old.ends other) }
         ensures objects { OnOk result (self.new.objects ≡ self.old.objects) }

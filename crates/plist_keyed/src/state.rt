@@ -4,7 +4,8 @@ ghost use Rattle.std.specs.Prelude.{◌≡◌, ◌<◌, [], length, slice_get, S
 ghost use Rattle.std.specs.Option.{option_and_then, option_copied};
 ghost use Rattle.plist_base.specs.Events.{event_of};
 ghost use Rattle.plist.specs.ValueTrees.{tree_of};
-ghost use Rattle.plist_keyed.specs.inner.Walks.{end_in, uid_of_event, uid_of_tree};
+ghost use Rattle.plist_keyed.specs.inner.Walks.{end_in, uid_of_event};
+ghost use Rattle.plist.specs.Accessors.{uid_in};
 
 use indexmap::IndexMap;
 use plist::Value;
@@ -22,8 +23,8 @@ pub(crate) fn uid_of(event: &Event<'_>) -> Option<u64>
 }
 
 // Returns the number of the Uid that an object is, or `None` for any other object.
-fn uid_in(object: &Value) -> Option<u64>
-    ensures { result ≡ uid_of_tree (tree_of object.now) }
+fn uid_of_object(object: &Value) -> Option<u64>
+    ensures { result ≡ uid_in (tree_of object.now) }
 {
     let Value::Uid(uid) = object else {
         return None;
@@ -89,8 +90,8 @@ impl<'a> ArchiveWalk<'a> {
 
     // Returns the Uid that the object of a Uid is, if it is one.
     pub(crate) fn next_of(&self, uid: u64) -> Option<u64>
-        ensures { result ≡ option_and_then uid_of_tree (slice_get (objects_in self.now) uid) }
+        ensures { result ≡ option_and_then uid_in (slice_get (objects_in self.now) uid) }
     {
-        uid_in(self.look_up(uid)?)
+        uid_of_object(self.look_up(uid)?)
     }
 }

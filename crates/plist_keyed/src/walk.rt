@@ -5,7 +5,8 @@ ghost use Rattle.plist_base.specs.Bracketing.{bracketing};
 ghost use Rattle.plist_base.specs.Trees.{Tree};
 ghost use Rattle.plist_keyed.specs.declared.error.KeyedError.TheVariants.{OutOfMemory as NoMemory};
 ghost use Rattle.plist_keyed.specs.Archives.{IsFaultOf, resolved_tree};
-ghost use Rattle.plist_keyed.specs.inner.Walks.{IsIn, events_at, settled_in, uid_of_tree};
+ghost use Rattle.plist_keyed.specs.inner.Walks.{IsIn, events_at, settled_in};
+ghost use Rattle.plist.specs.Accessors.{uid_in};
 ghost use Rattle.plist.specs.ValueTrees.{tree_of};
 
 use crate::KeyedError;
@@ -23,7 +24,7 @@ impl<'a> ArchiveWalk<'a> {
         requires settled { IsIn uid (settled_in self.old.ends) }
         ensures entered { OnOk result (events_left self.new
             ≡ events_at (objects_in self.old) uid ++ events_left self.old) }
-        ensures first { OnOk result ((object : Tree) × (uid_of_tree object ≡ None)
+        ensures first { OnOk result ((object : Tree) × (uid_in object ≡ None)
             × (events_in_levels self.new ≡ bracketing object ++ events_in_levels self.old)) }
         ensures levels { OnOk result (length self.new.levels.items
             ≡ 1 + length self.old.levels.items) }

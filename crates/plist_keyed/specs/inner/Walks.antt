@@ -12,21 +12,17 @@ use Rattle.plist_base.specs.Bracketing.{bracketing}
 use Rattle.plist_base.specs.Events.{PlainEvent, ScalarEvent, event_of}
 use Rattle.plist_base.specs.FirstItems.{GivesFirst}
 use Rattle.plist_base.specs.Trees.{Tree, Leaf}
+use Rattle.plist.specs.Accessors.{uid_in}
 use Rattle.plist.specs.declared.stream.events.Events.{Events}
 use Rattle.plist.specs.Events.{remaining_events}
 use Rattle.plist.specs.ValueTrees.{tree_of}
 use Rattle.plist_keyed.specs.declared.state.ArchiveWalk.{ArchiveWalk}
-use Rattle.plist_keyed.specs.Archives.{number_of_uid, object_found, resolved_tree}
+use Rattle.plist_keyed.specs.Archives.{object_found, resolved_tree}
 
 -- the number of the Uid that an event is, if it is one
 abbrev pub uid_of_event : PlainEvent → Option ℕ
-uid_of_event (ScalarEvent scalar) = number_of_uid scalar
+uid_of_event (ScalarEvent scalar) = uid_in (Leaf scalar)
 uid_of_event event = None
-
--- the number of the Uid that a tree is, if it is one
-abbrev pub uid_of_tree : Tree → Option ℕ
-uid_of_tree (Leaf scalar) = number_of_uid scalar
-uid_of_tree tree = None
 
 -- the Uid is one of these
 abbrev pub IsIn : (uid : ℕ) → (uids : List ℕ) → Type 0
@@ -45,7 +41,7 @@ pub record IsSettledAfter (objects : List Tree) (end : ℕ → ℕ) (uids : List
     pub found : slice_get objects uid ≡ Some object
     pub is_new : IsIn uid uids → ⊥
     pub leads : NameOnly (bracketing object) uids
-    pub same_end : end uid ≡ option_map_or end (uid_of_tree object) uid
+    pub same_end : end uid ≡ option_map_or end (uid_in object) uid
 
 -- each Uid is settled after those that follow it in the list
 abbrev pub AreSettled : (objects : List Tree) → (end : ℕ → ℕ) → (uids : List ℕ) → Type 0

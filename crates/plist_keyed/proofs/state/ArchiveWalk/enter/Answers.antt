@@ -4,7 +4,8 @@ use Rattle.std.specs.Prelude.{slice_get}
 use Rattle.plist_base.specs.Bracketing.{bracketing}
 use Rattle.plist.specs.Events.{remaining_events}
 use Rattle.plist.specs.ValueTrees.{tree_of}
-use Rattle.plist_keyed.specs.inner.Walks.{NameOnly, events_at, events_left, events_in_levels, objects_in, replaced_events, settled_in, uid_of_tree}
+use Rattle.plist_keyed.specs.inner.Walks.{NameOnly, events_at, events_left, events_in_levels, objects_in, replaced_events, settled_in}
+use Rattle.plist.specs.Accessors.{uid_in}
 use Rattle.plist_keyed.proofs.StoredChecks.{seen_at}
 use Rattle.plist_keyed.proofs.WalkSteps.{end-of, enters, seen-within}
 use Rattle.plist_keyed.proofs.state.ArchiveWalk.enter.Goals as goal
@@ -23,7 +24,7 @@ entered : (c : goal.In_ok-push)
     ≡ bracketing (tree_of c.object_at-object.result.now) ++ events_in_levels c.args.self.now)
     × NameOnly (flat_map remaining_events (reverse c.push.new.self.items))
     (settled_in c.args.self.now.ends)
-    × (uid_of_tree (tree_of c.object_at-object.result.now) ≡ None)
+    × (uid_in (tree_of c.object_at-object.result.now) ≡ None)
 entered c =
     let walk = c.args.self.now in
     let object = c.object_at-object.result.now in
