@@ -1,8 +1,6 @@
 -- The property list of readings.
 use Rattle.std.specs.Prelude.{List, [], ◌∷◌, codes, map, pos}
 use Rattle.plist_base.specs.Trees.{Tree, Leaf, Array, Dictionary, Integer, members_of, trees_of}
-use Rattle.plist_base.specs.Bracketing.{bracketing}
-use Rattle.plist_base.specs.Events.{PlainEvent}
 use Rattle.plist_uses.specs.declared.generated.Reading.{Reading}
 
 -- a dictionary of a reading's second and level
@@ -17,11 +15,3 @@ reading_tree reading =
 -- an array of the readings, in order
 abbrev pub readings_tree : List Reading → Tree
 readings_tree readings = Array (trees_of (map reading_tree readings))
-
--- the events of a reading
-abbrev pub reading_events : Reading → List PlainEvent
-reading_events reading = bracketing (reading_tree reading)
-
--- the events of an array of these readings
-abbrev pub list_events : List Reading → List PlainEvent
-list_events readings = bracketing (readings_tree readings)

@@ -1,7 +1,6 @@
 -- What contracts see of settings.
-use Rattle.std.specs.Prelude.{◌≡◌, ℕ, List, Option, None, Ok, Err, IfSome, option_and_then}
+use Rattle.std.specs.Prelude.{◌≡◌, ℕ, List, Option, None, Result, Ok, Err, IfSome, bytes_eq, option_and_then}
 use Rattle.std.specs.Map.{lookup}
-use Rattle.std.specs.Str.{bytes_eq}
 use Rattle.indexmap.specs.IndexMap.{insert_entry}
 use Rattle.plist_base.specs.Faults.{Fault, fault_of}
 use Rattle.plist_base.specs.Trees.{Tree, Dictionary}
@@ -24,20 +23,16 @@ settings_in settings = pairs_of settings.pairs
 abbrev pub tree_in : Settings → Tree
 tree_in settings = Dictionary (pair_trees (settings_in settings))
 
--- if the bytes of a file are known, this property list is the value of their items
-abbrev pub IsReadOf : (known : Option (List ℕ)) → Tree → Type 0
-IsReadOf known tree = IfSome known (λ bytes. IsValueOf (items_of_input bytes) (Ok tree))
-
--- if the bytes of a file are known, the fault is `Io` or `OutOfMemory`, or says why their items
--- have no value
-abbrev pub IsFaultOfFile : (known : Option (List ℕ)) → Fault → Type 0
-IsFaultOfFile known fault = IfSome known (λ bytes. IsValueOf (items_of_input bytes) (Err fault))
+-- if the bytes of a file are known, the result is the value of their items, or the fault is `Io` or
+-- `OutOfMemory` or says why they have no value
+abbrev pub IsReadOf : (known : Option (List ℕ)) → Result Tree Fault → Type 0
+IsReadOf known answer = IfSome known (λ bytes. IsValueOf (items_of_input bytes) answer)
 
 -- why a file has no settings: its fault, or its value isn't a dictionary
 abbrev pub RefusesOpening : (known : Option (List ℕ)) → SettingsError → Type 0
-RefusesOpening known (settings_error.Fault error) = IsFaultOfFile known (fault_of error)
+RefusesOpening known (settings_error.Fault error) = IsReadOf known (Err (fault_of error))
 RefusesOpening known settings_error.NoDictionary =
-    (tree : Tree) × IsReadOf known tree × (dictionary_in tree ≡ None)
+    (tree : Tree) × IsReadOf known (Ok tree) × (dictionary_in tree ≡ None)
 
 -- the name has this setting; the others and their order are unchanged
 abbrev pub Sets : Settings → (name : List ℕ) → (setting : Value) → Settings → Type 0
@@ -52,5 +47,5 @@ text_at name settings =
 abbrev pub IsChanged : (known : Option (List ℕ)) → (name : List ℕ) → (setting : Value)
     → (bytes : List ℕ) → Type 0
 IsChanged known name setting bytes =
-    (pairs : List (List ℕ × Value)) × IsReadOf known (Dictionary (pair_trees pairs))
+    (pairs : List (List ℕ × Value)) × IsReadOf known (Ok (Dictionary (pair_trees pairs)))
     × IsFileOf (Dictionary (pair_trees (insert_entry bytes_eq pairs name setting))) bytes

@@ -2,13 +2,14 @@
 
 ghost use Rattle.std.specs.Prelude.{◌≡◌, ◌∷◌, [], IfOk, IfSome, OnOk, string_bytes};
 ghost use Rattle.std.specs.Option.{option_copied};
+ghost use Rattle.plist_base.specs.Bracketing.{bracketing};
 ghost use Rattle.plist.specs.WrittenEvents.{TakesAll};
 ghost use Rattle.plist.specs.LimitedValues.{NestsWithin};
 ghost use Rattle.plist.specs.ValueTrees.{tree_of};
 ghost use Rattle.plist_reader.specs.Reader.{items_of_input};
 ghost use Rattle.plist_uses.specs.Converting.{IsFileOfInput};
 ghost use Rattle.plist_uses.specs.Counting.{AreCountedOf};
-ghost use Rattle.plist_uses.specs.Generated.{list_events};
+ghost use Rattle.plist_uses.specs.Generated.{readings_tree};
 ghost use Rattle.plist_uses.specs.Roots.{IsRootText};
 ghost use Rattle.plist_uses.specs.Settings.{IsChanged, text_at};
 
@@ -100,7 +101,7 @@ pub fn counted(alloc: Global, bytes: &[u8]) -> Result<Counts, Error>
 /// The errors are those of [`write_readings`].
 pub fn write_one<W: Writer>(reading: Reading, writer: &mut W) -> Result<(), Error>
     ensures written { OnOk result
-        (TakesAll W.Step writer.old (list_events (reading ∷ [])) writer.new) }
+        (TakesAll W.Step writer.old (bracketing (readings_tree (reading ∷ []))) writer.new) }
 {
     write_readings(&[reading], writer)
 }

@@ -1,7 +1,10 @@
 //! A converter: reads a property list of either format, and writes a binary one.
 
-ghost use Rattle.std.specs.Prelude.{IfErr, IfOk};
-ghost use Rattle.plist_uses.specs.Converting.{IsReadBy, RefusesConverting, SendsFileOf};
+ghost use Rattle.std.specs.Prelude.{IfErr, IfOk, Ok};
+ghost use Rattle.plist.specs.SendingValues.{SendsValue};
+ghost use Rattle.plist.specs.ValueTrees.{tree_of};
+ghost use Rattle.plist_uses.specs.Converting.{RefusesConverting};
+ghost use Rattle.plist_uses.specs.Settings.{IsReadOf};
 
 use plist::stream::Source;
 use plist::{Error, Value};
@@ -19,8 +22,9 @@ pub fn convert<R: Source, W: Write>(
     source: R,
     writer: &mut W,
 ) -> Result<Value, Error>
-    ensures read { IsReadBy (R.known source) result }
-    ensures sent { IfOk result (λ value. SendsFileOf W.contents value writer.old writer.new) }
+    ensures read { IfOk result (λ value. IsReadOf (R.known source) (Ok (tree_of value))) }
+    ensures sent { IfOk result
+        (λ value. SendsValue W.contents value (Ok tt) writer.old writer.new) }
     ensures refused { IfErr result
         (RefusesConverting (R.known source) W.contents writer.old writer.new) }
 {

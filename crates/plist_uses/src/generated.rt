@@ -2,7 +2,8 @@
 
 ghost use Rattle.std.specs.Prelude.{OnOk};
 ghost use Rattle.plist.specs.WrittenEvents.{TakesAll};
-ghost use Rattle.plist_uses.specs.Generated.{reading_events, list_events};
+ghost use Rattle.plist_base.specs.Bracketing.{bracketing};
+ghost use Rattle.plist_uses.specs.Generated.{reading_tree, readings_tree};
 
 use plist::stream::Writer;
 use plist::{Error, Integer};
@@ -18,7 +19,7 @@ pub struct Reading {
 // Writes a reading as a dictionary.
 fn write_reading<W: Writer>(reading: &Reading, writer: &mut W) -> Result<(), Error>
     ensures written { OnOk result
-        (TakesAll W.Step writer.old (reading_events reading.now) writer.new) }
+        (TakesAll W.Step writer.old (bracketing (reading_tree reading.now)) writer.new) }
 {
     writer.write_start_dictionary(Some(2))?;
     writer.write_string(CowStr::Borrowed("second"))?;
@@ -36,7 +37,7 @@ fn write_reading<W: Writer>(reading: &Reading, writer: &mut W) -> Result<(), Err
 /// The writer's first error, after which nothing more is written.
 pub fn write_readings<W: Writer>(readings: &[Reading], writer: &mut W) -> Result<(), Error>
     ensures written { OnOk result
-        (TakesAll W.Step writer.old (list_events readings.now) writer.new) }
+        (TakesAll W.Step writer.old (bracketing (readings_tree readings.now)) writer.new) }
 {
     writer.write_start_array(Some(readings.len() as u64))?;
     for reading in readings {

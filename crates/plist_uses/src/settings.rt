@@ -1,15 +1,14 @@
 //! A settings store: one dictionary in a file.
 
-ghost use Rattle.plist_base.specs.Faults.{fault_of};
-ghost use Rattle.std.specs.Prelude.{◌≡◌, IfErr, IfOk, OnErr, OnOk, string_bytes};
+ghost use Rattle.std.specs.Prelude.{◌≡◌, IfErr, IfOk, Ok, OnErr, OnOk, string_bytes};
 ghost use Rattle.std.specs.Map.{lookup};
 ghost use Rattle.std.specs.Option.{option_copied};
 ghost use Rattle.std.specs.Str.{bytes_eq};
 ghost use Rattle.plist_base.specs.Outcomes.{OnlyMemory};
 ghost use Rattle.plist_base.specs.Writing.{answer_of};
 ghost use Rattle.plist.specs.SendingValues.{SendsTree};
-ghost use Rattle.plist.specs.ValueTrees.{tree_of};
-ghost use Rattle.plist_uses.specs.Settings.{IsFaultOfFile, IsReadOf, RefusesOpening, Sets, settings_in, tree_in};
+ghost use Rattle.plist.specs.Collecting.{built_tree};
+ghost use Rattle.plist_uses.specs.Settings.{IsReadOf, RefusesOpening, Sets, settings_in, tree_in};
 
 use plist::stream::Source;
 use plist::{Dictionary, Error, Value};
@@ -44,8 +43,7 @@ impl From<Error> for SettingsError {
 
 // Reads the value of a file.
 fn value_in<R: Source>(alloc: Global, file: R) -> Result<Value, Error>
-    ensures read { IfOk result (λ value. IsReadOf (R.known file) (tree_of value)) }
-    ensures refused { IfErr result (λ error. IsFaultOfFile (R.known file) (fault_of error)) }
+    ensures { IsReadOf (R.known file) (built_tree result) }
 {
     let value = Value::from_reader(alloc, file)?;
     Ok(value)
@@ -58,7 +56,8 @@ impl Settings {
     ///
     /// `Fault` with the error of [`Value::from_reader`], and `NoDictionary`.
     pub fn open<R: Source>(alloc: Global, file: R) -> Result<Settings, SettingsError>
-        ensures opened { IfOk result (λ settings. IsReadOf (R.known file) (tree_in settings)) }
+        ensures opened { IfOk result
+            (λ settings. IsReadOf (R.known file) (Ok (tree_in settings))) }
         ensures refused { IfErr result (RefusesOpening (R.known file)) }
     {
         let value = value_in(alloc, file)?;
