@@ -21,7 +21,6 @@ IsStatusOf answer code = MatchResult answer (λ status. code ≡ status) (λ _. 
 
 -- the error was reported; or the result isn't an error, and nothing was reported
 abbrev pub ReportsFault : {E : Type 0} → (reports : E → PlainMessage → Bool → E → Type 0)
-    → Result ℕ Error
-    → (old new : E) → Type 0
+    → Result ℕ Error → (old new : E) → Type 0
 ReportsFault reports answer old new = MatchResult answer (λ _. new ≡ old)
     (λ error. (whole : Bool) × reports old (Fault (OfPlist (fault_of error))) whole new)
