@@ -1,12 +1,11 @@
 -- The contents of open collections after one is changed or closed.
-use Rattle.std.proofs.Common.{◌≡◌, ◌<◌, List, [], ◌∷◌, length, Some, String, Global, sym, ap, subst, arith, string_bytes}
+use Rattle.std.proofs.Common.{◌≡◌, ◌<◌, List, [], ◌∷◌, length, None, Option, Some, String, Global, sym, ap, subst, arith, string_bytes}
 use Rattle.plist_buffer.specs.declared.expects.Expect.TheVariants as expect
 use Rattle.plist.specs.declared.open_collections.Level.{Level}
 use Rattle.plist.specs.declared.open_collections.Level.TheVariants as level
 use Rattle.plist.specs.declared.open_collections.OpenDictionary.{OpenDictionary}
-use Rattle.plist.specs.declared.open_collections.OpenDictionary.TheVariants as run
 use Rattle.plist.specs.declared.value.Value.{Value}
-use Rattle.plist.specs.OpenCollections.{HaveContents, contents_by_level, within}
+use Rattle.plist.specs.OpenCollections.{Contents, HaveContents, contents_by_level, within}
 use Rattle.plist.specs.inner.CollectionSteps.{AddsKey, ChangesInnermost, TakesKey, expected_in}
 
 -- if there is a level, there is a collection
@@ -28,9 +27,20 @@ key_added [] arrays old new key e added = cc
 key_added (level.Array ∷ levels) [] old new key e added = cc
 key_added (level.Array ∷ levels) (items ∷ arrays) old new key e added = cc
 key_added (level.Dictionary ∷ levels) arrays [] new key e added = cc
-key_added (level.Dictionary ∷ levels) arrays (run.Pairs pairs ∷ old) new key e added =
-    ap (λ l. Some (within (contents_by_level (level.Dictionary ∷ levels) arrays l))) (sym added)
-key_added (level.Dictionary ∷ levels) arrays (run.AfterKey pairs other ∷ old) new key e added = cc
+key_added (level.Dictionary ∷ levels) arrays (dictionary ∷ old) new key e added =
+    by dictionary.key e added
+  where
+    with : Option (String Global) → List Contents
+    with before = contents_by_level (level.Dictionary ∷ levels) arrays
+        (record dictionary { key = before } ∷ old)
+
+    by : (before : Option (String Global)) → expected_in (with before) ≡ Some expect.Pairs
+        → new ≡ record dictionary { key = Some key } ∷ old
+        → TakesKey (with before) (string_bytes key)
+        (contents_by_level (level.Dictionary ∷ levels) arrays new)
+    by None e added =
+        ap (λ l. Some (within (contents_by_level (level.Dictionary ∷ levels) arrays l))) (sym added)
+    by (Some other) e added = cc
 
 -- each level still has its contents after a dictionary that takes a key has changed
 pub still_open : (levels : List Level) (arrays : List (List Value))

@@ -1,5 +1,5 @@
 -- A value is its own last-value form.
-use Rattle.std.proofs.Common.{◌≡◌, ℕ, List, [], ◌∷◌, Option, Some, None, option_map, map, refl, sym, ap, ◌∙◌, subst, string_bytes}
+use Rattle.std.proofs.Common.{◌≡◌, ℕ, List, [], ◌∷◌, Option, Some, None, option_map, map, refl, sym, ap, ◌∙◌, subst, string_bytes, String, Global}
 use mathlib.Core.List.{map-map}
 use Rattle.std.proofs.lemmas.Option.{same_Some}
 use Rattle.plist_base.specs.Events.{PlainEvent}
@@ -11,7 +11,7 @@ use Rattle.plist.specs.declared.dictionary.Dictionary as dictionary
 use Rattle.plist.specs.Dictionaries.{pairs_of}
 use Rattle.plist.specs.LastWins.{TreePairs, with_pair, last_values, last_wins}
 use Rattle.plist.specs.Building.{Unfinished, IsNested, IsExtendedBy, refusal_at, last_wins_in_rows, last_wins_within, last_wins_so_far, InArray, InDictionary, AfterKey, Within, Complete}
-use Rattle.plist.specs.declared.open_collections.OpenDictionary.TheVariants as run
+use Rattle.plist.specs.declared.open_collections.OpenDictionary.{OpenDictionary}
 use Rattle.plist.specs.OpenCollections.{Contents, Items, Pairs, open_of}
 use Rattle.plist.specs.UnfinishedValues.{unfinished_in}
 use Rattle.plist.specs.ValueTrees.{members_step, tree_of, tree_step, tree_pairs}
@@ -106,9 +106,13 @@ pairs-itself ps =
 
 open-itself : (c : Contents) → last_wins_within (open_of c) ≡ open_of c
 open-itself (Items items) = ap InArray (fixed last_wins tree_of itself items)
-open-itself (Pairs (run.Pairs pairs)) = ap InDictionary (pairs-itself (pairs_of pairs))
-open-itself (Pairs (run.AfterKey pairs key)) =
-    ap (λ d. AfterKey d (string_bytes key)) (pairs-itself (pairs_of pairs))
+open-itself (Pairs dictionary) = by dictionary.key
+  where
+    by : (key : Option (String Global)) → let opened : OpenDictionary = record dictionary { key = key } in
+        last_wins_within (open_of (Pairs opened)) ≡ open_of (Pairs opened)
+    by None = ap InDictionary (pairs-itself (pairs_of dictionary.pairs))
+    by (Some key) =
+        ap (λ d. AfterKey d (string_bytes key)) (pairs-itself (pairs_of dictionary.pairs))
 
 -- an unfinished tree is its own last-value form
 pub unfinished-itself : (root : Option Value) (cs : List Contents)

@@ -1,9 +1,9 @@
 -- The open collections of a value that is being built, with the values that they contain so far.
 use Rattle.std.specs.Prelude.{List, [], ◌∷◌, map, string_bytes, ⊤}
+use Rattle.std.specs.Option.{option_map_or}
 use Rattle.plist.specs.declared.open_collections.Level.{Level}
 use Rattle.plist.specs.declared.open_collections.Level.TheVariants as level
 use Rattle.plist.specs.declared.open_collections.OpenDictionary.{OpenDictionary}
-use Rattle.plist.specs.declared.open_collections.OpenDictionary.TheVariants as run
 use Rattle.plist.specs.declared.value.Value.{Value}
 use Rattle.plist.specs.Building.{OpenCollection, InArray, InDictionary, AfterKey, Unfinished, NotBegun, Within}
 use Rattle.plist.specs.Dictionaries.{pairs_of}
@@ -18,9 +18,9 @@ pub data Contents : Type 0 where
 -- an open dictionary, with each value as its tree; its keys are distinct, so its last values are
 -- its pairs
 abbrev pub open_dictionary : OpenDictionary → OpenCollection
-open_dictionary (run.Pairs pairs) = InDictionary (last_values (tree_pairs (pairs_of pairs)))
-open_dictionary (run.AfterKey pairs key) =
-    AfterKey (last_values (tree_pairs (pairs_of pairs))) (string_bytes key)
+open_dictionary dictionary =
+    let pairs = last_values (tree_pairs (pairs_of dictionary.pairs)) in
+    option_map_or (λ key. AfterKey pairs (string_bytes key)) dictionary.key (InDictionary pairs)
 
 -- an open collection, with each value as its tree
 abbrev pub open_of : Contents → OpenCollection

@@ -23,11 +23,10 @@ enum Level {
 
 /// A dictionary that hasn't ended, with its pairs so far.
 #[derive(Drop)]
-enum OpenDictionary {
-    /// A key or the end is next.
-    Pairs(Dictionary),
-    /// The value of this key is next.
-    AfterKey(Dictionary, String),
+struct OpenDictionary {
+    pairs: Dictionary,
+    // The key whose value is next. If it is `None`, a key or the end is next.
+    key: Option<String>,
 }
 
 /// Open collections that are nested in one another, with their contents so far.
@@ -70,41 +69,31 @@ fn add_pair(dictionaries: &mut Vec<OpenDictionary>, value: Value) -> Result<(), 
     ensures outer { ChangesInnermost (reverse dictionaries.old.items)
         (reverse dictionaries.new.items) }
 {
-    match dictionaries.pop() {
-        None => Ok(()),
-        Some(OpenDictionary::Pairs(pairs)) => {
-            dictionaries.push_reserved(OpenDictionary::Pairs(pairs));
-            value.destroy();
-            Ok(())
-        }
-        Some(OpenDictionary::AfterKey(mut pairs, key)) => {
-            let set = pairs.set(key, value);
-            // This is called only for its contract, which says that the keys are distinct.
-            let _ = pairs.len();
-            dictionaries.push_reserved(OpenDictionary::Pairs(pairs));
-            match set {
-                Ok(()) => Ok(()),
-                Err(_) => Err(AllocError),
-            }
-        }
+    let Some(innermost) = dictionaries.last_mut() else {
+        return Ok(());
+    };
+    let Some(key) = innermost.key.take() else {
+        value.destroy();
+        return Ok(());
+    };
+    let set = innermost.pairs.set(key, value);
+    // This is called only for its contract, which says that the keys are distinct.
+    let _ = innermost.pairs.len();
+    match set {
+        Ok(()) => Ok(()),
+        Err(_) => Err(AllocError),
     }
 }
 
-// Adds a key to the innermost dictionary, unless another key has no value yet.
+// Adds a key, whose value is next, to the innermost dictionary.
 fn add_key(dictionaries: &mut Vec<OpenDictionary>, key: String)
     ensures added { AddsKey (reverse dictionaries.old.items) key
         (reverse dictionaries.new.items) }
     ensures outer { ChangesInnermost (reverse dictionaries.old.items)
         (reverse dictionaries.new.items) }
 {
-    match dictionaries.pop() {
-        None => {}
-        Some(OpenDictionary::Pairs(pairs)) => {
-            dictionaries.push_reserved(OpenDictionary::AfterKey(pairs, key));
-        }
-        Some(OpenDictionary::AfterKey(pairs, other)) => {
-            dictionaries.push_reserved(OpenDictionary::AfterKey(pairs, other));
-        }
+    if let Some(innermost) = dictionaries.last_mut() {
+        innermost.key = Some(key);
     }
 }
 
@@ -113,13 +102,11 @@ fn end_dictionary(dictionaries: &mut Vec<OpenDictionary>) -> Option<Dictionary>
     ensures { EndsInnermost (reverse dictionaries.old.items) result
         (reverse dictionaries.new.items) }
 {
-    match dictionaries.pop()? {
-        OpenDictionary::Pairs(pairs) => Some(pairs),
-        OpenDictionary::AfterKey(pairs, key) => {
-            dictionaries.push_reserved(OpenDictionary::AfterKey(pairs, key));
-            None
-        }
+    if dictionaries.last()?.key.is_some() {
+        return None;
     }
+    let OpenDictionary { pairs, key: _key } = dictionaries.pop()?;
+    Some(pairs)
 }
 
 impl OpenCollections {
@@ -151,8 +138,8 @@ impl OpenCollections {
             Some(Level::Array) => Some(Expect::Items),
             Some(Level::Dictionary) => match self.dictionaries.last() {
                 None => None,
-                Some(OpenDictionary::Pairs(_)) => Some(Expect::Pairs),
-                Some(OpenDictionary::AfterKey(..)) => Some(Expect::OneValue),
+                Some(OpenDictionary { key: None, .. }) => Some(Expect::Pairs),
+                Some(OpenDictionary { key: Some(_), .. }) => Some(Expect::OneValue),
             },
         }
     }
@@ -173,8 +160,10 @@ impl OpenCollections {
             ≡ Within (InDictionary []) (map open_of self.old)) }
     {
         self.levels.reserve(1)?;
-        self.dictionaries
-            .push(OpenDictionary::Pairs(Dictionary::new(alloc)))?;
+        self.dictionaries.push(OpenDictionary {
+            pairs: Dictionary::new(alloc),
+            key: None,
+        })?;
         self.levels.push_reserved(Level::Dictionary);
         Ok(())
     }

@@ -1,5 +1,5 @@
 -- What changes the open collections of a value that is being built.
-use Rattle.std.specs.Prelude.{◌≡◌, ℕ, List, [], ◌∷◌, ◌++◌, Option, Some, None, String, string_bytes, ⊤}
+use Rattle.std.specs.Prelude.{◌≡◌, ℕ, List, [], ◌∷◌, ◌++◌, Option, Some, None, IsSome, MatchOption, String, string_bytes, ⊤}
 use Rattle.std.specs.declared.alloc.Global.{Global}
 use Rattle.plist_base.specs.Events.{ScalarEvent}
 use Rattle.plist_buffer.specs.declared.expects.Expect.{Expect}
@@ -7,7 +7,6 @@ use Rattle.plist_base.specs.Trees.{Tree, Array, trees_of, members_of}
 use Rattle.plist_base.specs.Trees as tree
 use Rattle.plist.specs.declared.dictionary.Dictionary.{Dictionary}
 use Rattle.plist.specs.declared.open_collections.OpenDictionary.{OpenDictionary}
-use Rattle.plist.specs.declared.open_collections.OpenDictionary.TheVariants as run
 use Rattle.plist.specs.declared.value.Value.{Value}
 use Rattle.plist.specs.Building.{OpenCollection, InArray, InDictionary, AfterKey, expected_within}
 use Rattle.plist.specs.Dictionaries.{pairs_of}
@@ -34,18 +33,16 @@ ChangesInnermost (dictionary ∷ outer) new = (changed : OpenDictionary) × (new
 -- a pair of the last key and this value is added to the innermost dictionary
 abbrev pub AddsPair : (old : List OpenDictionary) → Value → (new : List OpenDictionary) → Type 0
 AddsPair [] value new = new ≡ []
-AddsPair (run.Pairs pairs ∷ outer) value new = new ≡ run.Pairs pairs ∷ outer
-AddsPair (run.AfterKey pairs key ∷ outer) value new =
-    (dictionary : OpenDictionary) × (new ≡ dictionary ∷ outer)
-    × (open_dictionary dictionary ≡ InDictionary
-    (with_pair (last_values (tree_pairs (pairs_of pairs))) (string_bytes key) (tree_of value)))
+AddsPair (dictionary ∷ outer) value new = MatchOption dictionary.key (new ≡ dictionary ∷ outer)
+    (λ key. (changed : OpenDictionary) × (new ≡ changed ∷ outer)
+    × (open_dictionary changed ≡ InDictionary (with_pair
+    (last_values (tree_pairs (pairs_of dictionary.pairs))) (string_bytes key) (tree_of value))))
 
 -- the innermost collection can't end: none is open, or a key has no value yet
 abbrev pub CannotEnd : List Contents → Type 0
 CannotEnd [] = ⊤
 CannotEnd (Items items ∷ outer) = ⊥
-CannotEnd (Pairs (run.Pairs pairs) ∷ outer) = ⊥
-CannotEnd (Pairs (run.AfterKey pairs key) ∷ outer) = ⊤
+CannotEnd (Pairs dictionary ∷ outer) = IsSome dictionary.key
 
 -- the tree that an open collection becomes if it ends
 abbrev pub ended_tree : OpenCollection → Tree
@@ -65,22 +62,20 @@ abbrev pub TakesKey : (old : List Contents) → (key : List ℕ) → (new : List
 TakesKey old key new =
     and_event with_pair (within old) (ScalarEvent (tree.String key)) ≡ Some (within new)
 
--- the key is added to the innermost dictionary, unless another key has no value yet
+-- the key is added to the innermost dictionary
 abbrev pub AddsKey : (old : List OpenDictionary) → String Global → (new : List OpenDictionary)
     → Type 0
 AddsKey [] key new = new ≡ []
-AddsKey (run.Pairs pairs ∷ outer) key new = new ≡ run.AfterKey pairs key ∷ outer
-AddsKey (run.AfterKey pairs other ∷ outer) key new = new ≡ run.AfterKey pairs other ∷ outer
+AddsKey (dictionary ∷ outer) key new = new ≡ record dictionary { key = Some key } ∷ outer
 
 -- no dictionary is open, or a key of the innermost one has no value yet
 abbrev pub LacksValue : List OpenDictionary → Type 0
 LacksValue [] = ⊤
-LacksValue (run.Pairs pairs ∷ outer) = ⊥
-LacksValue (run.AfterKey pairs key ∷ outer) = ⊤
+LacksValue (dictionary ∷ outer) = IsSome dictionary.key
 
 -- the innermost dictionary was removed, and these are its pairs; or nothing changed, since none is
 -- open or a key has no value yet
 abbrev pub EndsInnermost : (old : List OpenDictionary) → Option Dictionary
     → (new : List OpenDictionary) → Type 0
 EndsInnermost old None new = (new ≡ old) × LacksValue old
-EndsInnermost old (Some pairs) new = old ≡ run.Pairs pairs ∷ new
+EndsInnermost old (Some pairs) new = old ≡ record { pairs = pairs; key = None } ∷ new
