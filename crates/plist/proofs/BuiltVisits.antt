@@ -15,11 +15,10 @@ use Rattle.plist_base.specs.Visits.{HandsOver, HandsOverAll, PlainItem, Visits, 
 use Rattle.plist_base.proofs.Visits.{kept_all}
 use Rattle.plist.specs.declared.collect.ValueVisitor.{ValueVisitor}
 use Rattle.plist.specs.declared.value.Value.{Value}
-use Rattle.plist.specs.Builder.{built_of}
+use Rattle.plist.specs.Builder.{BuildsEvent, built_of}
 use Rattle.plist.specs.Building.{IsUnfinished, complete_tree, nothing_built}
 use Rattle.plist.specs.Collecting.{Collects, CollectsTo, IsBuiltFrom, RefusesOne, built_tree, item_by}
 use Rattle.plist.specs.ValueTrees.{tree_of}
-use Rattle.plist.specs.ValueVisits.{BuildsEvent}
 use Rattle.plist.proofs.BuilderItems.{TookAll, finished, refused-last, seen-more, took-more, took-none}
 
 -- what contracts see of an item that a source yields

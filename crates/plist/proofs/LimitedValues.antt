@@ -19,7 +19,7 @@ use Rattle.plist_base.specs.Bracketing.{AreAlike, bracketing, bracketing_of_item
 use Rattle.plist.specs.Collecting.{Collects}
 use Rattle.plist.specs.ValueOfItems.{PredictsItems}
 use Rattle.plist.specs.LastWins.{last_wins}
-use Rattle.plist.specs.LimitedValues.{AreWithin, IsWithinBudget, IsWithinLimits, NestsWithin, ItemsNestWithin, PairsNestWithin}
+use Rattle.plist.specs.LimitedValues.{IsWithinBudget, IsWithinLimits, NestsWithin, ItemsNestWithin, PairsNestWithin}
 use Rattle.plist.proofs.Allowances.{Given, allowed-shows, run-inside, run-passes}
 use Rattle.plist.proofs.KeysOnce.{last-nests}
 use Rattle.plist.proofs.LastWinsSizes.{fewer-bytes, fewer-events}
@@ -206,7 +206,7 @@ alike-light left right most alike h =
 -- last-value form nests within the depth
 tree-within : (limits : Limits) (events : List PlainEvent) (whole : Tree)
     → limited_items limits (map Ok events) ≡ map Ok events → AreAlike events (bracketing whole)
-    → NestsWithin (last_wins whole) limits.depth × AreWithin limits (bracketing whole)
+    → NestsWithin (last_wins whole) limits.depth × (length (bracketing whole) ≤ limits.items)
 tree-within limits events whole came alike =
     let pass = alike-passes limits events (bracketing whole) alike
     (passes limits 0 0 events came) in

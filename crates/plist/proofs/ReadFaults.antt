@@ -20,7 +20,7 @@ use Rattle.plist_base.specs.Limits.{GivesLimited, IsLimitReached, limited_by}
 use Rattle.plist_base.specs.Trees.{Tree}
 use Rattle.plist_decode.specs.FaultOffsets.{HasOffset, MatchGiven}
 use Rattle.plist_reader.specs.declared.reader.Reader.{Reader}
-use Rattle.plist_reader.specs.Reader.{Gives, IsReaderFault, reader_is_limited}
+use Rattle.plist_reader.specs.Reader.{Gives, IsReaderFault, is_limited_in}
 use Rattle.plist.specs.declared.value.Value.{Value}
 use Rattle.plist.specs.Building.{Unfinished, NotBegun, Within, Complete, expected_within, if_refused, refusal_at}
 use Rattle.plist.specs.Collecting.{Collects, IsRefusal, built_tree, item_by}
@@ -135,12 +135,12 @@ module _ {I A : Type 0} (lets : A → List Item → List Item) (may_reach : Faul
 
 module _ {R : Type 0} {g : Ghosts R} (known : R → Option (List ℕ)) (failed : R → ℕ) where
   -- a reader without limits fails only with a fault that `IsReadingFault` allows
-  pub reader-tells : (reader : Reader R g) (answer : Result Value Error) → reader_is_limited reader
-      ≡ false
+  pub reader-tells : (reader : Reader R g) (answer : Result Value Error)
+      → is_limited_in reader.state ≡ false
       → Collects event_of (Gives known failed) reader (built_tree answer)
       → IfErr answer (λ error. IsReadingFault false (fault_of error))
   reader-tells reader answer none collects =
-      error-tells event_of (Gives known failed) false (λ r. reader_is_limited r ≡ false)
+      error-tells event_of (Gives known failed) false (λ (r : Reader R g). is_limited_in r.state ≡ false)
       (λ old item new gives none. gives.limits none)
       (λ old error new gives none.
       inl (subst (λ b. IsReaderFault b (fault_of error)) none gives.faults))
@@ -153,7 +153,7 @@ module _ {R : Type 0} {g : Ghosts R} (known : R → Option (List ℕ)) (failed :
   limit-tells =
       passed limited_by IsLimitReached (Gives known failed) true
       (λ fault reached. subst (IsReadingFault true) (sym reached.1) (inl (inr (refl, refl))))
-      (λ old error new gave. inl (loosened (reader_is_limited old) (fault_of error) gave.faults))
+      (λ old error new gave. inl (loosened (is_limited_in old.state) (fault_of error) gave.faults))
 
   budget-tells : (old : LimitedItems (LimitedItems (Reader R g) LimitCounter) ByteBudget) (error : Error)
       (new : LimitedItems (LimitedItems (Reader R g) LimitCounter) ByteBudget)

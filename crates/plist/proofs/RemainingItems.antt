@@ -20,7 +20,7 @@ use Rattle.plist_reader.proofs.AsciiItems.{ascii-goes}
 use Rattle.plist.specs.declared.stream.events.Events.{Events}
 use Rattle.plist.specs.Collecting.{Collects, built_tree}
 use Rattle.plist.specs.declared.value.Value.{Value}
-use Rattle.plist.specs.ValueOfItems.{IsValueOf, IsReadIfKnown}
+use Rattle.plist.specs.ValueOfItems.{IsValueOf, IsReadIfKnown, ReadsBackIn}
 use Rattle.plist_base.specs.FirstItems.{GivesFirst, GivesFirstIfKnown}
 use Rattle.plist_base.proofs.FirstItems.{first_of_known}
 use Rattle.std.proofs.lemmas.Option.{IfSome_then}
@@ -30,7 +30,6 @@ use Rattle.plist_decode.specs.declared.counter.DecodeCounter.{Ghosts as CounterG
 use Rattle.plist_base.specs.Bracketing.{bracketing}
 use Rattle.plist_format.specs.Container.{magic}
 use Rattle.plist_binwrite.specs.Written.{IsWrittenAs}
-use Rattle.plist.specs.ReadingBack.{ReadsBack}
 use Rattle.plist.specs.ValueTrees.{tree_of}
 use Rattle.plist.proofs.PredictedItems.{back, only-memory}
 use Rattle.plist.proofs.ValueLastWins.{itself}
@@ -155,7 +154,7 @@ input-is dialect tree file w = cc (begins-binary file _ w.is)
 
 pub reads-back : (dialect : Dialect) (k : Option (List ℕ)) (answer : Result Tree Fault)
     → IfSome k (λ bytes. IsValueOf (items_of_dialect dialect bytes) answer)
-    → IfSome k (λ bytes. ReadsBack bytes answer)
+    → ReadsBackIn k answer
 reads-back dialect None answer h = tt
 reads-back dialect (Some file) answer h =
     λ value w. back (tree_of value) (items_of_dialect dialect file) answer (itself value)

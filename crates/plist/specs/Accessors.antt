@@ -1,5 +1,5 @@
 -- The content of a property list if it is of one kind, and `None` if it is of another one.
-use Rattle.std.specs.Prelude.{ℕ, ◌^◌, ℤ, pos, ◌<ℤ◌, ◌≤ℤ◌, Bool, List, Option, Some, None}
+use Rattle.std.specs.Prelude.{ℕ, ℤ, Bool, List, Option, Some, None}
 use Rattle.plist_base.specs.declared.real.RealBits.{RealBits}
 use Rattle.plist_base.specs.Trees.{Tree, Leaf, Array, Dictionary, Trees, Members, Boolean, Data, Date, Integer, Real, String, Uid}
 
@@ -47,11 +47,3 @@ text_in tree = None
 abbrev pub uid_in : Tree → Option ℕ
 uid_in (Leaf (Uid number)) = Some number
 uid_in tree = None
-
--- an integer fits into an `i64`: no `Integer` is below -2^63, so it only has to be below 2^63
-abbrev pub IsBelowSigned : ℤ → Type 0
-IsBelowSigned number = number <ℤ pos (2 ^ 63)
-
--- an integer isn't negative
-abbrev pub IsNatural : ℤ → Type 0
-IsNatural number = pos 0 ≤ℤ number

@@ -1,16 +1,16 @@
--- What contracts see of a builder.
-use Rattle.std.specs.Prelude.{◌≡◌, true, false, Some, Result, Err, IfErr}
+-- What contracts see of a builder, and of a visitor that builds a value.
+use Rattle.std.specs.Prelude.{◌≡◌, true, false, Result, Ok, Err, IfErr}
+use Rattle.std.specs.declared.ops.ControlFlow.TheVariants.{Continue, Break}
 use Rattle.plist_base.specs.declared.error.Error.{Error}
-use Rattle.plist_base.specs.Bracketing.{AreAlike, bracketing}
 use Rattle.plist_base.specs.Events.{PlainEvent, Item}
 use Rattle.plist_base.specs.Faults.{fault_of, fault_without_offset, WriterFailed}
+use Rattle.plist_base.specs.Visits.{Flow}
 use Rattle.plist_base.specs.Writing.{Answer, AnswersByOrder}
 use Rattle.plist.specs.declared.stream.builder.Builder.{Builder}
-use Rattle.plist.specs.Building.{Built, IsAnswered, complete_tree, events_so_far}
-use Rattle.plist.specs.Collecting.{RefusesOne}
+use Rattle.plist.specs.declared.collect.ValueVisitor.{ValueVisitor}
+use Rattle.plist.specs.Building.{Built, IsAnswered, events_so_far}
+use Rattle.plist.specs.Collecting.{RefusesOne, TakesOne}
 use Rattle.plist.specs.UnfinishedValues.{unfinished_of}
-use Rattle.plist.specs.ValueTrees.{tree_of}
-use Rattle.plist.specs.declared.value.Value.{Value}
 
 -- what contracts see of a builder: its unfinished tree, and whether it has failed
 abbrev pub built_of : Builder → Built
@@ -32,10 +32,12 @@ abbrev pub RefusesWith : {A : Type 0} → (before : Builder) → Item → Result
 RefusesWith before item answer =
     IfErr answer (λ error. RefusesOne (built_of before).unfinished item (fault_of error))
 
--- the events so far are exactly those of this value
-abbrev pub HasAllEventsOf : Built → Value → Type 0
-HasAllEventsOf built value = AreAlike (events_so_far built.unfinished) (bracketing (tree_of value))
-
--- the value's tree is what was built
-abbrev pub IsBuilt : Built → Value → Type 0
-IsBuilt built value = complete_tree built.unfinished ≡ Some (tree_of value)
+-- the event is added, and the result stays the same; or the builder rejects the event, and the
+-- result is its error
+abbrev pub BuildsEvent : (old : ValueVisitor) → PlainEvent → Flow → (new : ValueVisitor) → Type 0
+BuildsEvent old event (Continue more) new =
+    TakesOne (built_of old.builder) (Ok event) (built_of new.builder) × (new.result ≡ old.result)
+BuildsEvent old event (Break stop) new =
+    (error : Error) × (new.result ≡ Err error)
+    × ((built_of old.builder).failed ≡ false
+    → RefusesOne (built_of old.builder).unfinished (Ok event) (fault_of error))

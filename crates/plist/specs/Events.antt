@@ -8,7 +8,7 @@ use Rattle.std.specs.declared.borrow.CowStr.TheVariants as text
 use Rattle.std.specs.declared.borrow.CowSlice.TheVariants as slice
 use Rattle.plist_base.specs.Events.{PlainEvent, StartArray, StartDictionary, EndCollection, ScalarEvent, event_of}
 use Rattle.plist_base.specs.Faults.{fault_of, fault_without_offset, OutOfMemory}
-use Rattle.plist_base.specs.Trees.{Tree, String, trees_of, members_of}
+use Rattle.plist_base.specs.Trees.{String, trees_of, members_of}
 use Rattle.plist_base.specs.Bracketing.{bracketing, bracketing_of_items, bracketing_of_pairs}
 use Rattle.plist.specs.declared.value.Value.{Value}
 use Rattle.plist.specs.declared.stream.events.Events.{Events}
@@ -49,16 +49,20 @@ BeginsWithStart (StartArray length ∷ events) = ⊤
 BeginsWithStart (StartDictionary length ∷ events) = ⊤
 BeginsWithStart events = ⊥
 
--- The first remaining event is yielded, with its string or data borrowed, and the others remain.
--- Nothing is yielded only if nothing remains. If an allocation fails, `OutOfMemory` is yielded in
+-- The first of these events is yielded, with its string or data borrowed, and the others remain.
+-- Nothing is yielded only if there is no event. If an allocation fails, `OutOfMemory` is yielded in
 -- place of a start, and nothing remains.
-abbrev pub GivesEvent : Events → Option (Result Event Error) → Events → Type 0
-GivesEvent before None after = (remaining_events before ≡ []) × (remaining_events after ≡ [])
-GivesEvent before (Some (Ok given)) after =
-    (remaining_events before ≡ event_of given ∷ remaining_events after) × IsBorrowed given
-GivesEvent before (Some (Err error)) after =
-    (fault_of error ≡ fault_without_offset OutOfMemory) × BeginsWithStart (remaining_events before)
+abbrev pub GivesFirstOf : List PlainEvent → Option (Result Event Error) → Events → Type 0
+GivesFirstOf events None after = (events ≡ []) × (remaining_events after ≡ [])
+GivesFirstOf events (Some (Ok given)) after =
+    (events ≡ event_of given ∷ remaining_events after) × IsBorrowed given
+GivesFirstOf events (Some (Err error)) after =
+    (fault_of error ≡ fault_without_offset OutOfMemory) × BeginsWithStart events
     × (remaining_events after ≡ [])
+
+-- the first remaining event is yielded
+abbrev pub GivesEvent : Events → Option (Result Event Error) → Events → Type 0
+GivesEvent before item after = GivesFirstOf (remaining_events before) item after
 
 -- what is next, and what remains after it
 abbrev pub ComesNext : Events → Next → Events → Type 0
@@ -70,18 +74,3 @@ ComesNext before (next.Value value) after =
     (remaining_events before
     ≡ bracketing (tree_of value.now) ++ left_of_levels (reverse after.levels.items))
     × (after.value ≡ None)
-
--- the first event of a tree is yielded, and the tree's other events remain, followed by those that
--- remained before; or an allocation fails at a start
-abbrev pub BeginsValue : Tree → Events → Result Event Error → Events → Type 0
-BeginsValue tree before (Ok given) after =
-    (bracketing tree ++ remaining_events before ≡ event_of given ∷ remaining_events after)
-    × IsBorrowed given
-BeginsValue tree before (Err error) after =
-    (fault_of error ≡ fault_without_offset OutOfMemory)
-    × BeginsWithStart (bracketing tree ++ remaining_events before) × (remaining_events after ≡ [])
-
--- a level's events and its end precede those that remained
-abbrev pub OpensLevel : (before : Events) → Level → (after : Events) → Type 0
-OpensLevel before level after =
-    remaining_events after ≡ left_of_level level ++ EndCollection ∷ remaining_events before

@@ -12,14 +12,12 @@ use Rattle.plist_base.specs.declared.limits.LimitCounter.{LimitCounter}
 use Rattle.plist_base.specs.declared.limits.Limits.{Limits}
 use Rattle.plist_base.specs.declared.seeking.Seeking.{Seeking}
 use Rattle.plist_base.specs.Trees.{Tree}
-use Rattle.plist_ascii.specs.Ascii.{items_of_ascii}
 use Rattle.plist_ascii.specs.AsciiReader as ascii
 use Rattle.plist_ascii.specs.AsciiReader.{untaken_bytes, dialect_of, device_of, peeked_byte, place_of, readable}
 use Rattle.plist_ascii.specs.declared.reader.AsciiReader.{AsciiReader}
 use Rattle.plist_ascii.specs.declared.dialect.Dialect.{Dialect}
-use Rattle.plist_decode.specs.Formats.{input_front}
 use Rattle.plist_reader.specs.declared.reader.Reader.{Reader}
-use Rattle.plist_reader.specs.Reader.{Gives, IsNewReader, IsReaderFault, IsUnread, limited_input}
+use Rattle.plist_reader.specs.Reader.{Gives, IsNewReader, IsReaderFault, IsUnread, items_of_input}
 use Rattle.plist.specs.Collecting.{Collects}
 
 -- the result is built from the items of a new reader of this source, which reads ASCII in this
@@ -33,7 +31,8 @@ IsReadInDialect {R} dialect known failed source answer =
 -- the items of an input under these limits, whose strings and data have at most this many bytes in
 -- all
 abbrev pub budgeted_input : Limits → (bytes : ℕ) → List ℕ → List Item
-budgeted_input limits bytes input = within_bytes bytes (limited_input limits input)
+budgeted_input limits bytes input =
+    within_bytes bytes (limited_items limits (items_of_input input))
 
 -- a reader of either format under limits
 abbrev pub LimitedReader : {R : Type 0} (known : R → Option (List ℕ)) (failed : R → ℕ) → Type 0
@@ -73,10 +72,6 @@ IsReadAsAscii {R} known failed source dialect answer =
     × (place_of reader ≡ 0) × (peeked_byte reader ≡ None)
     × (untaken_bytes known reader ≡ readable (known source))
     × Collects event_of (ascii.GivesAscii known failed) reader answer
-
--- the items of ASCII bytes
-abbrev pub items_of_text : (bare : ℕ → Bool) → List ℕ → List Item
-items_of_text bare bytes = items_of_ascii bare (input_front bytes) 0
 
 -- the fault says that the events aren't those of a value
 abbrev pub IsFaultOfEvents : FaultKind → Type 0

@@ -11,12 +11,9 @@ pub mod Builder
 pub mod Events
 pub mod Collecting
 pub mod ValueOfItems
-pub mod ValueVisits
-pub mod ReadingBack
 pub mod WrittenEvents
 pub mod SendingValues
 pub mod Outputs
-pub mod Stored
 pub mod FromReader
 pub mod Accessors
 pub mod MutAccessors

@@ -31,22 +31,15 @@ abbrev pub IfEvents : (List PlainEvent → Type 0) → Tree → Type 0
 IfEvents P tree =
     P (bracketing tree) × ((whole : Tree) × (tree ≡ last_wins whole) × P (bracketing whole))
 
--- there are at most as many events as these limits allow
-abbrev pub AreWithin : Limits → List PlainEvent → Type 0
-AreWithin limits events = length events ≤ limits.items
-
--- there are at most as many events as these limits allow, and their strings and data have at most
--- this many bytes in all
-abbrev pub AreWithinBudget : Limits → (bytes : ℕ) → List PlainEvent → Type 0
-AreWithinBudget limits bytes events = AreWithin limits events × (total_bytes events ≤ bytes)
-
--- a value's tree nests at most `depth` collections; its events, and those from which it was built,
--- are within these limits
+-- a value's tree nests at most `depth` collections; it has at most `items` events, and so have
+-- those from which it was built
 abbrev pub IsWithinLimits : Limits → Tree → Type 0
-IsWithinLimits limits tree = NestsWithin tree limits.depth × IfEvents (AreWithin limits) tree
+IsWithinLimits limits tree =
+    NestsWithin tree limits.depth × IfEvents (λ events. length events ≤ limits.items) tree
 
--- a value's tree nests at most `depth` collections; its events, and those from which it was built,
--- are within these limits and this budget of bytes
+-- a value is within these limits, and the strings and data of these events have at most this many
+-- bytes in all
 abbrev pub IsWithinBudget : Limits → (bytes : ℕ) → Tree → Type 0
 IsWithinBudget limits bytes tree =
-    NestsWithin tree limits.depth × IfEvents (AreWithinBudget limits bytes) tree
+    NestsWithin tree limits.depth
+    × IfEvents (λ events. (length events ≤ limits.items) × (total_bytes events ≤ bytes)) tree

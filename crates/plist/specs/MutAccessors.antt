@@ -1,16 +1,12 @@
--- What the `&mut` accessors of a value borrow from it, and the types of what is borrowed.
-use Rattle.std.specs.Prelude.{Option, option_map}
-use Rattle.plist_base.specs.Trees.{Members, Trees}
-use Rattle.plist.specs.ValueTrees.{item_trees, pair_trees}
+-- What the `&mut` accessors of a value borrow from it.
+use Rattle.std.specs.Prelude.{Option, Vec}
 use Rattle.std.specs.Borrow.{LendsIf, MutBor, Fml}
 use Rattle.std.specs.declared.alloc.Global.{Global}
-use Rattle.std.specs.declared.vec.Vec.{Vec}
 use Rattle.std.specs.contracts.alloc.Global as global
 use Rattle.std.specs.contracts.vec.Vec as vec
 use Rattle.std.specs.contracts.impls.GlobalAllocator.TheImpl.{ghosts}
 use Rattle.plist.specs.contracts.dictionary.Dictionary as dictionary
 use Rattle.plist.specs.declared.dictionary.Dictionary.{Dictionary}
-use Rattle.plist.specs.Dictionaries.{pairs_of}
 use Rattle.plist.specs.contracts.value.Value.{the_row}
 use Rattle.plist.specs.declared.value.Value.{Value}
 use Rattle.plist.specs.declared.value.Value.TheVariants as made
@@ -26,11 +22,3 @@ LendsArray value borrowed old =
 abbrev pub LendsDictionary : MutBor Value → Option (MutBor Dictionary) → Value → Fml
 LendsDictionary value borrowed old =
     LendsIf the_row dictionary.the_row value borrowed made.Dictionary old
-
--- the items of the array to which the reference points
-abbrev pub borrowed_items : Option (MutBor (Vec Value Global)) → Option Trees
-borrowed_items borrowed = option_map (λ array. item_trees array.now.items) borrowed
-
--- the pairs of the dictionary to which the reference points
-abbrev pub borrowed_pairs : Option (MutBor Dictionary) → Option Members
-borrowed_pairs borrowed = option_map (λ pairs. pair_trees (pairs_of pairs.now)) borrowed

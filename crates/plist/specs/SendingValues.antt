@@ -1,8 +1,8 @@
--- What is written when a value is written as a binary property list.
+-- What is written when a value is written as a binary property list, and why it isn't stored.
 use Rattle.std.specs.Prelude.{◌≡◌, ℕ, ◌^◌, ◌≤◌, List, Option, None, Result, Ok, Err, ⊤}
 use Rattle.std.specs.Io.KnownBytes.{Appends}
 use Rattle.plist_base.specs.declared.error.Error.{Error}
-use Rattle.plist_base.specs.Faults.{FaultKind, Io, OutOfMemory, PlistTooLarge}
+use Rattle.plist_base.specs.Faults.{Fault, FaultKind, Io, MatchFault, OutOfMemory, PlistTooLarge}
 use Rattle.plist_base.specs.Trees.{Tree}
 use Rattle.plist_base.specs.Writing.{Answer, answer_of}
 use Rattle.plist_binwrite.specs.Files.{IsFileOf}
@@ -16,6 +16,12 @@ abbrev pub StopsFile : FaultKind → Tree → Type 0
 StopsFile PlistTooLarge tree = 2 ^ 64 ≤ file_size tree
 StopsFile OutOfMemory tree = ⊤
 StopsFile kind tree = ⊥
+
+-- the fault says why a file of the tree isn't stored: its kind is `Io`, or one for which no file is
+-- made
+abbrev pub IsUnstored : Tree → Fault → Type 0
+IsUnstored tree fault =
+    (fault.offset ≡ None) × MatchFault fault.kind ⊤ ⊤ (StopsFile fault.kind tree)
 
 module _ {W : Type 0} (contents : W → Option (List ℕ)) where
   -- the only errors are `Io`, after a prefix of a file of the tree was written, and those for which

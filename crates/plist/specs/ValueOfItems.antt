@@ -6,10 +6,12 @@ use Rattle.plist_base.specs.FirstItems.{GivesFirstIfKnown}
 use Rattle.plist_base.specs.Faults.{Fault, fault_without_offset, UnexpectedEndOfEventStream, MatchFault, IsIoOrMemory}
 use Rattle.plist_base.specs.Trees.{Tree}
 use Rattle.plist_base.specs.Bracketing.{bracketing, AreAlike}
+use Rattle.plist_binwrite.specs.Written.{IsWrittenAs}
 use Rattle.plist.specs.Building.{Unfinished, IsNested, events_so_far, refusal_at}
 use Rattle.plist.specs.Collecting.{Collects, IsRefusal, built_tree}
 use Rattle.plist.specs.declared.value.Value.{Value}
 use Rattle.plist.specs.LastWins.{last_wins}
+use Rattle.plist.specs.ValueTrees.{tree_of}
 
 -- Why events that can follow one another have no value: the next item is this fault, or an event
 -- that is rejected with it, or there is no next item, and the events aren't those of a tree.
@@ -82,6 +84,11 @@ AnswersIterable {E} {I} {J} becomes plain next_gives made answer =
 abbrev pub IsReadBack : Tree → Result Tree Fault → Type 0
 IsReadBack tree (Ok read) = read ≡ tree
 IsReadBack tree (Err fault) = IsIoOrMemory fault.kind
+
+-- if the bytes are known and are a file of a value, they are read back as that value
+abbrev pub ReadsBackIn : (known : Option (List ℕ)) → Result Tree Fault → Type 0
+ReadsBackIn known answer = IfSome known (λ file.
+    (value : Value) → IsWrittenAs (tree_of value) file → IsReadBack (tree_of value) answer)
 
 -- a tree's events, apart from lengths, are those of no other tree
 abbrev pub DetermineTrees : Type 0

@@ -51,7 +51,7 @@ struct ValueVisitor {
 }
 
 impl EventVisitor for ValueVisitor {
-    ghost use Rattle.plist.specs.ValueVisits.{BuildsEvent};
+    ghost use Rattle.plist.specs.Builder.{BuildsEvent};
 
     ghost step = { BuildsEvent };
 

@@ -9,8 +9,7 @@ ghost use Rattle.plist.specs.Collecting.{built_tree};
 ghost use Rattle.plist.specs.LimitedValues.{IsWithinLimits};
 ghost use Rattle.plist.specs.Outputs.{WritesFirst, contents_of};
 ghost use Rattle.plist.specs.FromReader.{IsReadFromFile, IsReadFromFileWithin, IsFileFault};
-ghost use Rattle.plist.specs.SendingValues.{SendsValue};
-ghost use Rattle.plist.specs.Stored.{IsUnstored};
+ghost use Rattle.plist.specs.SendingValues.{IsUnstored, SendsValue};
 ghost use Rattle.plist.specs.ValueTrees.{tree_of};
 
 use crate::Value;

@@ -5,12 +5,12 @@ ghost use Rattle.plist_base.specs.Bracketing.{bracketing};
 ghost use Rattle.plist.specs.SendingValues.{SendsValue};
 ghost use Rattle.plist.specs.Collecting.{built_tree};
 ghost use Rattle.plist.specs.Accessors.{array_in, data_in, dictionary_in, text_in};
-ghost use Rattle.plist.specs.ValueOfItems.{AnswersIterable, CollectsIterable, ReadsItems, DetermineTrees};
+ghost use Rattle.plist.specs.ValueOfItems.{AnswersIterable, CollectsIterable, ReadsBackIn, ReadsItems, DetermineTrees};
 ghost use Rattle.plist_pairs.specs.Bulk.{IterableEnds};
-ghost use Rattle.plist.specs.FromReader.{IsReadInDialect, IsReadWithin, IsReadWithinBudget, IsReadAsAscii, IsReadingFault, budgeted_input, items_of_text};
-ghost use Rattle.plist.specs.ReadingBack.{ReadsBackIn};
-ghost use Rattle.plist_ascii.specs.Texts.{ends_bare, lax_stops};
-ghost use Rattle.plist_reader.specs.Reader.{items_of_dialect, items_of_input, limited_input};
+ghost use Rattle.plist.specs.FromReader.{IsReadInDialect, IsReadWithin, IsReadWithinBudget, IsReadAsAscii, IsReadingFault, budgeted_input};
+ghost use Rattle.plist_decode.specs.declared.format.Format.TheVariants.{Ascii};
+ghost use Rattle.plist_base.specs.Limits.{limited_items};
+ghost use Rattle.plist_reader.specs.Reader.{items_in_format, items_of_dialect, items_of_input};
 ghost use Rattle.plist_base.specs.Outcomes.{IfFault, OnlyMemory};
 ghost use Rattle.plist_base.specs.Trees.{Leaf, String};
 ghost use Rattle.plist.specs.LastWins.{AreLastValues, TreePairs, last_values, last_wins};
@@ -196,7 +196,7 @@ impl Value {
         ensures read { IsReadInDialect Dialect.Lax R.known R.failures source
             (built_tree result) }
         ensures fault { IfFault result (IsReadingFault false) }
-        ensures reads_back { ReadsBackIn (R.known source) result }
+        ensures reads_back { ReadsBackIn (R.known source) (built_tree result) }
     {
         Value::from_reader_with_dialect(alloc, source, Dialect::Lax)
     }
@@ -214,7 +214,7 @@ impl Value {
         ensures value { ReadsItems (items_of_dialect dialect) (R.known source) result }
         ensures read { IsReadInDialect dialect R.known R.failures source (built_tree result) }
         ensures fault { IfFault result (IsReadingFault false) }
-        ensures reads_back { ReadsBackIn (R.known source) result }
+        ensures reads_back { ReadsBackIn (R.known source) (built_tree result) }
     {
         let mut reader = Reader::with_dialect(alloc, source, dialect);
         collect_visited(alloc, &mut reader)
@@ -241,7 +241,8 @@ impl Value {
         source: R,
         limits: Limits,
     ) -> Result<Value, Error>
-        ensures value { ReadsItems (limited_input limits) (R.known source) result }
+        ensures value { ReadsItems (λ bytes. limited_items limits (items_of_input bytes))
+            (R.known source) result }
         ensures read { IsReadWithin limits R.known R.failures source (built_tree result) }
         ensures fault { IfFault result (IsReadingFault true) }
         ensures within { IfOk (built_tree result) (IsWithinLimits limits) }
@@ -290,7 +291,8 @@ impl Value {
     /// The errors are those of [`Value::from_reader`], but with the errors of [`AsciiReader`] in
     /// place of those of [`Reader`].
     pub fn from_reader_ascii<R: ByteReader + Drop>(alloc: Global, reader: R) -> Result<Value, Error>
-        ensures value { ReadsItems (items_of_text lax_stops) (R.remaining reader) result }
+        ensures value { ReadsItems (items_in_format Dialect.Lax Ascii) (R.remaining reader)
+            result }
         ensures read { IsReadAsAscii R.remaining R.failures reader Dialect.Lax (built_tree result) }
     {
         Value::from_reader_ascii_with_dialect(alloc, reader, Dialect::Lax)
@@ -307,7 +309,7 @@ impl Value {
         reader: R,
         dialect: Dialect,
     ) -> Result<Value, Error>
-        ensures value { ReadsItems (items_of_text (ends_bare dialect)) (R.remaining reader) result }
+        ensures value { ReadsItems (items_in_format dialect Ascii) (R.remaining reader) result }
         ensures read { IsReadAsAscii R.remaining R.failures reader dialect (built_tree result) }
     {
         collect(alloc, AsciiReader::with_dialect(alloc, reader, dialect))

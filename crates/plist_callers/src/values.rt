@@ -2,13 +2,13 @@
 //! dictionary's copy, and a value's copy, which is equal to it.
 
 ghost use Rattle.std.specs.Prelude.{◌≡◌, Err, IfOk, IfSome, false, true};
-ghost use Rattle.plist_ascii.specs.Texts.{tight_stops};
+ghost use Rattle.plist_decode.specs.declared.format.Format.TheVariants.{Ascii};
 ghost use Rattle.plist_base.specs.Faults.{WriterFailed, fault_without_offset};
-ghost use Rattle.plist_reader.specs.Reader.{items_of_dialect, items_of_input};
+ghost use Rattle.plist_reader.specs.Reader.{items_in_format, items_of_dialect, items_of_input};
 ghost use Rattle.plist.specs.Collecting.{built_tree};
 ghost use Rattle.plist.specs.ValueOfItems.{IsValueOf};
 ghost use Rattle.plist.specs.LimitedValues.{NestsWithin};
-ghost use Rattle.plist.specs.FromReader.{IsReadWithinBudget, items_of_text};
+ghost use Rattle.plist.specs.FromReader.{IsReadWithinBudget};
 ghost use Rattle.plist.specs.Dictionaries.{pairs_of};
 ghost use Rattle.plist.specs.ValueTrees.{tree_of, tree_pairs};
 
@@ -34,7 +34,7 @@ pub fn value_of_tight_bytes(alloc: Global, bytes: &[u8]) -> Result<Value, Error>
 
 /// Returns the value of an ASCII property list in the tight dialect.
 pub fn value_of_tight(alloc: Global, text: &[u8]) -> Result<Value, Error>
-    ensures value { IsValueOf (items_of_text tight_stops text.now) (built_tree result) }
+    ensures value { IsValueOf (items_in_format Dialect.Tight Ascii text.now) (built_tree result) }
 {
     Value::from_reader_ascii_with_dialect(alloc, text, Dialect::Tight)
 }

@@ -10,7 +10,8 @@ use Rattle.plist_base.specs.Faults.{Fault, OutOfMemory, error_kind_of, kind_of}
 use Rattle.plist_base.specs.Sources.{ItemCountsIo}
 use Rattle.plist_base.specs.Visits.{YieldsPlain, PlainItem, plain_item}
 use Rattle.plist_base.proofs.Refusals.{MatchFault-at}
-use Rattle.plist_reader.specs.Reader.{Gives, HoldsSource, reader_items, reader_source}
+use Rattle.plist_reader.specs.Reader.{Gives, HoldsSource, source_in}
+use Rattle.plist_reader.proofs.ReaderItems.{reader_items}
 use Rattle.plist_reader.specs.declared.reader.Reader.{Reader}
 use Rattle.plist.specs.Events.{GivesEvent, remaining_events}
 use Rattle.plist.specs.declared.stream.events.Events.{Events}
@@ -28,7 +29,7 @@ reader_comes known failed old item new (given, yields, is) =
 
 -- the reader has a source
 abbrev pub IsOpen : {S : Type 0} {g : Ghosts S} → Reader S g → Type 0
-IsOpen reader = is_some (reader_source reader) ≡ true
+IsOpen reader = is_some (source_in reader.state) ≡ true
 
 source_counts : {S : Type 0} (failures : S → ℕ) (old new : Option S)
     (given : Option (Result Event Error)) → is_some old ≡ true → HoldsSource failures old given new
@@ -45,7 +46,7 @@ pub reader_counts : {S : Type 0} {g : Ghosts S} (known : S → Option (List ℕ)
     → YieldsPlain (Gives known failed) old item new
     → ItemCountsIo item (failures_in failed old) (failures_in failed new) × IsOpen new
 reader_counts known failed old item new some (given, yields, is) =
-    rw is (source_counts failed (reader_source old) (reader_source new) given some yields.failures)
+    rw is (source_counts failed (source_in old.state) (source_in new.state) given some yields.failures)
 
 -- ---- the events of a value
 

@@ -28,10 +28,10 @@ use Rattle.plist_ascii.specs.declared.dialect.Dialect.{Dialect}
 use Rattle.plist_ascii.specs.Texts.{ends_bare}
 use Rattle.plist_reader.specs.declared.reader.State.{State}
 use Rattle.plist_reader.specs.declared.reader.State.TheVariants as state
-use Rattle.plist_reader.specs.Reader.{AsciiReaderOf, AsciiGives, state_items, stream_bytes_left, stream_source, buffered_bytes, items_in_format, items_of_dialect, ascii_items_to_come, StopsIfKnown, EndsAfter, IsReaderFault, StateGives}
+use Rattle.plist_reader.specs.Reader.{AsciiReaderOf, AsciiGives, state_items, stream_bytes_left, buffered_bytes, items_in_format, items_of_dialect, ascii_items_to_come, IsReaderFault, StateGives}
 use Rattle.plist_decode.specs.declared.format.Format.TheVariants as format
 use Rattle.plist_decode.specs.Formats.{format_of, input_front}
-use Rattle.plist_reader.proofs.ReaderItems.{Given, IsReaderItem, chosen-gives, input_within, one-remain}
+use Rattle.plist_reader.proofs.ReaderItems.{EndsAfter, Given, IsReaderItem, StopsIfKnown, chosen-gives, input_within, one-remain}
 
 -- ---- `OutOfMemory` is yielded only if something remains
 
@@ -203,7 +203,7 @@ module _ (now : Bool) (old new : LimitCounter) where
 
 -- a reader of ASCII that has yielded nothing has all items of its source left
 fresh-text : {R : Type 0} (known : R → Option (List ℕ)) (dialect : Dialect) (source : R) (sequence : BufferedSource R) (reader : AsciiReaderOf R)
-    → stream_source sequence ≡ source → sequence.place ≡ 0 → buffered_bytes sequence ≡ []
+    → sequence.source ≡ source → sequence.place ≡ 0 → buffered_bytes sequence ≡ []
     → IfSome (known source) (λ bytes. format.Ascii ≡ format_of bytes)
     → ascii.untaken_bytes (stream_bytes_left known) reader
     ≡ option_map input_front (stream_bytes_left known sequence)
@@ -215,11 +215,11 @@ fresh-text known dialect source sequence reader from at none is bytes place chos
     ∙ (λ i. option_map (λ b. items_of_ascii (ends_bare dialect) b (place i)) (bytes i))
     ∙ ap (λ p. option_map (λ b. items_of_ascii (ends_bare dialect) b 0)
     (option_map input_front (option_map (λ bytes. buffered_bytes sequence ++ from_place p bytes)
-    (known (stream_source sequence))))) at
+    (known sequence.source)))) at
     ∙ ap (λ w. option_map (λ b. items_of_ascii (ends_bare dialect) b 0)
     (option_map input_front (option_map (λ bytes. w ++ from_place 0 bytes)
-    (known (stream_source sequence))))) none
-    ∙ ascii-items dialect _ (known (stream_source sequence)) (ap known from) is
+    (known sequence.source)))) none
+    ∙ ascii-items dialect _ (known sequence.source) (ap known from) is
 
 joined : (limits : Limits) (dialect : Dialect) (k : Option (List ℕ))
     → option_map (limited_items limits) (option_map (items_of_dialect dialect) k)
@@ -244,8 +244,8 @@ module _ {R : Type 0} {g : Ghosts R} (known : R → Option (List ℕ)) (failed :
         (ascii.untaken_bytes (stream_bytes_left known) old)
         (ascii.untaken_bytes (stream_bytes_left known) new) (ascii.place_of old)
         (ascii.place_of new) item h.items;
-    failures = counted-failures (failed (stream_source (ascii.device_of old)))
-        (failed (stream_source (ascii.device_of new))) item h.failures;
+    failures = counted-failures (failed (ascii.device_of old).source)
+        (failed (ascii.device_of new).source) item h.failures;
     ended = h.ended;
     ends = ascii-ends (ascii.HasEndedAscii new) item h.ends h.kinds;
     faults = ascii-faults false (ascii.place_of new) item h.kinds h.offset;
@@ -294,8 +294,8 @@ module _ {R : Type 0} {g : Ghosts R} (known : R → Option (List ℕ)) (failed :
                 (ascii_items_to_come known old.inner) (ascii_items_to_come known new.inner) asked
                 item going inner.stops passes;
             failures = passes-count new.ended old.limiter new.limiter asked item
-                (failed (stream_source (ascii.device_of old.inner)))
-                (failed (stream_source (ascii.device_of new.inner))) inner.failures passes;
+                (failed (ascii.device_of old.inner).source)
+                (failed (ascii.device_of new.inner).source) inner.failures passes;
             ended = λ over. (let no : false ≡ true → item ≡ None = λ q. cc in no (cc));
             ends = passes-ends new.ended old.limiter new.limiter asked item passes;
             faults = passes-faults new.ended old.limiter new.limiter asked item
@@ -305,7 +305,7 @@ module _ {R : Type 0} {g : Ghosts R} (known : R → Option (List ℕ)) (failed :
           }
 
   pub begun-ascii : (source : R) (dialect : Dialect) (sequence : BufferedSource R) (old new : AsciiReaderOf R) (item : Given)
-      → stream_source sequence ≡ source → ascii.device_of old ≡ sequence → sequence.place ≡ 0
+      → sequence.source ≡ source → ascii.device_of old ≡ sequence → sequence.place ≡ 0
       → buffered_bytes sequence ≡ [] → IfSome (known source) (λ bytes. format.Ascii ≡ format_of bytes)
       → ascii.untaken_bytes (stream_bytes_left known) old ≡ option_map input_front
       (stream_bytes_left known sequence)
@@ -316,14 +316,14 @@ module _ {R : Type 0} {g : Ghosts R} (known : R → Option (List ℕ)) (failed :
   begun-ascii source dialect sequence old new item from inside at none is bytes place chosen h =
       chosen-gives {g = g} known failed source None dialect (state.Ascii old) (state.Ascii new) item
       (fresh-text known dialect source sequence old from at none is bytes place chosen) refl
-      (subst (λ n. ItemCountsIo item n (failed (stream_source (ascii.device_of new))))
-      (ap (λ s. failed (stream_source s)) inside ∙ ap failed from)
+      (subst (λ n. ItemCountsIo item n (failed (ascii.device_of new).source))
+      (ap (λ (s : BufferedSource R). failed s.source) inside ∙ ap failed from)
       (counted-failures _ _ item h.failures))
       (old, place, chosen, refl, h) (ascii-gives old new item h)
 
   pub begun-limited : (source : R) (limits : Limits) (dialect : Dialect) (sequence : BufferedSource R) (fresh : AsciiReaderOf R)
       (old new : LimitedItems (AsciiReaderOf R) LimitCounter) (item : Given) → items_admitted old ≡ limited_items limits
-      → iterator_of old ≡ fresh → stream_source sequence ≡ source → ascii.device_of fresh ≡ sequence
+      → iterator_of old ≡ fresh → sequence.source ≡ source → ascii.device_of fresh ≡ sequence
       → sequence.place ≡ 0 → buffered_bytes sequence ≡ []
       → IfSome (known source) (λ bytes. format.Ascii ≡ format_of bytes)
       → ascii.untaken_bytes (stream_bytes_left known) fresh
@@ -340,7 +340,7 @@ module _ {R : Type 0} {g : Ghosts R} (known : R → Option (List ℕ)) (failed :
       ∙ ap (option_map (limited_items limits))
       (fresh-text known dialect source sequence fresh from at none is bytes place chosen)
       ∙ joined limits dialect (known source)) refl
-      (subst (λ n. ItemCountsIo item n (failed (stream_source (ascii.device_of (iterator_of new)))))
-      (ap (λ r. failed (stream_source (ascii.device_of r))) is-fresh
-      ∙ ap (λ s. failed (stream_source s)) inside ∙ ap failed from) gives.failures)
+      (subst (λ n. ItemCountsIo item n (failed (ascii.device_of (iterator_of new)).source))
+      (ap (λ (r : AsciiReaderOf R). failed (ascii.device_of r).source) is-fresh
+      ∙ ap (λ (s : BufferedSource R). failed s.source) inside ∙ ap failed from) gives.failures)
       (old, ap ascii.place_of is-fresh ∙ place, ap ascii.dialect_of is-fresh ∙ chosen, refl, h) gives

@@ -14,11 +14,11 @@ use Rattle.plist_decode.specs.FaultOffsets.{HasOffset, MatchGiven, ItemGivenWith
 use Rattle.plist_binread.specs.Remaining.{SomeRemain, AllocatesFirst}
 use Rattle.plist_ascii.specs.declared.dialect.Dialect.{Dialect}
 use Rattle.plist_reader.specs.declared.reader.State.TheVariants as state
-use Rattle.plist_reader.specs.Reader.{BinaryReaderOf, items_of_input, items_in_format, items_within, StopsIfKnown, EndsAfter, StateGives}
+use Rattle.plist_reader.specs.Reader.{BinaryReaderOf, items_of_input, items_in_format, items_within, StateGives}
 use Rattle.plist_decode.specs.declared.format.Format.TheVariants as format
 use Rattle.plist_decode.specs.Formats.{format_of}
 use Rattle.plist_decode.proofs.Fronts.{within-placed}
-use Rattle.plist_reader.proofs.ReaderItems.{Given, IsReaderItem, chosen-gives, input_within, one-remain, same-items}
+use Rattle.plist_reader.proofs.ReaderItems.{EndsAfter, Given, IsReaderItem, StopsIfKnown, chosen-gives, input_within, one-remain, same-items}
 use Rattle.plist_format.specs.Unfolding.{items_of_file}
 use Rattle.plist_ascii.specs.declared.dialect.Dialect.TheVariants.{Lax}
 

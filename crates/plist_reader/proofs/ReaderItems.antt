@@ -1,12 +1,12 @@
 -- What the chosen reader yields: what both formats share, and what is yielded if the choice fails.
-use Rattle.std.proofs.Common.{◌≡◌, inl, inr, ◌⊎◌, ℕ, ◌<◌, Bool, true, List, [], ◌∷◌, length, Option, None, Some, Err, IfSome, refl, ap, sym, ◌∙◌, subst, arith}
+use Rattle.std.proofs.Common.{◌≡◌, inl, inr, ◌⊎◌, ℕ, ◌<◌, Bool, true, List, [], ◌∷◌, length, Option, None, Some, Err, IfSome, MatchOption, refl, ap, sym, ◌∙◌, subst, arith}
 use Rattle.std.specs.Option.{is_some, option_map}
-use Rattle.std.specs.Prelude.{Result}
+use Rattle.std.specs.Prelude.{Result, ⊤}
 use Rattle.plist_base.specs.declared.error.Error.{Error}
 use Rattle.plist_base.specs.declared.event.Event.{Event}
 use Rattle.plist_base.specs.declared.source.Source.{Ghosts}
 use Rattle.plist_base.specs.Events.{Item, event_of}
-use Rattle.plist_base.specs.FirstItems.{GivesFirst, GivesFirstIfKnown}
+use Rattle.plist_base.specs.FirstItems.{GivesFirst, GivesFirstIfKnown, MatchItem}
 use Rattle.plist_base.specs.declared.limits.Limits.{Limits}
 use Rattle.plist_base.specs.Limits.{limited_items}
 use Rattle.plist_base.specs.Faults.{FaultKind, Fault, Io, MatchFault, XmlUnsupported, IsIo, fault_at, kind_of, error_kind_of, fault_of}
@@ -14,10 +14,13 @@ use Rattle.plist_base.specs.Outcomes.{IfFault}
 use Rattle.plist_base.specs.Sources.{ItemCountsIo}
 use Rattle.plist_base.proofs.Refusals.{MatchFault-at, MatchFault-weaker}
 use Rattle.plist_decode.specs.FaultOffsets.{HasOffset, MatchGiven}
+use Rattle.plist_ascii.specs.Ascii.{IsFaultOfBytes}
 use Rattle.plist_ascii.specs.declared.dialect.Dialect.{Dialect}
+use Rattle.plist_binread.specs.Remaining.{SomeRemain}
+use Rattle.plist_reader.specs.declared.reader.Reader.{Reader}
 use Rattle.plist_reader.specs.declared.reader.State.{State}
 use Rattle.plist_reader.specs.declared.reader.State.TheVariants as state
-use Rattle.plist_reader.specs.Reader.{BeginsInside, state_items, is_limited_in, items_in_format, items_of_dialect, items_within, StopsIfKnown, IsReaderFault, StateGives, HoldsSource, source_in}
+use Rattle.plist_reader.specs.Reader.{BeginsInside, state_items, is_limited_in, items_in_format, items_of_dialect, items_within, IsReaderFault, StateGives, HoldsSource, source_in}
 use Rattle.plist_decode.specs.declared.format.Format.TheVariants as format
 use Rattle.plist_decode.specs.Formats.{format_of}
 
@@ -31,6 +34,24 @@ one-remain x xs = omega arith
 -- the items of an input in this dialect under optional limits
 abbrev pub input_within : Dialect → Option Limits → List ℕ → List Item
 input_within dialect limits bytes = items_within limits (items_of_dialect dialect bytes)
+
+-- the items that a reader hasn't yielded yet, if the source's bytes are known
+abbrev pub reader_items : {R : Type 0} {g : Ghosts R} → (known : R → Option (List ℕ)) → Reader R g
+    → Option (List Item)
+reader_items known reader = state_items known reader.state
+
+-- if the remaining items are known, no item remains after `None`, `Io` and `OutOfMemory`, and
+-- `OutOfMemory` is yielded only if an item remained
+abbrev pub StopsIfKnown : (before : Option (List Item)) → Given → (after : Option (List Item))
+    → Type 0
+StopsIfKnown before item after = IfSome before (λ all.
+    let over = after ≡ Some [] in
+    MatchItem item over (λ _. ⊤) over (over × SomeRemain all) (λ _. ⊤))
+
+-- the reader has ended after `None`, and after a fault that the bytes of ASCII can't have
+abbrev pub EndsAfter : Given → (ended : Type 0) → Type 0
+EndsAfter item ended =
+    MatchOption item ended (λ answer. IfFault answer (λ fault. IsFaultOfBytes fault.kind ⊎ ended))
 
 -- if the item is a fault, a reader can yield it
 abbrev pub IsReaderItem : (limited : Bool) → Given → Type 0

@@ -1,6 +1,5 @@
 -- What contracts see of a reader of either format: the items that it hasn't yielded yet.
-use Rattle.std.specs.Prelude.{◌≡◌, ◌⊎◌, ℕ, ◌+◌, ◌^◌, Bool, true, false, List, [], ◌∷◌, ◌++◌, take, drop, Option, None, Some, Result, Err, MatchOption, IsErrAnd, IsSomeAnd, IfSome, ⊤}
-use Rattle.std.specs.Option.{is_some, option_map}
+use Rattle.std.specs.Prelude.{◌≡◌, ◌⊎◌, ℕ, ◌+◌, ◌^◌, Bool, true, false, List, [], ◌∷◌, ◌++◌, take, drop, Option, None, Some, Result, Err, MatchOption, IsErrAnd, IsSomeAnd, IfSome, is_some, option_map, ⊤}
 use Rattle.plist_base.specs.declared.error.Error.{Error}
 use Rattle.plist_base.specs.declared.event.Event.{Event}
 use Rattle.plist_base.specs.declared.source.Source.{Ghosts}
@@ -51,18 +50,10 @@ items_of_dialect dialect bytes = items_in_format dialect (format_of bytes) bytes
 abbrev pub items_of_input : List ℕ → List Item
 items_of_input bytes = items_of_dialect Lax bytes
 
--- the items of an input under these limits
-abbrev pub limited_input : Limits → List ℕ → List Item
-limited_input limits bytes = limited_items limits (items_of_input bytes)
-
 -- the items that limits admit, or all of them without limits
 abbrev pub items_within : Option Limits → List Item → List Item
 items_within None items = items
 items_within (Some limits) items = limited_items limits items
-
--- the source inside a buffered one
-abbrev pub stream_source : {R : Type 0} → BufferedSource R → R
-stream_source reader = reader.source
 
 -- the buffered bytes, which were read from the source but not consumed yet
 abbrev pub buffered_bytes : {R : Type 0} → BufferedSource R → List ℕ
@@ -102,22 +93,14 @@ module _ {R : Type 0} {g : Ghosts R} (known : R → Option (List ℕ)) where
       (iterator_of reader))
   state_items other = Some []
 
-  -- the items that a reader hasn't yielded yet, if the source's bytes are known
-  abbrev pub reader_items : Reader R g → Option (List Item)
-  reader_items reader = state_items reader.state
-
 -- the source in a state, or `None` while the first item is read
 abbrev pub source_in : {R : Type 0} {g : Ghosts R} → State R g → Option R
 source_in (state.Unread source limits dialect) = Some source
 source_in (state.Binary reader) = Some (binary.binary_source reader)
-source_in (state.Ascii reader) = Some (stream_source (ascii.device_of reader))
-source_in (state.Limited reader) = Some (stream_source (ascii.device_of (iterator_of reader)))
+source_in (state.Ascii reader) = Some (ascii.device_of reader).source
+source_in (state.Limited reader) = Some (ascii.device_of (iterator_of reader)).source
 source_in (state.Refused source) = Some source
 source_in state.Moved = None
-
--- the source of a reader, or `None` while the first item is read
-abbrev pub reader_source : {R : Type 0} {g : Ghosts R} → Reader R g → Option R
-reader_source reader = source_in reader.state
 
 -- no item has been requested yet, and the reader has this source, these limits and this dialect
 abbrev pub IsUnread : {R : Type 0} {g : Ghosts R} → Reader R g → (source : R) → Option Limits
@@ -143,23 +126,6 @@ is_limited_in (state.Binary reader) = binary.has_limits reader
 is_limited_in (state.Limited reader) = true
 is_limited_in other = false
 
--- does the reader have limits?
-abbrev pub reader_is_limited : {R : Type 0} {g : Ghosts R} → Reader R g → Bool
-reader_is_limited reader = is_limited_in reader.state
-
--- if the remaining items are known, no item remains after `None`, `Io` and `OutOfMemory`, and
--- `OutOfMemory` is yielded only if an item remained
-abbrev pub StopsIfKnown : (before : Option (List Item)) → Option (Result Event Error)
-    → (after : Option (List Item)) → Type 0
-StopsIfKnown before item after = IfSome before (λ all.
-    let over = after ≡ Some [] in
-    MatchItem item over (λ _. ⊤) over (over × SomeRemain all) (λ _. ⊤))
-
--- after `None`, and after a fault that the bytes of ASCII can't have, the reader has ended
-abbrev pub EndsAfter : Option (Result Event Error) → Type 0 → Type 0
-EndsAfter item ended =
-    MatchOption item ended (λ answer. IfFault answer (λ fault. IsFaultOfBytes fault.kind ⊎ ended))
-
 -- One of the readers can yield this fault. It has an offset, except for `OutOfMemory`, and for the
 -- fault of a limit, which is possible only under limits.
 abbrev pub IsReaderFault : (limited : Bool) → Fault → Type 0
@@ -178,7 +144,7 @@ HoldsSource failed old item new = IfSome old (λ source.
 abbrev pub AsciiGives : {R : Type 0} (known : R → Option (List ℕ)) (failed : R → ℕ)
     → AsciiReaderOf R → Option (Result Event Error) → AsciiReaderOf R → Type 0
 AsciiGives known failed =
-    ascii.GivesAscii (stream_bytes_left known) (λ bytes. Some (failed (stream_source bytes)))
+    ascii.GivesAscii (stream_bytes_left known) (λ bytes. Some (failed bytes.source))
 
 module _ {R : Type 0} {g : Ghosts R} (known : R → Option (List ℕ)) (failed : R → ℕ) where
   -- the first item is that of a new reader, or a fault because no reader was chosen
@@ -206,22 +172,25 @@ module _ {R : Type 0} {g : Ghosts R} (known : R → Option (List ℕ)) (failed :
       GivesLimited (AsciiGives known failed) old item new
   GivesInside old item new = (item ≡ None) × (new ≡ old)
 
--- one call of `next`, as it changes the state
-pub record StateGives {R : Type 0} {g : Ghosts R} (known : R → Option (List ℕ)) (failed : R → ℕ)
-    (old : State R g) (item : Option (Result Event Error)) (new : State R g) : Type 0 where
-  pub items : GivesFirstIfKnown event_of (state_items known old) item (state_items known new)
-  pub stops : StopsIfKnown (state_items known old) item (state_items known new)
-  pub failures : HoldsSource failed (source_in old) item (source_in new)
-  pub ended : HasEndedState old → item ≡ None
-  pub ends : EndsAfter item (HasEndedState new)
-  pub faults : IfSome item (λ answer. IfFault answer (IsReaderFault (is_limited_in old)))
-  pub limits : is_limited_in old ≡ false → is_limited_in new ≡ false
-  pub inside : GivesInside known failed old item new
+  -- one call of `next`, as it changes the state
+  pub record StateGives (old : State R g) (item : Option (Result Event Error)) (new : State R g)
+      : Type 0 where
+    pub items : GivesFirstIfKnown event_of (state_items known old) item (state_items known new)
+    -- no item remains after `None`, `Io` and `OutOfMemory`, which is yielded only if one remained
+    pub stops : IfSome (state_items known old) (λ all. let over = state_items known new ≡ Some [] in
+        MatchItem item over (λ _. ⊤) over (over × SomeRemain all) (λ _. ⊤))
+    pub failures : HoldsSource failed (source_in old) item (source_in new)
+    pub ended : HasEndedState old → item ≡ None
+    -- the reader has ended after `None`, and after a fault that the bytes of ASCII can't have
+    pub ends : let over = HasEndedState new in
+        MatchOption item over (λ answer. IfFault answer (λ fault. IsFaultOfBytes fault.kind ⊎ over))
+    pub faults : IfSome item (λ answer. IfFault answer (IsReaderFault (is_limited_in old)))
+    pub limits : is_limited_in old ≡ false → is_limited_in new ≡ false
+    pub inside : GivesInside old item new
 
--- one call of `next`, as it changes the reader
-abbrev pub Gives : {R : Type 0} {g : Ghosts R} (known : R → Option (List ℕ)) (failed : R → ℕ)
-    (old : Reader R g) (item : Option (Result Event Error)) (new : Reader R g) → Type 0
-Gives known failed old item new = StateGives known failed old.state item new.state
+  -- one call of `next`, as it changes the reader
+  abbrev pub Gives : (old : Reader R g) → Option (Result Event Error) → (new : Reader R g) → Type 0
+  Gives old item new = StateGives old.state item new.state
 
 -- more than the number of items in any input
 abbrev pub all_steps : ℕ
@@ -234,8 +203,3 @@ steps_in_state (state.Binary reader) = binary.binary_steps reader
 steps_in_state (state.Ascii reader) = ascii.ascii_steps reader
 steps_in_state (state.Limited reader) = ascii.ascii_steps (iterator_of reader)
 steps_in_state other = 0
-
--- the fact is true if no item has been requested yet
-abbrev pub IfUnread : {R : Type 0} {g : Ghosts R} → State R g → (fact : Type 0) → Type 0
-IfUnread (state.Unread source limits dialect) fact = fact
-IfUnread other fact = ⊤

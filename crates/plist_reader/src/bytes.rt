@@ -31,11 +31,11 @@ pub struct BufferedSource<R> {
 impl<R: Source> BufferedSource<R> {
     ghost use Rattle.std.specs.Prelude.{◌≡◌, [], OnOk};
     ghost use Rattle.std.specs.Io.KnownBytes.{IsAtEnd};
-    ghost use Rattle.plist_reader.specs.Reader.{stream_source, buffered_bytes, stream_bytes_left};
+    ghost use Rattle.plist_reader.specs.Reader.{buffered_bytes, stream_bytes_left};
 
     /// Creates a `BufferedSource` from which no byte has been read.
     pub fn new(source: R) -> Self
-        ensures source { stream_source result ≡ source }
+        ensures source { result.source ≡ source }
         ensures place { result.place ≡ 0 }
         ensures buffered_bytes { buffered_bytes result ≡ [] }
     {

@@ -1,7 +1,6 @@
 -- How many values have to be dropped.
-use Rattle.std.specs.Prelude.{◌≡◌, ◌<◌, ◌≤◌, ◌⊎◌, ℕ, ◌+◌, ◌*◌, List, [], ◌∷◌, map, sum, length, Option, MatchOption}
+use Rattle.std.specs.Prelude.{◌≡◌, ◌<◌, ◌≤◌, ◌⊎◌, ℕ, ◌+◌, ◌*◌, List, [], ◌∷◌, map, sum, length, Option, MatchOption, Vec}
 use Rattle.std.specs.declared.alloc.Global.{Global}
-use Rattle.std.specs.declared.vec.Vec.{Vec}
 use Rattle.std.specs.Map.{values_of}
 use Rattle.plist.specs.declared.value.Value.{Value, fold-Value}
 use Rattle.plist.specs.declared.value.Value.TheOpen.{Dictionary-F, Value-F}

@@ -29,8 +29,11 @@ pub struct Builder {
 }
 
 impl Builder {
-    ghost use Rattle.plist.specs.Builder.{HasAllEventsOf, IsBuilt, IsBuildingStep, RefusesWith, built_of};
+    ghost use Rattle.plist_base.specs.Bracketing.{AreAlike, bracketing};
+    ghost use Rattle.plist.specs.Builder.{IsBuildingStep, RefusesWith, built_of};
+    ghost use Rattle.plist.specs.Building.{complete_tree, events_so_far};
     ghost use Rattle.plist.specs.Collecting.{TakesOne, item_by};
+    ghost use Rattle.plist.specs.ValueTrees.{tree_of};
 
     /// Creates a builder without events.
     pub fn new(alloc: Global) -> Builder
@@ -89,8 +92,10 @@ impl Builder {
     /// - `UnexpectedEndOfEventStream` if the events aren't those of a value yet.
     pub fn finish(&mut self) -> Result<Value, Error>
         // Result.
-        ensures value { IfOk result (HasAllEventsOf (built_of self.old)) }
-        ensures complete { IfOk result (IsBuilt (built_of self.old)) }
+        ensures value { IfOk result (λ value. AreAlike
+            (events_so_far (built_of self.old).unfinished) (bracketing (tree_of value))) }
+        ensures complete { IfOk result (λ value. complete_tree (built_of self.old).unfinished
+            ≡ Some (tree_of value)) }
         ensures working { OnOk result ((built_of self.old).failed ≡ false) }
         // Errors.
         ensures refused { IfFault result (IsUnfinished (built_of self.old)) }

@@ -1,10 +1,10 @@
 //! The events of a value.
 
-ghost use Rattle.std.specs.Prelude.{◌≡◌, None, OnErr, OnOk, []};
+ghost use Rattle.std.specs.Prelude.{◌≡◌, ◌∷◌, ◌++◌, None, OnErr, OnOk, Some, []};
 ghost use Rattle.plist_base.specs.Bracketing.{bracketing};
 ghost use Rattle.plist_base.specs.Events.{EndCollection};
 ghost use Rattle.plist_base.specs.Outcomes.{OnlyMemory};
-ghost use Rattle.plist.specs.Events.{remaining_events, OpensLevel};
+ghost use Rattle.plist.specs.Events.{left_of_level, remaining_events};
 ghost use Rattle.plist.specs.ValueTrees.{tree_of};
 
 use crate::Value;
@@ -44,7 +44,7 @@ pub struct Events<'a> {
 }
 
 impl<'a> Events<'a> {
-    ghost use Rattle.plist.specs.Events.{BeginsValue, ComesNext};
+    ghost use Rattle.plist.specs.Events.{ComesNext, GivesFirstOf};
 
     pub(crate) fn new(alloc: Global, value: &'a Value) -> Events<'a>
         ensures { remaining_events result ≡ bracketing (tree_of value.now) }
@@ -86,7 +86,8 @@ impl<'a> Events<'a> {
     // Opens a collection. If an allocation fails, no events remain.
     fn open(&mut self, level: Level<'a>) -> Result<(), Error>
         requires { self.old.value ≡ None }
-        ensures opened { OnOk result (OpensLevel self.old level.entry self.new) }
+        ensures opened { OnOk result (remaining_events self.new
+            ≡ left_of_level level.entry ++ EndCollection ∷ remaining_events self.old) }
         ensures memory { OnlyMemory result }
         ensures nothing { OnErr result (remaining_events self.new ≡ []) }
     {
@@ -102,7 +103,8 @@ impl<'a> Events<'a> {
     // Returns the first event of a value. Its other events remain to be yielded.
     fn begin(&mut self, value: &'a Value) -> Result<Event<'a>, Error>
         requires { self.old.value ≡ None }
-        ensures { BeginsValue (tree_of value.now) self.old result self.new }
+        ensures { GivesFirstOf (bracketing (tree_of value.now) ++ remaining_events self.old)
+            (Some result) self.new }
     {
         match value {
             Value::Array(items) => {

@@ -1,8 +1,8 @@
 //! Access to the content of a value of a known kind. No call allocates memory.
 
-ghost use Rattle.std.specs.Prelude.{◌≡◌, ◌↔◌, IfSome, IsSome, IsSomeAnd, Some, option_map, pos};
+ghost use Rattle.std.specs.Prelude.{◌≡◌, ◌↔◌, ◌^◌, ◌<ℤ◌, ◌≤ℤ◌, IfSome, IsSome, IsSomeAnd, Some, option_map, pos};
 ghost use Rattle.std.specs.Option.{option_copied};
-ghost use Rattle.plist.specs.Accessors.{array_in, boolean_in, data_in, date_in, dictionary_in, integer_in, real_in, text_in, uid_in, IsBelowSigned, IsNatural};
+ghost use Rattle.plist.specs.Accessors.{array_in, boolean_in, data_in, date_in, dictionary_in, integer_in, real_in, text_in, uid_in};
 ghost use Rattle.plist.specs.Dictionaries.{pairs_of};
 ghost use Rattle.plist.specs.ValueTrees.{item_trees, pair_trees, tree_of};
 
@@ -13,7 +13,7 @@ use std::alloc::Global;
 impl Value {
     ghost use Rattle.std.specs.Borrow.{sem};
     ghost use Rattle.plist.specs.declared.value.Value.TheVariants as made;
-    ghost use Rattle.plist.specs.MutAccessors.{LendsArray, LendsDictionary, borrowed_items, borrowed_pairs};
+    ghost use Rattle.plist.specs.MutAccessors.{LendsArray, LendsDictionary};
 
     /// Returns the array, or `None` if the value isn't one.
     pub fn as_array(&self) -> Option<&Vec<Value>>
@@ -29,7 +29,8 @@ impl Value {
 
     /// Returns a mutable reference to the array, or `None` if the value isn't one.
     pub fn as_array_mut(&mut self) -> Option<&mut Vec<Value>>
-        ensures value { borrowed_items result ≡ array_in (tree_of self.old) }
+        ensures value { option_map (λ a. item_trees a.now.items) result
+            ≡ array_in (tree_of self.old) }
         ensures made { IfSome result (λ items. self.old ≡ made.Array items.now) }
         ensures* writes_back { sem 𝓛 (LendsArray self.entry result self.old) }
     {
@@ -53,7 +54,8 @@ impl Value {
 
     /// Returns a mutable reference to the dictionary, or `None` if the value isn't one.
     pub fn as_dictionary_mut(&mut self) -> Option<&mut Dictionary>
-        ensures value { borrowed_pairs result ≡ dictionary_in (tree_of self.old) }
+        ensures value { option_map (λ d. pair_trees (pairs_of d.now)) result
+            ≡ dictionary_in (tree_of self.old) }
         ensures made { IfSome result (λ pairs. self.old ≡ made.Dictionary pairs.now) }
         ensures* writes_back { sem 𝓛 (LendsDictionary self.entry result self.old) }
     {
@@ -105,7 +107,9 @@ impl Value {
 
     /// Returns the number if the value is an integer that fits into an `i64`, and otherwise `None`.
     pub fn as_signed_integer(&self) -> Option<i64>
-        ensures fits { IsSome result ↔ IsSomeAnd (integer_in (tree_of self.now)) IsBelowSigned }
+        // No `Integer` is below -2^63, so it only has to be below 2^63.
+        ensures fits { IsSome result
+            ↔ IsSomeAnd (integer_in (tree_of self.now)) (λ n. n <ℤ pos (2 ^ 63)) }
         ensures value { IfSome result (λ n. integer_in (tree_of self.now) ≡ Some n) }
     {
         let Value::Integer(number) = self else {
@@ -116,7 +120,8 @@ impl Value {
 
     /// Returns the number if the value is an integer that isn't negative, and otherwise `None`.
     pub fn as_unsigned_integer(&self) -> Option<u64>
-        ensures fits { IsSome result ↔ IsSomeAnd (integer_in (tree_of self.now)) IsNatural }
+        ensures fits { IsSome result
+            ↔ IsSomeAnd (integer_in (tree_of self.now)) (λ n. pos 0 ≤ℤ n) }
         ensures value { IfSome result (λ n. integer_in (tree_of self.now) ≡ Some (pos n)) }
     {
         let Value::Integer(number) = self else {

@@ -1,7 +1,8 @@
 use Rattle.plist_base.specs.Allowances.{iterator_of}
 use Rattle.plist_base.specs.Limits.{items_admitted, limited_items}
 use Rattle.std.proofs.Common.{ap, ◌∙◌, option_map}
-use Rattle.plist_reader.specs.Reader.{Gives, items_of_input, limited_input, reader_items}
+use Rattle.plist_reader.specs.Reader.{Gives, items_of_input}
+use Rattle.plist_reader.proofs.ReaderItems.{reader_items}
 use Rattle.plist.specs.Collecting.{built_tree}
 use Rattle.plist.proofs.ReadFaults.{limited-tells}
 use Rattle.plist.proofs.RemainingItems.{joined, of-items}
@@ -11,7 +12,7 @@ use Rattle.plist.proofs.value.Value.from_reader_with_limits.Goals as goal
 pub returns-clause-value : goal.returns-clause-value
 returns-clause-value g c =
     let known = g.R.Source.known in
-    of-items (limited_input c.args.limits) _ _ (built_tree c.collect.result)
+    of-items (λ b. limited_items c.args.limits (items_of_input b)) _ _ (built_tree c.collect.result)
     ((λ j. option_map (c.new.ensures.items j)
     ((ap (reader_items known) c.new.ensures.inner ∙ c.new-reader.ensures.items) j))
     ∙ joined (limited_items c.args.limits) items_of_input _)

@@ -2,7 +2,8 @@ use Rattle.plist_base.specs.Allowances.{iterator_of}
 use Rattle.plist_base.specs.Budgets.{items_within_budget, within_bytes}
 use Rattle.plist_base.specs.Limits.{GivesLimited, items_admitted, limited_items}
 use Rattle.std.proofs.Common.{ap, ◌∙◌, option_map}
-use Rattle.plist_reader.specs.Reader.{Gives, items_of_input, limited_input, reader_items}
+use Rattle.plist_reader.specs.Reader.{Gives, items_of_input}
+use Rattle.plist_reader.proofs.ReaderItems.{reader_items}
 use Rattle.plist.specs.Collecting.{built_tree}
 use Rattle.plist.specs.FromReader.{LimitedReader, budgeted_input}
 use Rattle.plist.proofs.ReadFaults.{budgeted-tells}
@@ -22,7 +23,7 @@ returns-clause-value g c =
     ((λ j. option_map (c.new-limited.ensures.items j)
     ((ap (reader_items known) c.new-limited.ensures.inner ∙ c.new-reader.ensures.items) j))
     ∙ joined (limited_items c.args.limits) items_of_input _)
-    ∙ joined (within_bytes c.args.bytes) (limited_input c.args.limits) _)
+    ∙ joined (within_bytes c.args.bytes) (λ b. limited_items c.args.limits (items_of_input b)) _)
     (c.collect.ensures.shown (λ l. option_map (items_within_budget l)
     (option_map (items_admitted (iterator_of l)) (reader_items known (iterator_of (iterator_of l)))))
     (budget-shows (GivesLimited gives)
