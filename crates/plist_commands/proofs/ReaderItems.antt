@@ -10,8 +10,7 @@ use Rattle.plist_base.specs.Faults.{Fault, OutOfMemory, error_kind_of, kind_of}
 use Rattle.plist_base.specs.Sources.{ItemCountsIo}
 use Rattle.plist_base.specs.Visits.{YieldsPlain, PlainItem, plain_item}
 use Rattle.plist_base.proofs.Refusals.{MatchFault-at}
-use Rattle.plist_reader.specs.Reader.{Gives, HoldsSource, source_in}
-use Rattle.plist_reader.proofs.ReaderItems.{reader_items}
+use Rattle.plist_reader.specs.Reader.{Gives, HoldsSource, reader_items, source_in}
 use Rattle.plist_reader.specs.declared.reader.Reader.{Reader}
 use Rattle.plist.specs.Events.{GivesEvent, remaining_events}
 use Rattle.plist.specs.declared.stream.events.Events.{Events}

@@ -14,7 +14,7 @@ use Rattle.plist_base.specs.Writing.{Answer}
 use Rattle.plist_decode.specs.FaultOffsets.{HasOffset}
 use Rattle.plist_binread.specs.BinaryReader.{Steps, is_new, binary_source}
 use Rattle.plist_reader.specs.declared.reader.Reader.{Reader}
-use Rattle.plist_reader.specs.Reader.{source_in, Gives, BinaryReaderOf, IsNewReader, items_of_input}
+use Rattle.plist_reader.specs.Reader.{reader_source, Gives, BinaryReaderOf, IsNewReader, items_of_input}
 use Rattle.plist_print.specs.Printing.{CountsReads, CountsReadsOf}
 use Rattle.plist.specs.ValueOfItems.{AreItemsOfTree, IsReadIfKnown}
 use Rattle.plist.specs.LastWins.{last_wins}
@@ -85,7 +85,7 @@ module _ {I : Type 0} (gives : I → PlainItem → I → Type 0) where
 
 -- the number of failed calls of a reader's source, or 0 if it has none
 abbrev pub failures_in : {S : Type 0} {g : Ghosts S} → (failures : S → ℕ) → Reader S g → ℕ
-failures_in failures reader = option_map_or failures (source_in reader.state) 0
+failures_in failures reader = option_map_or failures (reader_source reader) 0
 
 module _ {S : Type 0} (known : S → Option (List ℕ)) (failed : S → ℕ) where
   -- the events of a new reader of this binary source were buffered, and its failed reads were

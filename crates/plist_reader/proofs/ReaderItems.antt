@@ -17,7 +17,6 @@ use Rattle.plist_decode.specs.FaultOffsets.{HasOffset, MatchGiven}
 use Rattle.plist_ascii.specs.Ascii.{IsFaultOfBytes}
 use Rattle.plist_ascii.specs.declared.dialect.Dialect.{Dialect}
 use Rattle.plist_binread.specs.Remaining.{SomeRemain}
-use Rattle.plist_reader.specs.declared.reader.Reader.{Reader}
 use Rattle.plist_reader.specs.declared.reader.State.{State}
 use Rattle.plist_reader.specs.declared.reader.State.TheVariants as state
 use Rattle.plist_reader.specs.Reader.{BeginsInside, state_items, is_limited_in, items_in_format, items_of_dialect, items_within, IsReaderFault, StateGives, HoldsSource, source_in}
@@ -34,11 +33,6 @@ one-remain x xs = omega arith
 -- the items of an input in this dialect under optional limits
 abbrev pub input_within : Dialect → Option Limits → List ℕ → List Item
 input_within dialect limits bytes = items_within limits (items_of_dialect dialect bytes)
-
--- the items that a reader hasn't yielded yet, if the source's bytes are known
-abbrev pub reader_items : {R : Type 0} {g : Ghosts R} → (known : R → Option (List ℕ)) → Reader R g
-    → Option (List Item)
-reader_items known reader = state_items known reader.state
 
 -- if the remaining items are known, no item remains after `None`, `Io` and `OutOfMemory`, and
 -- `OutOfMemory` is yielded only if an item remained

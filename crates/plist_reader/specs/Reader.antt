@@ -126,6 +126,19 @@ is_limited_in (state.Binary reader) = binary.has_limits reader
 is_limited_in (state.Limited reader) = true
 is_limited_in other = false
 
+module _ {R : Type 0} {g : Ghosts R} where
+  -- the remaining items of a reader, if the source's bytes are known
+  abbrev pub reader_items : (known : R → Option (List ℕ)) → Reader R g → Option (List Item)
+  reader_items known reader = state_items known reader.state
+
+  -- the source of a reader, or `None` while the first item is read
+  abbrev pub reader_source : Reader R g → Option R
+  reader_source reader = source_in reader.state
+
+  -- whether a reader has limits
+  abbrev pub reader_is_limited : Reader R g → Bool
+  reader_is_limited reader = is_limited_in reader.state
+
 -- One of the readers can yield this fault. It has an offset, except for `OutOfMemory`, and for the
 -- fault of a limit, which is possible only under limits.
 abbrev pub IsReaderFault : (limited : Bool) → Fault → Type 0

@@ -138,15 +138,15 @@ impl<R: Source> Reader<R> {
     ghost use Rattle.std.specs.Prelude.{◌≡◌, Option, true, false};
     ghost use Rattle.std.specs.Option.{option_map};
     ghost use Rattle.plist_base.specs.Limits.{limited_items};
-    ghost use Rattle.plist_reader.specs.Reader.{Gives, IsNewReader, IsUnread, is_limited_in, items_of_dialect, items_of_input, source_in, state_items};
+    ghost use Rattle.plist_reader.specs.Reader.{Gives, IsNewReader, IsUnread, items_of_dialect, items_of_input, reader_is_limited, reader_items, reader_source, steps_in_state};
 
     /// Creates a reader over a source. Nothing is read before the first item is requested. ASCII is
     /// read in the lax dialect, in which an LF doesn't end a bare string.
     pub fn new(alloc: Global, source: R) -> Self
-        ensures items { state_items R.known result.state
+        ensures items { reader_items R.known result
             ≡ option_map items_of_input (R.known source) }
-        ensures source { source_in result.state ≡ Some source }
-        ensures limited { is_limited_in result.state ≡ false }
+        ensures source { reader_source result ≡ Some source }
+        ensures limited { reader_is_limited result ≡ false }
         ensures new { IsNewReader result source }
     {
         Reader::with_dialect(alloc, source, Dialect::Lax)
@@ -155,10 +155,10 @@ impl<R: Source> Reader<R> {
     /// Creates a reader that reads ASCII in this dialect, and a binary source as [`Reader::new`]
     /// does.
     pub fn with_dialect(alloc: Global, source: R, dialect: Dialect) -> Self
-        ensures items { state_items R.known result.state
+        ensures items { reader_items R.known result
             ≡ option_map (items_of_dialect dialect) (R.known source) }
-        ensures source { source_in result.state ≡ Some source }
-        ensures limited { is_limited_in result.state ≡ false }
+        ensures source { reader_source result ≡ Some source }
+        ensures limited { reader_is_limited result ≡ false }
         ensures new { IsUnread result source None dialect }
     {
         Reader {
@@ -171,10 +171,10 @@ impl<R: Source> Reader<R> {
     /// else that of the depth, is replaced by `LimitReached`, without an offset. Under limits a
     /// reader has ended after its first error of any kind.
     pub fn with_limits(alloc: Global, source: R, limits: Limits) -> Self
-        ensures items { state_items R.known result.state
+        ensures items { reader_items R.known result
             ≡ option_map (λ bytes. limited_items limits (items_of_input bytes)) (R.known source) }
-        ensures source { source_in result.state ≡ Some source }
-        ensures limited { is_limited_in result.state ≡ true }
+        ensures source { reader_source result ≡ Some source }
+        ensures limited { reader_is_limited result ≡ true }
         ensures new { IsUnread result source (Some limits) Dialect.Lax }
     {
         Reader {

@@ -1,7 +1,6 @@
 use Rattle.std.proofs.Common.{ap, false, inl, refl, subst}
 use Rattle.std.specs.Prelude.{is_some}
-use Rattle.plist_reader.specs.Reader.{Gives}
-use Rattle.plist_reader.proofs.ReaderItems.{reader_items}
+use Rattle.plist_reader.specs.Reader.{Gives, reader_items}
 use Rattle.plist_commands.specs.Converting.{CollectsItems, failures_in}
 use Rattle.plist_commands.specs.CollectorSteps.{collected}
 use Rattle.plist_base.specs.Visits.{YieldsPlain}

@@ -1,7 +1,7 @@
 use Rattle.std.proofs.lemmas.Result.{err_from_is_err_and}
 use Rattle.std.proofs.Common.{ℕ, List, None, Option, Some, IfSome}
 use Rattle.std.specs.Prelude.{⊤}
-use Rattle.plist_reader.proofs.ReaderItems.{reader_items}
+use Rattle.plist_reader.specs.Reader.{reader_items}
 use Rattle.plist_uses.proofs.Tallies.{begun, counted, all-counted, stopped}
 use Rattle.plist_uses.proofs.counting.count.Goals as goal
 

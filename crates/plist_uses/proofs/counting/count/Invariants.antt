@@ -1,4 +1,4 @@
-use Rattle.plist_reader.proofs.ReaderItems.{reader_items}
+use Rattle.plist_reader.specs.Reader.{reader_items}
 use Rattle.plist_uses.proofs.Tallies.{CountedSoFar}
 use Rattle.plist_uses.proofs.counting.count.Given as goal
 

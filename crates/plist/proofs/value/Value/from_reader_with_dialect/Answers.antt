@@ -1,6 +1,5 @@
 use Rattle.plist_base.specs.Events.{event_of}
-use Rattle.plist_reader.specs.Reader.{Gives, items_of_dialect}
-use Rattle.plist_reader.proofs.ReaderItems.{reader_items}
+use Rattle.plist_reader.specs.Reader.{Gives, items_of_dialect, reader_items}
 use Rattle.plist.specs.Collecting.{built_tree}
 use Rattle.plist.proofs.BuiltVisits.{collects_items}
 use Rattle.plist.proofs.PredictedItems.{as-seen}

@@ -1,8 +1,7 @@
 use Rattle.plist_base.specs.Allowances.{iterator_of}
 use Rattle.plist_base.specs.Limits.{items_admitted, limited_items}
 use Rattle.std.proofs.Common.{ap, ◌∙◌, option_map}
-use Rattle.plist_reader.specs.Reader.{Gives, items_of_input}
-use Rattle.plist_reader.proofs.ReaderItems.{reader_items}
+use Rattle.plist_reader.specs.Reader.{Gives, items_of_input, reader_items}
 use Rattle.plist.specs.Collecting.{built_tree}
 use Rattle.plist.proofs.ReadFaults.{limited-tells}
 use Rattle.plist.proofs.RemainingItems.{joined, of-items}

@@ -2,8 +2,7 @@ use Rattle.plist_base.specs.Allowances.{iterator_of}
 use Rattle.plist_base.specs.Budgets.{items_within_budget, within_bytes}
 use Rattle.plist_base.specs.Limits.{GivesLimited, items_admitted, limited_items}
 use Rattle.std.proofs.Common.{ap, ◌∙◌, option_map}
-use Rattle.plist_reader.specs.Reader.{Gives, items_of_input}
-use Rattle.plist_reader.proofs.ReaderItems.{reader_items}
+use Rattle.plist_reader.specs.Reader.{Gives, items_of_input, reader_items}
 use Rattle.plist.specs.Collecting.{built_tree}
 use Rattle.plist.specs.FromReader.{LimitedReader, budgeted_input}
 use Rattle.plist.proofs.ReadFaults.{budgeted-tells}
