@@ -63,7 +63,9 @@ fn words_visited(alloc: Global, bytes: &[u8], tally: &mut Tally) -> Result<Strin
         alloc,
         words: String::new(alloc),
     };
-    if let Err(error) = reader.visit(&mut visitor) {
+    let visited = reader.visit(&mut visitor);
+    drop(reader);
+    if let Err(error) = visited {
         let word = error.to_string(alloc)?;
         add_word(&mut visitor.words, word.as_str())?;
     }

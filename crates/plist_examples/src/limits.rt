@@ -10,7 +10,8 @@ use std::alloc::Global;
 // Checks that these bytes have this many items.
 fn expect_count(alloc: Global, limits: Limits, bytes: &[u8], count: &str) -> Result<(), Wrong> {
     let mut found: u64 = 0;
-    for _ in BinaryReader::with_limits(alloc, bytes, limits) {
+    for item in BinaryReader::with_limits(alloc, bytes, limits) {
+        drop(item);
         found = found.saturating_add(1);
     }
     let found = format!(in alloc; "{found}")?;

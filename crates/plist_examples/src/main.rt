@@ -14,7 +14,7 @@ mod words;
 mod writes;
 mod writing;
 
-use crate::rows::{Row, row_of, unreadable};
+use crate::rows::{Row, row_of};
 use plist_support::Wrong;
 use std::alloc::AllocError;
 use std::rt::Files;
@@ -26,13 +26,10 @@ const TABLES: [&str; 14] = [
     "writing", "sharing", "values", "archives", "porting",
 ];
 
-// Runs an example of a table.
+// Runs an example of a table. The tables that aren't named here contain examples of what is read.
 fn run<R: Files + AllocGlobal>(rt: &R, table: &str, row: Row<'_>) -> Result<(), Wrong> {
     let alloc = rt.alloc();
     match table {
-        "reading" | "hostile" | "bits" | "ascii" | "dialects" | "whole" => {
-            reading::run(alloc, row)
-        }
         "limits" => limits::run(alloc, row),
         "decoded" => decoded::run(alloc, row),
         "scalars" => scalars::run(alloc, row),
@@ -40,7 +37,7 @@ fn run<R: Files + AllocGlobal>(rt: &R, table: &str, row: Row<'_>) -> Result<(), 
         "values" => values::run(alloc, row),
         "archives" => archives::run(alloc, row),
         "porting" => porting::run(rt, alloc, row),
-        _ => unreadable(alloc, table),
+        _ => reading::run(alloc, row),
     }
 }
 
@@ -57,13 +54,23 @@ fn line_of<R: Files + AllocGlobal>(
     }
 }
 
+// Runs the example of a line, and returns what is printed for it.
+fn answer_to<R: Files + AllocGlobal>(
+    rt: &R,
+    table: &str,
+    line: &str,
+) -> Result<String, AllocError> {
+    match row_of(line) {
+        Some(row) => line_of(rt, table, row),
+        None => format!(in rt.alloc(); "no example: {line}"),
+    }
+}
+
 // Runs a table. Empty lines, and lines that begin with `#`, aren't examples.
 fn run_table(rt: &(impl Files + Print + AllocGlobal), table: &str, text: &str) -> io::Result<()> {
     for line in text.lines() {
-        match row_of(line) {
-            Some(row) => println!(rt; "{}", line_of(rt, table, row)?)?,
-            None if line.is_empty() || line.starts_with('#') => {}
-            None => println!(rt; "no example: {line}")?,
+        if !line.is_empty() && !line.starts_with('#') {
+            println!(rt; "{}", answer_to(rt, table, line)?)?;
         }
     }
     Ok(())

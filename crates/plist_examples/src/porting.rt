@@ -11,14 +11,14 @@ use std::rt::Files;
 fn words_in_file<R: Files>(rt: &R, alloc: Global, given: &str) -> Result<String, Wrong> {
     let (limits, path) = limits_given(alloc, given)?;
     let answer = Value::from_file_with_limits(rt, alloc, path, limits);
-    Ok(words_of_answer(alloc, &answer)?)
+    Ok(words_of_answer(alloc, answer)?)
 }
 
 // Takes the string out of a value that is one.
 fn text_in(alloc: Global, words: &str) -> Result<String, Wrong> {
     match value_of(alloc, words)? {
         Value::String(text) => Ok(text),
-        other => Ok(words_of_answer(alloc, &Ok(other))?),
+        other => Ok(words_of_answer(alloc, Ok(other))?),
     }
 }
 

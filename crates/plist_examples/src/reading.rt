@@ -53,8 +53,11 @@ fn expect_front(alloc: Global, bytes: &[u8], items: &str) -> Result<(), Wrong> {
 // Checks that after the first item of a text the inner reader has this rest.
 fn expect_rest(alloc: Global, bytes: &[u8], rest: &str) -> Result<(), Wrong> {
     let mut reader = AsciiReader::new(alloc, bytes);
-    let has_first = reader.next().is_some();
-    expect_bytes(alloc, reader.into_inner(), rest.as_bytes())?;
+    let first = reader.next();
+    let found = reader.into_inner();
+    let has_first = first.is_some();
+    drop(first);
+    expect_bytes(alloc, found, rest.as_bytes())?;
     expect_that(alloc, has_first, "an item was yielded")
 }
 

@@ -2,18 +2,17 @@
 
 use crate::rows::{Row, bytes_given, first_number, limits_given, unreadable};
 use crate::words::{value_of, words_of_answer};
-use crate::writes::expect_done;
 use plist::{Builder, Dialect, Value};
 use plist_base::{Error, ErrorKind, Event};
 use plist_support::{
-    Device, Wrong, add_words, event_of, expect_answers, expect_bytes, expect_io, expect_same,
-    expect_that, fail,
+    Device, Wrong, add_words, event_of, expect_answers, expect_bytes, expect_io, expect_ok,
+    expect_same, expect_that,
 };
 use std::alloc::{AllocError, Global};
 use std::io;
 
 // Checks the events of a result's value, or its error.
-fn expect(alloc: Global, answer: &Result<Value, Error>, wanted: &str) -> Result<(), Wrong> {
+fn expect(alloc: Global, answer: Result<Value, Error>, wanted: &str) -> Result<(), Wrong> {
     expect_same(alloc, words_of_answer(alloc, answer)?.as_str(), wanted)
 }
 
@@ -27,8 +26,8 @@ fn expect_answer(
     call: u64,
 ) -> Result<bool, Wrong> {
     if device.failures == 0 {
+        expect(alloc, answer, wanted)?;
         expect_that(alloc, device.calls <= call, "the call is made")?;
-        expect(alloc, &answer, wanted)?;
         return Ok(false);
     }
     expect_io(answer, io::ErrorKind::Interrupted, Some(device.place))?;
@@ -46,7 +45,7 @@ fn expect_on_device(alloc: Global, bytes: &[u8], wanted: &str, call: u64) -> Res
 
 // Checks the value of these bytes, or the error, in memory and over devices.
 fn expect_read(alloc: Global, bytes: &[u8], wanted: &str) -> Result<(), Wrong> {
-    expect(alloc, &Value::from_reader(alloc, bytes), wanted)?;
+    expect(alloc, Value::from_reader(alloc, bytes), wanted)?;
     for call in 0..1000 {
         if !expect_on_device(alloc, bytes, wanted, call)? {
             return Ok(());
@@ -57,7 +56,7 @@ fn expect_read(alloc: Global, bytes: &[u8], wanted: &str) -> Result<(), Wrong> {
 
 // Checks the value of a text, or the error.
 fn expect_ascii(alloc: Global, bytes: &[u8], wanted: &str) -> Result<(), Wrong> {
-    expect(alloc, &Value::from_reader_ascii(alloc, bytes), wanted)
+    expect(alloc, Value::from_reader_ascii(alloc, bytes), wanted)
 }
 
 // Checks the value of a text in a dialect, or the error.
@@ -68,20 +67,23 @@ fn expect_dialect(
     wanted: &str,
 ) -> Result<(), Wrong> {
     let answer = Value::from_reader_ascii_with_dialect(alloc, bytes, dialect);
-    expect(alloc, &answer, wanted)
+    expect(alloc, answer, wanted)
+}
+
+// Checks that a value is written as this file.
+pub(crate) fn expect_written(alloc: Global, value: Value, bytes: &[u8]) -> Result<(), Wrong> {
+    let mut found = Vec::new(alloc);
+    let answer = value.to_writer_binary(alloc, &mut found);
+    drop(value);
+    expect_ok(alloc, answer)?;
+    expect_bytes(alloc, found.as_slice(), bytes)
 }
 
 // Checks that the value of these bytes is written as this file.
 fn expect_converted(alloc: Global, bytes: &[u8], wanted: &str) -> Result<(), Wrong> {
     let file = bytes_given(alloc, wanted)?;
-    match Value::from_reader(alloc, bytes) {
-        Ok(value) => {
-            let mut found = Vec::new(alloc);
-            expect_done(alloc, value.to_writer_binary(alloc, &mut found))?;
-            expect_bytes(alloc, found.as_slice(), file.as_slice())
-        }
-        Err(error) => fail(error.to_string(alloc)),
-    }
+    let value = expect_ok(alloc, Value::from_reader(alloc, bytes))?;
+    expect_written(alloc, value, file.as_slice())
 }
 
 // Checks the value under limits. The input consists of the limits and the bytes.
@@ -89,7 +91,7 @@ fn expect_limited(alloc: Global, row: Row<'_>) -> Result<(), Wrong> {
     let (limits, rest) = limits_given(alloc, row.given)?;
     let bytes = bytes_given(alloc, rest)?;
     let answer = Value::from_reader_with_limits(alloc, bytes.as_slice(), limits);
-    expect(alloc, &answer, row.wanted)
+    expect(alloc, answer, row.wanted)
 }
 
 // Checks the value within a budget of bytes, which precedes the file in the input.
@@ -98,14 +100,23 @@ fn expect_within(alloc: Global, row: Row<'_>) -> Result<(), Wrong> {
     let (most, rest) = first_number(alloc, rest)?;
     let bytes = bytes_given(alloc, rest)?;
     let answer = Value::from_reader_within(alloc, bytes.as_slice(), limits, most);
-    expect(alloc, &answer, row.wanted)
+    expect(alloc, answer, row.wanted)
+}
+
+// Returns whether a value equals that of these words.
+fn is_value_of(alloc: Global, first: &Value, words: &str) -> Result<bool, Wrong> {
+    let second = value_of(alloc, words)?;
+    let is_equal = *first == second;
+    drop(second);
+    Ok(is_equal)
 }
 
 // Checks whether two values are equal.
 fn expect_equal(alloc: Global, row: Row<'_>, equal: bool) -> Result<(), Wrong> {
     let first = value_of(alloc, row.given)?;
-    let second = value_of(alloc, row.wanted)?;
-    expect_that(alloc, (first == second) == equal, row.check)
+    let found = is_value_of(alloc, &first, row.wanted);
+    drop(first);
+    expect_that(alloc, found? == equal, row.check)
 }
 
 // Returns for each accessor whether it returns something, and the word that names it in a row.
@@ -137,7 +148,9 @@ fn kind_words(alloc: Global, value: &Value) -> Result<String, AllocError> {
 // Checks that only the accessors of a value's own kind return something.
 fn expect_kinds(alloc: Global, words: &str, wanted: &str) -> Result<(), Wrong> {
     let value = value_of(alloc, words)?;
-    expect_same(alloc, kind_words(alloc, &value)?.as_str(), wanted)
+    let found = kind_words(alloc, &value);
+    drop(value);
+    expect_same(alloc, found?.as_str(), wanted)
 }
 
 // Returns the item of a word. `!` is an item that is an error.
@@ -148,16 +161,28 @@ fn item_of<'a>(alloc: Global, word: &'a str) -> Result<Result<Event<'a>, Error>,
     }
 }
 
-// Checks what the items of these words are collected to.
-fn expect_collected(alloc: Global, words: &str, wanted: &str) -> Result<(), Wrong> {
-    let mut items = Vec::new(alloc);
+// Appends the items of these words.
+fn add_items<'a>(
+    alloc: Global,
+    items: &mut Vec<Result<Event<'a>, Error>>,
+    words: &'a str,
+) -> Result<(), Wrong> {
     for word in words.split(' ') {
         let item = item_of(alloc, word)?;
         if items.push(item).is_err() {
             return Err(Wrong::OutOfMemory);
         }
     }
-    expect(alloc, &Value::from_events(alloc, items), wanted)
+    Ok(())
+}
+
+// Checks what the items of these words are collected to.
+fn expect_collected(alloc: Global, words: &str, wanted: &str) -> Result<(), Wrong> {
+    let mut items = Vec::new(alloc);
+    let added = add_items(alloc, &mut items, words);
+    let found = words_of_answer(alloc, Value::from_events(alloc, items));
+    added?;
+    expect_same(alloc, found?.as_str(), wanted)
 }
 
 // Checks what a builder returns for the events of these words, and then the value that it built.
@@ -166,8 +191,11 @@ fn expect_built(alloc: Global, words: &str, wanted: &str) -> Result<(), Wrong> {
         return unreadable(alloc, wanted);
     };
     let mut builder = Builder::new(alloc);
-    expect_answers(alloc, &mut builder, words, answers)?;
-    expect(alloc, &builder.finish(), value)
+    let answered = expect_answers(alloc, &mut builder, words, answers);
+    let found = words_of_answer(alloc, builder.finish());
+    drop(builder);
+    answered?;
+    expect_same(alloc, found?.as_str(), value)
 }
 
 // Runs a check of what is read from bytes.

@@ -6,7 +6,7 @@ use plist_base::{Error, Writer};
 use plist_binwrite::{FileWriter, Sharing};
 use plist_support::{
     Device, DeviceFault, Wrong, event_of, expect_answers, expect_bytes, expect_failure, expect_io,
-    expect_that, fail, front, write_all,
+    expect_ok, expect_that, front, write_all,
 };
 use std::alloc::Global;
 use std::io::ErrorKind;
@@ -39,7 +39,20 @@ const LATER: &str = "[ { end true <00> date:0 1 real:00000000 'a' uid:1";
 const ALL_REFUSED: &str = "WriterFailed; WriterFailed; WriterFailed; WriterFailed; WriterFailed; \
                            WriterFailed; WriterFailed; WriterFailed; WriterFailed; WriterFailed";
 
-// Returns the result of a writer for the last of these events. The others must be accepted.
+// Checks that after an error each event returns `WriterFailed`.
+fn expect_ended<W: Writer>(
+    alloc: Global,
+    writer: &mut W,
+    answer: Result<(), Error>,
+) -> Result<Result<(), Error>, Wrong> {
+    if answer.is_err() {
+        expect_answers(alloc, writer, LATER, ALL_REFUSED)?;
+    }
+    Ok(answer)
+}
+
+// Returns the result of a writer for the last of these events. The others must be accepted. After
+// an error each event must return `WriterFailed`.
 fn last_answer<W: Writer>(
     alloc: Global,
     writer: &mut W,
@@ -53,19 +66,8 @@ fn last_answer<W: Writer>(
         }
     };
     let event = event_of(alloc, last)?;
-    Ok(writer.write(event))
-}
-
-// Checks that after an error each event returns `WriterFailed`.
-fn expect_ended<W: Writer>(
-    alloc: Global,
-    writer: &mut W,
-    answer: Result<(), Error>,
-) -> Result<Result<(), Error>, Wrong> {
-    if answer.is_err() {
-        expect_answers(alloc, writer, LATER, ALL_REFUSED)?;
-    }
-    Ok(answer)
+    let answer = writer.write(event);
+    expect_ended(alloc, writer, answer)
 }
 
 // Returns the result of a writer to a device for the last of these events.
@@ -75,8 +77,9 @@ fn answer_to_last<S: Sharing>(
     device: &mut Device,
 ) -> Result<Result<(), Error>, Wrong> {
     let mut writer = FileWriter::<&mut Device, S>::new(alloc, device);
-    let answer = last_answer(alloc, &mut writer, words)?;
-    expect_ended(alloc, &mut writer, answer)
+    let answer = last_answer(alloc, &mut writer, words);
+    drop(writer);
+    answer
 }
 
 // Returns the result of writing a value to a device.
@@ -87,7 +90,9 @@ fn answer_to_value<S: Sharing>(
 ) -> Result<Result<(), Error>, Wrong> {
     let mut writer = FileWriter::<&mut Device, S>::new(alloc, device);
     let answer = write_value(alloc, value, &mut writer);
-    expect_ended(alloc, &mut writer, answer)
+    let answer = expect_ended(alloc, &mut writer, answer);
+    drop(writer);
+    answer
 }
 
 // Returns the result of writing something to a device.
@@ -104,26 +109,17 @@ fn answer_by<S: Sharing>(
     }
 }
 
-// Checks that the result isn't an error.
-pub(crate) fn expect_done(alloc: Global, answer: Result<(), Error>) -> Result<(), Wrong> {
-    match answer {
-        Ok(()) => Ok(()),
-        Err(error) => fail(error.to_string(alloc)),
-    }
-}
-
 // Checks that no call of the device is made before the last event.
 fn expect_nothing_before_last<S: Sharing>(alloc: Global, words: &str) -> Result<(), Wrong> {
     let Some((before, _)) = words.rsplit_once(' ') else {
         return Ok(());
     };
     let mut device = Device::new(Vec::new(alloc), 0);
-    expect_done(alloc, answer_to_last::<S>(alloc, before, &mut device)?)?;
-    expect_that(
-        alloc,
-        device.calls == 0,
-        "nothing is sent before the last event",
-    )
+    let answer = answer_to_last::<S>(alloc, before, &mut device);
+    let calls = device.calls;
+    drop(device);
+    expect_ok(alloc, answer?)?;
+    expect_that(alloc, calls == 0, "nothing is sent before the last event")
 }
 
 // Checks that the result is the error of a device with this fault.
@@ -170,7 +166,7 @@ fn expect_answer(
     call: u64,
 ) -> Result<bool, Wrong> {
     if device.failures == 0 {
-        expect_done(alloc, answer)?;
+        expect_ok(alloc, answer)?;
         expect_whole(alloc, device, sending.bytes)?;
         return Ok(false);
     }

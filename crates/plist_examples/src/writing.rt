@@ -1,27 +1,41 @@
 //! What `BinaryWriter` and `SharingWriter` write, byte by byte, and what is read back.
 
 use crate::rows::{Row, bytes_given, first_number, first_word, unreadable};
-use crate::words::{value_of, words_of_answer};
-use crate::writes::{Sending, Way, expect_done, expect_file_on_devices};
+use crate::values::expect_written;
+use crate::words::{value_of, words_of_answer, words_of_value};
+use crate::writes::{Sending, Way, expect_file_on_devices};
 use plist::{Builder, Value, write_value};
+use plist_base::Error;
 use plist_binread::BinaryReader;
 use plist_binwrite::{BinaryWriter, EqualScalars, FileWriter, Sharing};
 use plist_share::{EqualTrees, SharingWriter};
 use plist_support::{
-    DeviceFault, Wrong, expect_answers, expect_bytes, expect_same, fail, words_of, write_all,
+    DeviceFault, Wrong, expect_answers, expect_bytes, expect_ok, expect_same, words_of, write_all,
 };
 use std::alloc::Global;
 use std::io::ErrorKind;
 
+// Checks that a writer wrote these bytes, after a check of what its calls returned.
+fn expect_taken<S: Sharing>(
+    alloc: Global,
+    writer: FileWriter<Vec<u8>, S>,
+    answered: Result<(), Wrong>,
+    bytes: &[u8],
+) -> Result<(), Wrong> {
+    let found = writer.into_inner();
+    answered?;
+    expect_bytes(alloc, found.as_slice(), bytes)
+}
+
 // Checks that a writer writes this file for these events.
-fn expect_written<S: Sharing>(
+fn expect_events_written<S: Sharing>(
     alloc: Global,
     mut writer: FileWriter<Vec<u8>, S>,
     words: &str,
     bytes: &[u8],
 ) -> Result<(), Wrong> {
-    write_all(alloc, &mut writer, words)?;
-    expect_bytes(alloc, writer.into_inner().as_slice(), bytes)
+    let written = write_all(alloc, &mut writer, words);
+    expect_taken(alloc, writer, written, bytes)
 }
 
 // Checks that a file has these events.
@@ -33,21 +47,14 @@ fn expect_read(alloc: Global, bytes: &[u8], words: &str) -> Result<(), Wrong> {
 // Checks that the value of a file has these events.
 fn expect_value_read(alloc: Global, bytes: &[u8], words: &str) -> Result<(), Wrong> {
     let read = Value::from_events(alloc, BinaryReader::new(alloc, bytes));
-    expect_same(alloc, words_of_answer(alloc, &read)?.as_str(), words)
-}
-
-// Checks that a value is written as this file.
-fn expect_value_written(alloc: Global, value: &Value, bytes: &[u8]) -> Result<(), Wrong> {
-    let mut found = Vec::new(alloc);
-    expect_done(alloc, value.to_writer_binary(alloc, &mut found))?;
-    expect_bytes(alloc, found.as_slice(), bytes)
+    expect_same(alloc, words_of_answer(alloc, read)?.as_str(), words)
 }
 
 // Checks that the events of these words are written as this file. The lengths of the starts may be
 // wrong.
 fn expect_hinted(alloc: Global, words: &str, bytes: &[u8]) -> Result<(), Wrong> {
     let writer = BinaryWriter::new(alloc, Vec::new(alloc));
-    expect_written(alloc, writer, words, bytes)
+    expect_events_written(alloc, writer, words, bytes)
 }
 
 // Checks that the events of these words are written as this file, and read back.
@@ -72,7 +79,9 @@ fn expect_sent<S: Sharing>(
         fault,
         ways,
     };
-    expect_file_on_devices::<S>(alloc, sending)
+    let sent = expect_file_on_devices::<S>(alloc, sending);
+    drop(value);
+    sent
 }
 
 const INTERRUPTED: DeviceFault = DeviceFault::Fails(ErrorKind::Interrupted);
@@ -94,49 +103,67 @@ fn expect_repeating(alloc: Global, words: &str, bytes: &[u8]) -> Result<(), Wron
 fn expect_file(alloc: Global, words: &str, bytes: &[u8]) -> Result<(), Wrong> {
     expect_events(alloc, words, bytes)?;
     expect_value_read(alloc, bytes, words)?;
-    expect_value_written(alloc, &value_of(alloc, words)?, bytes)?;
+    expect_written(alloc, value_of(alloc, words)?, bytes)?;
     expect_sent::<EqualScalars>(alloc, words, bytes, INTERRUPTED, &PLAIN)
 }
 
-// Checks that the sharing writer writes a value as this file.
-fn expect_value_shared(alloc: Global, value: &Value, bytes: &[u8]) -> Result<(), Wrong> {
+// Checks the events of a value.
+fn expect_value(alloc: Global, value: &Value, words: &str) -> Result<(), Wrong> {
+    expect_same(alloc, words_of_value(alloc, value)?.as_str(), words)
+}
+
+// Checks that a value has these events in order, and that the sharing writer writes it as this
+// file.
+fn expect_value_shared(
+    alloc: Global,
+    value: &Value,
+    words: &str,
+    bytes: &[u8],
+) -> Result<(), Wrong> {
+    expect_value(alloc, value, words)?;
     let mut writer = SharingWriter::new(alloc, Vec::new(alloc));
-    expect_done(alloc, write_value(alloc, value, &mut writer))?;
-    expect_bytes(alloc, writer.into_inner().as_slice(), bytes)
+    let written = expect_ok(alloc, write_value(alloc, value, &mut writer));
+    expect_taken(alloc, writer, written, bytes)
 }
 
 // Checks that the value of a file has these events in order, and that the sharing writer writes it
 // as the same file.
 fn expect_shared_again(alloc: Global, words: &str, bytes: &[u8]) -> Result<(), Wrong> {
-    let read = Value::from_reader(alloc, bytes);
-    expect_same(alloc, words_of_answer(alloc, &read)?.as_str(), words)?;
-    match read {
-        Ok(value) => expect_value_shared(alloc, &value, bytes),
-        Err(_) => unreadable(alloc, words),
-    }
+    let value = expect_ok(alloc, Value::from_reader(alloc, bytes))?;
+    let shared = expect_value_shared(alloc, &value, words, bytes);
+    drop(value);
+    shared
 }
 
 // Checks that the sharing writer writes the events of these words as this file, also to devices,
 // that they are read back, and that the file's value is written as the same file.
 fn expect_shared(alloc: Global, words: &str, bytes: &[u8]) -> Result<(), Wrong> {
     let writer = SharingWriter::new(alloc, Vec::new(alloc));
-    expect_written(alloc, writer, words, bytes)?;
+    expect_events_written(alloc, writer, words, bytes)?;
     expect_read(alloc, bytes, words)?;
     expect_shared_again(alloc, words, bytes)?;
     expect_sent::<EqualTrees>(alloc, words, bytes, INTERRUPTED, &SHARED)
 }
 
+// Returns the value that a builder makes of the events of a value.
+fn rebuilt(alloc: Global, builder: &mut Builder, value: Value) -> Result<Value, Error> {
+    let written = write_value(alloc, &value, builder);
+    drop(value);
+    written?;
+    builder.finish()
+}
+
 // Checks that a value of an ASCII property list can be rebuilt by a builder.
 fn expect_rebuilt(alloc: Global, row: Row<'_>) -> Result<(), Wrong> {
     let bytes = bytes_given(alloc, row.given)?;
-    let value = match Value::from_reader_ascii(alloc, bytes.as_slice()) {
-        Ok(value) => value,
-        Err(error) => return fail(error.to_string(alloc)),
-    };
+    let value = expect_ok(alloc, Value::from_reader_ascii(alloc, bytes.as_slice()))?;
     let mut builder = Builder::new(alloc);
-    expect_done(alloc, write_value(alloc, &value, &mut builder))?;
-    let again = builder.finish();
-    expect_same(alloc, words_of_answer(alloc, &again)?.as_str(), row.wanted)
+    let again = rebuilt(alloc, &mut builder, value);
+    drop(builder);
+    let again = expect_ok(alloc, again)?;
+    let has_words = expect_value(alloc, &again, row.wanted);
+    drop(again);
+    has_words
 }
 
 // Returns the fault of this name.
@@ -197,18 +224,14 @@ fn expect_repeated(alloc: Global, row: Row<'_>) -> Result<(), Wrong> {
 }
 
 // Checks what a writer returns for the events, and the bytes written by then.
-fn expect_answered<S: Sharing>(
-    alloc: Global,
-    mut writer: FileWriter<Vec<u8>, S>,
-    words: &str,
-    wanted: &str,
-) -> Result<(), Wrong> {
-    let Some((answers, given)) = wanted.split_once(" => ") else {
-        return unreadable(alloc, wanted);
+fn expect_answered<S: Sharing>(alloc: Global, row: Row<'_>) -> Result<(), Wrong> {
+    let Some((answers, given)) = row.wanted.split_once(" => ") else {
+        return unreadable(alloc, row.wanted);
     };
-    expect_answers(alloc, &mut writer, words, answers)?;
     let bytes = bytes_given(alloc, given)?;
-    expect_bytes(alloc, writer.into_inner().as_slice(), bytes.as_slice())
+    let mut writer = FileWriter::<Vec<u8>, S>::new(alloc, Vec::new(alloc));
+    let answered = expect_answers(alloc, &mut writer, row.given, answers);
+    expect_taken(alloc, writer, answered, bytes.as_slice())
 }
 
 // Runs a check of what is written for the events.
@@ -231,14 +254,8 @@ pub(crate) fn run(alloc: Global, row: Row<'_>) -> Result<(), Wrong> {
     match row.check {
         "repeated" => expect_repeated(alloc, row),
         "rebuilt" => expect_rebuilt(alloc, row),
-        "answered" => {
-            let writer = BinaryWriter::new(alloc, Vec::new(alloc));
-            expect_answered(alloc, writer, row.given, row.wanted)
-        }
-        "sharing answered" => {
-            let writer = SharingWriter::new(alloc, Vec::new(alloc));
-            expect_answered(alloc, writer, row.given, row.wanted)
-        }
+        "answered" => expect_answered::<EqualScalars>(alloc, row),
+        "sharing answered" => expect_answered::<EqualTrees>(alloc, row),
         _ => run_check(alloc, row),
     }
 }

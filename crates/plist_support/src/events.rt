@@ -1,7 +1,7 @@
 //! Parses events that are written as words, and checks what a writer returns for them.
 
 use crate::words::add_words;
-use crate::wrong::{Wrong, fail};
+use crate::wrong::{Wrong, expect_ok, fail};
 use hex::FromHex;
 use plist_base::{Date, Event, Integer, RealBits, Uid, Writer};
 use std::alloc::Global;
@@ -117,10 +117,22 @@ pub fn event_of<'a>(alloc: Global, word: &'a str) -> Result<Event<'a>, Wrong> {
 pub fn write_all<W: Writer>(alloc: Global, writer: &mut W, words: &str) -> Result<(), Wrong> {
     for word in words.split(' ') {
         let event = event_of(alloc, word)?;
-        match writer.write(event) {
-            Ok(()) => {}
-            Err(error) => return fail(error.to_string(alloc)),
-        }
+        expect_ok(alloc, writer.write(event))?;
+    }
+    Ok(())
+}
+
+// Appends what a writer returns for the event of a word: `ok` or the text of the error.
+fn add_answer<W: Writer>(
+    alloc: Global,
+    writer: &mut W,
+    word: &str,
+    all: &mut String,
+) -> Result<(), Wrong> {
+    let event = event_of(alloc, word)?;
+    match writer.write(event) {
+        Ok(()) => add_words(all, "; ", "ok")?,
+        Err(error) => add_words(all, "; ", error.to_string(alloc)?.as_str())?,
     }
     Ok(())
 }
@@ -135,11 +147,7 @@ pub fn expect_answers<W: Writer>(
 ) -> Result<(), Wrong> {
     let mut all = String::new(alloc);
     for word in words.split(' ') {
-        let event = event_of(alloc, word)?;
-        match writer.write(event) {
-            Ok(()) => add_words(&mut all, "; ", "ok")?,
-            Err(error) => add_words(&mut all, "; ", error.to_string(alloc)?.as_str())?,
-        }
+        add_answer(alloc, writer, word, &mut all)?;
     }
     if all.as_str() != answers {
         return fail(format!(in alloc; "for {words}: {all} instead of {answers}"));

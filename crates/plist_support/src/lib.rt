@@ -21,4 +21,4 @@ pub use events::{event_of, expect_answers, write_all};
 pub use files::{bytes_of, file, file_of, file_of_object, front};
 pub use reads::{By, expect_on_devices, expect_on_shrinking_devices, words_over};
 pub use words::{add_words, word_of, words_of, words_of_events};
-pub use wrong::{Wrong, expect_bytes, expect_same, expect_that, fail};
+pub use wrong::{Wrong, expect_bytes, expect_ok, expect_same, expect_that, fail};

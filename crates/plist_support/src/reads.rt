@@ -81,6 +81,19 @@ fn device_of(
 
 const INTERRUPTED: DeviceFault = DeviceFault::Fails(ErrorKind::Interrupted);
 
+// Calls a reader for up to this many items over a device that fails at this call. Returns the words
+// of the items, and the device.
+fn run_over(
+    alloc: Global,
+    reading: Reading<'_>,
+    most: usize,
+    fails_at: u64,
+) -> Result<(String, Device), AllocError> {
+    let mut device = device_of(alloc, reading.bytes, fails_at, INTERRUPTED)?;
+    let found = words_over(alloc, reading.by, &mut device, most)?;
+    Ok((found, device))
+}
+
 // Checks what is yielded if this call fails. The call is made for the item that follows the items
 // `before`. `Io`, with the offset of the read, replaces that item, and no item follows.
 fn expect_failure(
@@ -90,11 +103,9 @@ fn expect_failure(
     most: usize,
     call: u64,
 ) -> Result<(), Wrong> {
-    let mut device = device_of(alloc, reading.bytes, call, INTERRUPTED)?;
-    let found = words_over(alloc, reading.by, &mut device, most)?;
+    let (found, device) = run_over(alloc, reading, most, call)?;
     expect_cut(alloc, &device, found.as_str(), before)?;
-    let mut device = device_of(alloc, reading.bytes, call, INTERRUPTED)?;
-    let all = words_over(alloc, reading.by, &mut device, usize::MAX)?;
+    let (all, device) = run_over(alloc, reading, usize::MAX, call)?;
     if all.as_str() != found.as_str() || device.calls != call.saturating_add(1) {
         let calls = device.calls;
         return fail(format!(in alloc; "call {call} of {calls}: {found}, and then {all}"));
@@ -104,9 +115,12 @@ fn expect_failure(
 
 // Calls a reader for up to this many items, and returns their words and how many calls of the
 // device were made.
-fn run_over(alloc: Global, reading: Reading<'_>, most: usize) -> Result<(String, u64), Wrong> {
-    let mut device = device_of(alloc, reading.bytes, u64::MAX, INTERRUPTED)?;
-    let found = words_over(alloc, reading.by, &mut device, most)?;
+fn calls_over(
+    alloc: Global,
+    reading: Reading<'_>,
+    most: usize,
+) -> Result<(String, u64), AllocError> {
+    let (found, device) = run_over(alloc, reading, most, u64::MAX)?;
     Ok((found, device.calls))
 }
 
@@ -114,9 +128,9 @@ fn run_over(alloc: Global, reading: Reading<'_>, most: usize) -> Result<(String,
 /// failure of a call replaces the item for which the call was made.
 pub fn expect_on_devices(alloc: Global, by: By, bytes: &[u8], items: &str) -> Result<(), Wrong> {
     let reading = Reading { by, bytes };
-    let (mut before, mut made) = run_over(alloc, reading, 0)?;
+    let (mut before, mut made) = calls_over(alloc, reading, 0)?;
     for most in 1..MAX_ITEMS {
-        let (found, calls) = run_over(alloc, reading, most)?;
+        let (found, calls) = calls_over(alloc, reading, most)?;
         for call in made..calls {
             expect_failure(alloc, reading, before.as_str(), most, call)?;
         }

@@ -1,5 +1,6 @@
 //! The error of an example that doesn't find what it expects.
 
+use plist_base::Error;
 use std::alloc::{AllocError, Global};
 use std::io::ErrorKind;
 
@@ -27,6 +28,14 @@ impl From<AllocError> for Wrong {
 /// Fails with these words, or with `OutOfMemory` if they couldn't be allocated.
 pub fn fail<T>(text: Result<String, AllocError>) -> Result<T, Wrong> {
     Err(Wrong::Words(text?))
+}
+
+/// Returns the value of a result that must not be an error.
+pub fn expect_ok<T>(alloc: Global, answer: Result<T, Error>) -> Result<T, Wrong> {
+    match answer {
+        Ok(value) => Ok(value),
+        Err(error) => fail(error.to_string(alloc)),
+    }
 }
 
 /// Checks that both strings are equal.
