@@ -1,13 +1,33 @@
 //! Archives whose trees take too much time if a Uid is followed too often.
 
-use crate::support::{must, same, value_of};
+use crate::support::{add_numbered, add_times, must, same, value_of};
 use plist::{Uid, Value};
 use plist_keyed::{Archive, KeyedError};
 use std::process::Abort;
 
-// Returns the tree of a Uid of an archive.
-fn tree_of(rt: &(impl Abort + AllocGlobal), root: &Value, uid: u64) -> Result<Value, KeyedError> {
-    must(rt, Archive::open(root)).tree(rt.alloc(), Uid::new(uid))
+// Returns the tree of a Uid of the archive with the events of these words.
+fn tree_of(rt: &(impl Abort + AllocGlobal), words: &str, uid: u64) -> Result<Value, KeyedError> {
+    let root = value_of(rt, words);
+    let tree = must(rt, Archive::open(&root)).tree(rt.alloc(), Uid::new(uid));
+    drop(root);
+    tree
+}
+
+// Returns the length of an array, or `None` for any other value.
+fn length_of(tree: Value) -> Option<usize> {
+    tree.as_array().map(|items| items.len())
+}
+
+// Returns the text of the error in place of a tree.
+fn error_of(rt: &(impl Abort + AllocGlobal), answer: Result<Value, KeyedError>) -> String {
+    let text = match answer {
+        Ok(tree) => {
+            drop(tree);
+            String::from_str(rt.alloc(), "a tree")
+        }
+        Err(error) => error.to_string(rt.alloc()),
+    };
+    must(rt, text)
 }
 
 // The first object is an array that refers 60,000 times to the first Uid of a chain. Each of the
@@ -17,18 +37,17 @@ fn tree_of(rt: &(impl Abort + AllocGlobal), root: &Value, uid: u64) -> Result<Va
 #[test]
 fn a_long_chain_visited_often(rt: HostRuntime) {
     let mut words = must(&rt, String::from_str(rt.alloc(), "{ '$objects' [ ["));
-    for _ in 0..60_000 {
-        must(&rt, words.push_str(" uid:1"));
-    }
+    add_times(&rt, &mut words, " uid:1", 60_000);
     must(&rt, words.push_str(" end"));
-    for uid in 2..60_002 {
-        let word = must(&rt, format!(in rt.alloc(); " uid:{uid}"));
-        must(&rt, words.push_str(word.as_str()));
-    }
+    add_numbered(&rt, &mut words, " uid:#", 2..60_002);
     must(&rt, words.push_str(" 'x' end '$top' { end end"));
-    let tree = must(&rt, tree_of(&rt, &value_of(&rt, words.as_str()), 0));
-    let length = tree.as_array().map(|items| items.len());
-    same(&rt, "the number of strings", &length, &Some(60_000));
+    let tree = must(&rt, tree_of(&rt, words.as_str(), 0));
+    same(
+        &rt,
+        "the number of strings",
+        &length_of(tree),
+        &Some(60_000),
+    );
 }
 
 // Each of 60 arrays refers twice to the next one, and the last one to a string. The array after
@@ -37,16 +56,9 @@ fn a_long_chain_visited_often(rt: HostRuntime) {
 #[test]
 fn a_fault_after_a_large_tree(rt: HostRuntime) {
     let mut words = must(&rt, String::from_str(rt.alloc(), "{ '$objects' ["));
-    for uid in 1..61 {
-        let array = must(&rt, format!(in rt.alloc(); " [ uid:{uid} uid:{uid} end"));
-        must(&rt, words.push_str(array.as_str()));
-    }
+    add_numbered(&rt, &mut words, " [ uid:# uid:# end", 1..61);
     let rest = " 'x' [ uid:0 uid:1000000 end end '$top' { end end";
     must(&rt, words.push_str(rest));
-    let text = match tree_of(&rt, &value_of(&rt, words.as_str()), 61) {
-        Ok(_) => String::from_str(rt.alloc(), "a tree"),
-        Err(error) => error.to_string(rt.alloc()),
-    };
-    let found = must(&rt, text);
+    let found = error_of(&rt, tree_of(&rt, words.as_str(), 61));
     same(&rt, "the error", &found.as_str(), &"UidOutOfRange(1000000)");
 }

@@ -59,7 +59,7 @@ fn expect_status(
         let mut err = failing(rt, 4, kind);
         let found = run(rt, line, &mut out, &mut err);
         same(rt, line, &(found, err.longest), &(status, said.len()));
-        expect_taken(rt, &err, front(said, 4), 5, 0);
+        expect_taken(rt, err, front(said, 4), 5, 0);
     }
 }
 

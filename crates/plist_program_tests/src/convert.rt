@@ -148,7 +148,7 @@ fn expect_way(rt: &(impl Abort + AllocGlobal), bytes: &[u8], wanted: Option<&[u8
     same(rt, "whether it is sent", &is_sent, &wanted.is_some());
     let file = wanted.unwrap_or(b"");
     let calls = file.len() as u64 + u64::from(is_sent);
-    expect_taken(rt, &writer, file, calls, file.len());
+    expect_taken(rt, writer, file, calls, file.len());
 }
 
 #[test]
@@ -170,12 +170,12 @@ fn stops_where_a_device_fails(rt: HostRuntime) {
     let mut writer = failing(&rt, 20, ErrorKind::PermissionDenied);
     let answer = convert_binary(rt.alloc(), CONVERTED, &mut writer);
     must(&rt, expect_io(answer, ErrorKind::PermissionDenied, None));
-    expect_taken(&rt, &writer, front(CONVERTED, 20), 21, 0);
+    expect_taken(&rt, writer, front(CONVERTED, 20), 21, 0);
     for call in 0..2 {
         let mut writer = sound(&rt);
         let answer = convert_binary(rt.alloc(), broken_file(&rt, call), &mut writer);
         must(&rt, expect_io(answer, ErrorKind::PermissionDenied, Some(0)));
-        expect_taken(&rt, &writer, b"", 0, 0);
+        expect_taken(&rt, writer, b"", 0, 0);
     }
 }
 

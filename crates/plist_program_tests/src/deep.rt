@@ -1,7 +1,7 @@
 //! Values of a hundred thousand levels. No call uses more of the call stack for them than for
 //! others.
 
-use crate::support::{add_times, must, value_of};
+use crate::support::{add_numbered, add_times, must, value_of};
 use plist::{Value, write_value};
 use plist_base::Uid;
 use plist_keyed::Archive;
@@ -42,6 +42,12 @@ fn deep_values(rt: HostRuntime) {
     value.destroy();
 }
 
+// Checks that the value of a file equals this one.
+fn expect_read(rt: &(impl Abort + AllocGlobal), file: &[u8], wanted: &Value) {
+    let read = must(rt, Value::from_reader(rt.alloc(), file));
+    expect_equal(rt, read, wanted, true);
+}
+
 #[test]
 fn deep_files(rt: HostRuntime) {
     let value = nested(&rt, "1");
@@ -49,10 +55,9 @@ fn deep_files(rt: HostRuntime) {
     must(&rt, value.to_writer_binary(rt.alloc(), &mut file));
     let mut writer = SharingWriter::new(rt.alloc(), Vec::new(rt.alloc()));
     must(&rt, write_value(rt.alloc(), &value, &mut writer));
-    for bytes in [file, writer.into_inner()] {
-        let read = must(&rt, Value::from_reader(rt.alloc(), bytes.as_slice()));
-        expect_equal(&rt, read, &value, true);
-    }
+    let shared = writer.into_inner();
+    expect_read(&rt, file.as_slice(), &value);
+    expect_read(&rt, shared.as_slice(), &value);
     value.destroy();
 }
 
@@ -79,22 +84,25 @@ fn chain(rt: &(impl Abort + AllocGlobal)) -> Value {
         rt,
         String::from_str(rt.alloc(), "{ '$top' { end '$objects' ["),
     );
-    for uid in 1..LEVELS {
-        let array = must(rt, format!(in rt.alloc(); " [ true uid:{uid} end"));
-        must(rt, words.push_str(array.as_str()));
-    }
+    add_numbered(rt, &mut words, " [ true uid:# end", 1..LEVELS);
     must(rt, words.push_str(" true end end"));
     value_of(rt, words.as_str())
+}
+
+// Returns the tree of a Uid of an archive.
+fn tree_of(rt: &(impl Abort + AllocGlobal), root: &Value, uid: u64) -> Value {
+    must(
+        rt,
+        must(rt, Archive::open(root)).tree(rt.alloc(), Uid::new(uid)),
+    )
 }
 
 #[test]
 fn deep_archives(rt: HostRuntime) {
     let root = chain(&rt);
-    let archive = must(&rt, Archive::open(&root));
-    let value = must(&rt, archive.tree(rt.alloc(), Uid::new(0)));
-    for (uid, wanted) in [(0, true), (1, false)] {
-        let tree = must(&rt, archive.tree(rt.alloc(), Uid::new(uid)));
-        expect_equal(&rt, tree, &value, wanted);
-    }
+    let value = tree_of(&rt, &root, 0);
+    expect_equal(&rt, tree_of(&rt, &root, 0), &value, true);
+    expect_equal(&rt, tree_of(&rt, &root, 1), &value, false);
     value.destroy();
+    drop(root);
 }

@@ -53,6 +53,7 @@ fn a_deep_archive(rt: HostRuntime) {
     let root = value_of(&rt, nested(&rt, around, ["[ ", "end "]).as_str());
     let path = path_of(&rt, "deep_archive");
     must(&rt, root.to_file_binary(&rt, rt.alloc(), path.as_str()));
+    drop(root);
     let lines = lines(&rt, ["", ""]);
     expect_done(&rt, "keyed @deep_archive root", lines.as_bytes());
 }

@@ -30,6 +30,16 @@ fn ran_out<T: Drop>(answer: Result<T, Error>) -> bool {
     }
 }
 
+// Returns whether memory ran out for a tree.
+fn ran_out_of_tree(answer: Result<Value, KeyedError>) -> bool {
+    matches!(answer, Err(KeyedError::OutOfMemory))
+}
+
+// Returns whether a call failed, whose only error is that memory ran out.
+fn has_failed<T: Drop, E: Drop>(answer: Result<T, E>) -> bool {
+    answer.is_err()
+}
+
 // Returns whether memory ran out for the first item of a reader.
 fn ran_out_at_first<I: Iterator<Item = Result<OwnedEvent, Error>> + Drop>(mut reader: I) -> bool
     requires asked { I.can_next reader }
@@ -65,6 +75,13 @@ fn readers(alloc: Global) -> [Call; 5] {
     ]
 }
 
+// Returns a copy of a value.
+fn copied(alloc: Global, value: Value) -> Result<Value, Error> {
+    let copy = value.clone(alloc);
+    drop(value);
+    copy
+}
+
 fn read_values(alloc: Global) -> [Call; 6] {
     let limited = Value::from_reader_with_limits(alloc, BINARY, LIMITS);
     let events = [Ok(Event::Boolean(true))];
@@ -77,7 +94,10 @@ fn read_values(alloc: Global) -> [Call; 6] {
         ),
         ("from_events", ran_out(Value::from_events(alloc, events))),
         ("try_from_str", ran_out(Value::try_from_str(alloc, "ab"))),
-        ("clone", ran_out(Value::Array(Vec::new(alloc)).clone(alloc))),
+        (
+            "clone",
+            ran_out(copied(alloc, Value::Array(Vec::new(alloc)))),
+        ),
     ]
 }
 
@@ -103,7 +123,7 @@ fn writers(alloc: Global) -> [Call; 3] {
 fn written_values(alloc: Global) -> [Call; 3] {
     let (value, mut out) = (Value::Array(Vec::new(alloc)), Vec::new(alloc));
     let mut builder = Builder::new(alloc);
-    [
+    let calls = [
         (
             "to_writer_binary",
             ran_out(value.to_writer_binary(alloc, &mut out)),
@@ -113,7 +133,10 @@ fn written_values(alloc: Global) -> [Call; 3] {
             ran_out(write_value(alloc, &value, &mut builder)),
         ),
         ("print_value", ran_out(print_value(alloc, &value, &mut out))),
-    ]
+    ];
+    drop(value);
+    drop(builder);
+    calls
 }
 
 fn key(rt: &(impl Abort + AllocGlobal), key: &str) -> String {
@@ -123,9 +146,9 @@ fn key(rt: &(impl Abort + AllocGlobal), key: &str) -> String {
 fn dictionaries(rt: &(impl Abort + AllocGlobal)) -> [Call; 5] {
     let (first, second, third) = (key(rt, "a"), key(rt, "b"), key(rt, "c"));
     let mut pairs = Dictionary::new(rt.alloc());
-    let insert = pairs.insert(first, Value::Boolean(true)).is_err();
-    let or_insert = pairs.entry(second).or_insert(Value::Boolean(true)).is_err();
-    [
+    let insert = has_failed(pairs.insert(first, Value::Boolean(true)));
+    let or_insert = has_failed(pairs.entry(second).or_insert(Value::Boolean(true)));
+    let calls = [
         ("insert", insert),
         ("or_insert", or_insert),
         (
@@ -134,19 +157,23 @@ fn dictionaries(rt: &(impl Abort + AllocGlobal)) -> [Call; 5] {
         ),
         ("sort_keys", ran_out(pairs.sort_keys())),
         ("clone of a dictionary", ran_out(pairs.clone())),
-    ]
+    ];
+    drop(pairs);
+    calls
 }
 
 fn texts(rt: &(impl Abort + AllocGlobal)) -> [Call; 4] {
     let date = must(rt, Date::from_plist_real([0; 8]));
     let data = Data::new(must(rt, Vec::from_slice(rt.alloc(), b"ab")));
     let read = Data::from_xml_format(rt.alloc(), "YWI=");
-    [
+    let calls = [
         ("text of data", ran_out(data.to_xml_format(rt.alloc()))),
         ("clone of data", ran_out(data.clone())),
-        ("data of a text", read.is_err()),
+        ("data of a text", has_failed(read)),
         ("text of a date", ran_out(date.to_xml_format(rt.alloc()))),
-    ]
+    ];
+    drop(data);
+    calls
 }
 
 fn commands(rt: &(impl AllocGlobal + Env)) -> [Call; 3] {
@@ -169,7 +196,8 @@ fn archives(rt: &(impl Abort + AllocGlobal)) -> [Call; 1] {
     let text = b"{ '$objects' = ( '$null', () ); '$top' = { }; }".as_slice();
     let root = must(rt, Value::from_reader_ascii(rt.alloc(), text));
     let answer = must(rt, Archive::open(&root)).tree(rt.alloc(), Uid::new(1));
-    [("tree", matches!(answer, Err(KeyedError::OutOfMemory)))]
+    drop(root);
+    [("tree", ran_out_of_tree(answer))]
 }
 
 // Returns the name of the first call for which memory ran out, or an empty string if there is none.

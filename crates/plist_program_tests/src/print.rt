@@ -1,6 +1,6 @@
 //! What `print_events` writes, and what it returns.
 
-use crate::support::{broken_file, expect_taken, failing, must, same, sound};
+use crate::support::{broken_file, expect_taken, failing, is_done, must, same, sound};
 use plist_commands::print_events;
 use plist_support::{Device, DeviceFault, expect_io, front};
 use std::io::ErrorKind;
@@ -45,12 +45,12 @@ fn stops_where_the_writer_fails(rt: HostRuntime) {
         let mut writer = failing(&rt, fails_at, ErrorKind::TimedOut);
         let answer = print_events(rt.alloc(), file, &mut writer);
         must(&rt, expect_io(answer, ErrorKind::TimedOut, None));
-        expect_taken(&rt, &writer, lines, calls, flushed);
+        expect_taken(&rt, writer, lines, calls, flushed);
     }
     let mut writer = sound(&rt);
     must(&rt, print_events(rt.alloc(), TWO_TEXTS, &mut writer));
-    expect_taken(&rt, &writer, LINES, end as u64 + 1, end);
     same(&rt, "the lines in one write", &writer.longest, &end);
+    expect_taken(&rt, writer, LINES, end as u64 + 1, end);
 }
 
 #[test]
@@ -65,7 +65,7 @@ fn a_fault_precedes_a_failed_flush(rt: HostRuntime) {
         &(is_fault, writer.failures),
         &(true, 1),
     );
-    expect_taken(&rt, &writer, b"", 1, 0);
+    expect_taken(&rt, writer, b"", 1, 0);
 }
 
 #[test]
@@ -74,7 +74,7 @@ fn a_read_that_fails(rt: HostRuntime) {
         let mut writer = sound(&rt);
         let answer = print_events(rt.alloc(), broken_file(&rt, call), &mut writer);
         must(&rt, expect_io(answer, ErrorKind::PermissionDenied, Some(0)));
-        expect_taken(&rt, &writer, b"", 1, 0);
+        expect_taken(&rt, writer, b"", 1, 0);
     }
 }
 
@@ -87,7 +87,7 @@ fn a_later_read_that_fails(rt: HostRuntime) {
         let bytes = must(&rt, Vec::from_slice(rt.alloc(), TWO_TEXTS));
         let device = Device::with_fault(bytes, call, DeviceFault::Fails(ErrorKind::TimedOut));
         let mut out = Vec::new(rt.alloc());
-        let is_ok = print_events(rt.alloc(), device, &mut out).is_ok();
+        let is_ok = is_done(print_events(rt.alloc(), device, &mut out));
         let wanted = if is_ok {
             LINES
         } else {

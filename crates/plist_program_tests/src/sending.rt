@@ -11,7 +11,7 @@ fn sends_byte_by_byte(rt: HostRuntime) {
     must(&rt, send(&mut writer, b""));
     must(&rt, send(&mut writer, b"three"));
     must(&rt, send(&mut writer, b" words"));
-    expect_taken(&rt, &writer, b"three words", 11, 0);
+    expect_taken(&rt, writer, b"three words", 11, 0);
 }
 
 // The device's error is returned, and no write is tried again.
@@ -20,7 +20,7 @@ fn stops_at_a_failure(rt: HostRuntime) {
     let mut writer = failing(&rt, 3, ErrorKind::PermissionDenied);
     let answer = send(&mut writer, b"three");
     must(&rt, expect_io(answer, ErrorKind::PermissionDenied, None));
-    expect_taken(&rt, &writer, b"thr", 4, 0);
+    expect_taken(&rt, writer, b"thr", 4, 0);
 }
 
 #[test]
@@ -29,7 +29,7 @@ fn a_write_that_takes_nothing(rt: HostRuntime) {
     let answer = send(&mut writer, b"three");
     let kind = ErrorKind::WriteZero;
     must(&rt, expect_failure(answer, kind, "write zero", None));
-    expect_taken(&rt, &writer, b"th", 3, 0);
+    expect_taken(&rt, writer, b"th", 3, 0);
 }
 
 #[test]
@@ -40,5 +40,5 @@ fn flushes(rt: HostRuntime) {
         &rt,
         expect_io(flush(&mut writer), ErrorKind::TimedOut, None),
     );
-    expect_taken(&rt, &writer, b"", 2, 0);
+    expect_taken(&rt, writer, b"", 2, 0);
 }

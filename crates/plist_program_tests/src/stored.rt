@@ -2,12 +2,14 @@
 //! list is written to it.
 
 use crate::support::{
-    FailingCall, Stage, Watched, expect_holds, expect_missing, must, path_of, put, remove, same,
+    FailingCall, Stage, Watched, expect_holds, expect_missing, is_done, must, path_of, put, remove,
+    same,
 };
 use plist::{LazyFile, Value};
 use plist_base::{Error, Limits};
 use plist_commands::{Command, Commands, Failure, convert_file};
 use plist_support::expect_io;
+use std::alloc::Global;
 use std::cell::Cell;
 use std::env::Env;
 use std::io::{ErrorKind, Write};
@@ -32,6 +34,11 @@ enum Origin<'a> {
     File(&'a str),
 }
 
+// Writes the value `true` to a file.
+fn write_true<F: Files>(files: &F, alloc: Global, path: &str) -> Result<(), Error> {
+    Value::Boolean(true).to_file_binary(files, alloc, path)
+}
+
 // Writes the value or the property list to a new file, of which one call may fail. Also returns the
 // stage that the file reached.
 fn write_to(
@@ -51,7 +58,7 @@ fn write_to(
         is_regular,
     };
     let answer = match from {
-        Origin::Memory => Value::Boolean(true).to_file_binary(&watched, rt.alloc(), to.as_str()),
+        Origin::Memory => write_true(&watched, rt.alloc(), to.as_str()),
         Origin::File(name) => {
             let path = path_of(rt, name);
             convert_file(&watched, rt.alloc(), path.as_str(), to.as_str())
@@ -129,6 +136,9 @@ fn error_of(answer: Result<(), Failure>) -> Result<(), Error> {
     }
 }
 
+// A file that can't be created.
+const OTHER: &str = "no_such_folder/out";
+
 // The failure of a call that opens or reads a file, and its offset.
 #[derive(Clone, Copy)]
 struct Unread<'a> {
@@ -142,30 +152,39 @@ impl<'a> Unread<'a> {
         expect_io(answer, ErrorKind::PermissionDenied, self.offset).is_ok()
     }
 
+    // Returns whether each call that reads a file returns the device's error.
+    fn is_in_calls<F: Files>(&self, files: &F, alloc: Global) -> [bool; 3] {
+        let limits = Limits { depth: 9, items: 9 };
+        [
+            self.is_in(Value::from_file_with_limits(files, alloc, self.path, limits)),
+            self.is_in(Value::from_file(files, alloc, self.path)),
+            self.is_in(convert_file(files, alloc, self.path, OTHER)),
+        ]
+    }
+
+    // Returns whether a command fails with the device's error, and how many bytes it prints.
+    fn is_in_command<F: Files>(
+        &self,
+        files: &F,
+        alloc: Global,
+        command: Command<'_>,
+    ) -> (bool, usize) {
+        let mut out = Vec::new(alloc);
+        let is_in = self.is_in(error_of(files.perform(alloc, command, &mut out)));
+        (is_in, out.len())
+    }
+
     // Checks that each call opens its file once, and returns the device's error.
     fn expect_of_calls<R: Files>(&self, rt: &(impl Abort + AllocGlobal), watched: &Watched<'_, R>) {
-        let (alloc, path, other) = (rt.alloc(), self.path, "no_such_folder/out");
-        let limits = Limits { depth: 9, items: 9 };
-        let limited = Value::from_file_with_limits(watched, alloc, path, limits);
-        let found = [
-            self.is_in(limited),
-            self.is_in(Value::from_file(watched, alloc, path)),
-            self.is_in(convert_file(watched, alloc, path, other)),
-        ];
+        let found = self.is_in_calls(watched, rt.alloc());
         same(rt, "the device's errors", &found, &[true; 3]);
         for command in [
-            Command::Print(path),
-            Command::Convert(path, other),
-            Command::Keyed(path, "root"),
+            Command::Print(self.path),
+            Command::Convert(self.path, OTHER),
+            Command::Keyed(self.path, "root"),
         ] {
-            let mut out = Vec::new(alloc);
-            let is_in = self.is_in(error_of(watched.perform(alloc, command, &mut out)));
-            same(
-                rt,
-                "the error, and what is printed",
-                &(is_in, out.len()),
-                &(true, 0),
-            );
+            let found = self.is_in_command(watched, rt.alloc(), command);
+            same(rt, "the error, and what is printed", &found, &(true, 0));
         }
         same(rt, "the files that were opened", &watched.opened.get(), &6);
     }
@@ -212,13 +231,14 @@ fn an_output_makes_its_file_once(rt: HostRuntime) {
     };
     let path = path_of(&rt, "output");
     let mut output = LazyFile::new(&watched, path.as_str());
-    let (is_flushed, before) = (output.flush().is_ok(), opened.get());
-    let failed = [output.write(b"a").is_err(), output.write(b"a").is_err()];
+    let (is_flushed, before) = (is_done(output.flush()), opened.get());
+    let written = [is_done(output.write(b"a")), is_done(output.write(b"a"))];
+    drop(output);
     same(
         &rt,
         "a flush, and two writes",
-        &(is_flushed, failed),
-        &(true, [true; 2]),
+        &(is_flushed, written),
+        &(true, [false; 2]),
     );
     same(
         &rt,
@@ -226,6 +246,11 @@ fn an_output_makes_its_file_once(rt: HostRuntime) {
         &(before, opened.get()),
         &(0, 1),
     );
+}
+
+// Returns whether a command failed because a property list isn't an archive, or has no tree.
+fn is_of_archive(answer: Result<(), Failure>) -> bool {
+    matches!(answer, Err(Failure::Keyed(_)))
 }
 
 // A blank at the end of a name is a part of it.
@@ -237,17 +262,15 @@ fn a_name_may_end_in_a_blank(rt: HostRuntime) {
     let (alloc, mut out) = (rt.alloc(), Vec::new(rt.alloc()));
     let limits = Limits { depth: 9, items: 9 };
     let found = [
-        Value::Boolean(true)
-            .to_file_binary(&rt, alloc, path)
-            .is_ok(),
-        Value::from_file(&rt, alloc, path).is_ok(),
-        Value::from_file_with_limits(&rt, alloc, path, limits).is_ok(),
-        convert_file(&rt, alloc, path, path).is_ok(),
-        rt.perform(alloc, Command::Print(path), &mut out).is_ok(),
+        is_done(Value::Boolean(true).to_file_binary(&rt, alloc, path)),
+        is_done(Value::from_file(&rt, alloc, path)),
+        is_done(Value::from_file_with_limits(&rt, alloc, path, limits)),
+        is_done(convert_file(&rt, alloc, path, path)),
+        is_done(rt.perform(alloc, Command::Print(path), &mut out)),
     ];
     same(&rt, "the calls", &found, &[true; 5]);
     let answer = rt.perform(alloc, Command::Keyed(path, "root"), &mut out);
-    let is_no_archive = matches!(answer, Err(Failure::Keyed(_)));
+    let is_no_archive = is_of_archive(answer);
     let wanted = (true, b"Boolean true\n".as_slice());
     same(
         &rt,

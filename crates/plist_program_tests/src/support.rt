@@ -13,6 +13,7 @@ use plist_support::write_all;
 pub(crate) use runs::{expect_done, expect_fault, expect_given, expect_run, run};
 pub(crate) use same::same;
 use std::fmt::Debug;
+use std::ops::Range;
 use std::process::Abort;
 pub(crate) use watched::{FailingCall, Stage, Watched};
 
@@ -31,6 +32,11 @@ pub(crate) fn value_of(rt: &(impl Abort + AllocGlobal), words: &str) -> Value {
     must(rt, builder.finish())
 }
 
+// Returns whether a result is `Ok`.
+pub(crate) fn is_done<T: Drop, E: Drop>(answer: Result<T, E>) -> bool {
+    answer.is_ok()
+}
+
 // Returns the content of an option that must not be `None`.
 pub(crate) fn some<T>(rt: &impl Abort, what: &str, found: Option<T>) -> T {
     match found {
@@ -43,5 +49,19 @@ pub(crate) fn some<T>(rt: &impl Abort, what: &str, found: Option<T>) -> T {
 pub(crate) fn add_times(rt: &impl Abort, all: &mut String, text: &str, times: u32) {
     for _ in 0..times {
         must(rt, all.push_str(text));
+    }
+}
+
+// Appends a text for each of these numbers. The number replaces each `#` in the text.
+pub(crate) fn add_numbered(
+    rt: &(impl Abort + AllocGlobal),
+    all: &mut String,
+    text: &str,
+    numbers: Range<u32>,
+) {
+    for number in numbers {
+        let digits = must(rt, number.to_string(rt.alloc()));
+        let part = must(rt, text.replace(rt.alloc(), "#", digits.as_str()));
+        must(rt, all.push_str(part.as_str()));
     }
 }

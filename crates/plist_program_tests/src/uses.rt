@@ -1,6 +1,6 @@
 //! The examples to copy, run once each. `tests/refused_calls.py` compares their results.
 
-use crate::support::{must, same, some, value_of};
+use crate::support::{is_done, must, same, some, value_of};
 use plist::Builder;
 use plist_uses::archive::root_of;
 use plist_uses::convert::convert;
@@ -14,10 +14,10 @@ use std::process::Abort;
 fn expect_read(rt: &(impl Abort + AllocGlobal), text: &[u8]) {
     let mut file = Vec::new(rt.alloc());
     let answers = [
-        convert(rt.alloc(), text, &mut file).is_ok(),
-        count(rt.alloc(), text).is_ok(),
-        read_upload(rt.alloc(), text).is_ok(),
-        read_upload(rt.alloc(), file.as_slice()).is_ok(),
+        is_done(convert(rt.alloc(), text, &mut file)),
+        is_done(count(rt.alloc(), text)),
+        is_done(read_upload(rt.alloc(), text)),
+        is_done(read_upload(rt.alloc(), file.as_slice())),
     ];
     same(rt, "convert, count, read_upload", &answers, &[true; 4]);
 }
@@ -35,14 +35,18 @@ fn readings_are_written(rt: HostRuntime) {
         level: 5,
     };
     must(&rt, write_readings(&[reading], &mut builder));
-    must(&rt, builder.finish());
+    let value = must(&rt, builder.finish());
+    drop(builder);
+    drop(value);
 }
 
 #[test]
 fn an_archive_has_a_root(rt: HostRuntime) {
     let words = "{ '$objects' [ '$null' 'x' end '$top' { 'root' uid:1 end end";
-    let root = root_of(rt.alloc(), &value_of(&rt, words));
-    some(&rt, "the root", must(&rt, root));
+    let value = value_of(&rt, words);
+    let root = root_of(rt.alloc(), &value);
+    drop(value);
+    drop(some(&rt, "the root", must(&rt, root)));
 }
 
 #[test]
@@ -54,6 +58,7 @@ fn a_changed_setting_is_found_again(rt: HostRuntime) {
     let mut file = Vec::new(rt.alloc());
     must(&rt, settings.save(rt.alloc(), &mut file));
     let settings = must(&rt, Settings::open(rt.alloc(), file.as_slice()));
-    let volume = some(&rt, "the volume", settings.get("volume"));
-    same(&rt, "the volume", &volume.as_unsigned_integer(), &Some(7));
+    let volume = some(&rt, "the volume", settings.get("volume")).as_unsigned_integer();
+    drop(settings);
+    same(&rt, "the volume", &volume, &Some(7));
 }

@@ -12,11 +12,11 @@ fn prints_a_value(rt: HostRuntime) {
     let value = Value::Boolean(true);
     let mut writer = sound(&rt);
     must(&rt, print_value(rt.alloc(), &value, &mut writer));
-    expect_taken(&rt, &writer, b"Boolean true\n", 14, 13);
+    expect_taken(&rt, writer, b"Boolean true\n", 14, 13);
     let mut writer = failing(&rt, 13, ErrorKind::TimedOut);
     let answer = print_value(rt.alloc(), &value, &mut writer);
     must(&rt, expect_io(answer, ErrorKind::TimedOut, None));
-    expect_taken(&rt, &writer, b"Boolean true\n", 14, 0);
+    expect_taken(&rt, writer, b"Boolean true\n", 14, 0);
 }
 
 // The writer is flushed after the failed write. The error of the write is returned, and not that of
@@ -29,6 +29,6 @@ fn stops_where_the_writer_fails(rt: HostRuntime) {
     };
     let answer = print_value(rt.alloc(), &Value::Boolean(true), &mut writer);
     must(&rt, expect_io(answer, ErrorKind::PermissionDenied, None));
-    expect_taken(&rt, &writer.device, b"Boolean", 8, 0);
     same(&rt, "flushes", &writer.flushes, &1);
+    expect_taken(&rt, writer.device, b"Boolean", 8, 0);
 }

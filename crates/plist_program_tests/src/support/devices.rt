@@ -21,7 +21,7 @@ pub(crate) fn sound(rt: &impl AllocGlobal) -> Device {
 // successful flush was after this many bytes.
 pub(crate) fn expect_taken(
     rt: &impl Abort,
-    device: &Device,
+    device: Device,
     bytes: &[u8],
     calls: u64,
     flushed: usize,

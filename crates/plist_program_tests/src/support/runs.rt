@@ -17,6 +17,15 @@ fn word_of(rt: &(impl Abort + AllocGlobal + Env), word: &str) -> String {
     }
 }
 
+// Returns the arguments that the words of a line denote.
+fn words_of(rt: &(impl Abort + AllocGlobal + Env), line: &str) -> Vec<String> {
+    let mut words = Vec::new(rt.alloc());
+    for word in line.split_whitespace() {
+        must(rt, words.push(word_of(rt, word)));
+    }
+    words
+}
+
 // Runs the words of a line, and returns the status.
 pub(crate) fn run<O: Write, E: Messages>(
     rt: &(impl Abort + AllocGlobal + Env + Files),
@@ -24,11 +33,10 @@ pub(crate) fn run<O: Write, E: Messages>(
     out: &mut O,
     err: &mut E,
 ) -> u8 {
-    let mut words = Vec::new(rt.alloc());
-    for word in line.split_whitespace() {
-        must(rt, words.push(word_of(rt, word)));
-    }
-    run_words(rt, rt.alloc(), words.as_slice(), out, err)
+    let words = words_of(rt, line);
+    let status = run_words(rt, rt.alloc(), words.as_slice(), out, err);
+    drop(words);
+    status
 }
 
 // The arguments of a run. The first one is the program's name.
@@ -71,6 +79,7 @@ pub(crate) fn expect_given(
     let mut out = Vec::new(rt.alloc());
     let mut err = Vec::new(rt.alloc());
     let found = run_words(rt, rt.alloc(), given.as_slice(), &mut out, &mut err);
+    drop(given);
     let found = (err.as_slice(), out.len(), found);
     same(rt, "reported, printed, status", &found, &(said, 0, status));
 }

@@ -130,12 +130,12 @@ impl<'a, R: Files> Files for Watched<'a, R> {
 
     fn open_file(&self, how: &OpenOptions, path: &str) -> io::Result<Self::File> {
         self.opened.set(self.opened.get().saturating_add(1));
+        let mut reached = Stage::Untouched;
         if how.asks_write() {
-            go_on(self.stage, [Stage::Untouched; 2], Stage::Made);
-            fail_at(self.failure, Stage::Made)?;
-        } else {
-            fail_at(self.failure, Stage::Untouched)?;
+            reached = Stage::Made;
+            go_on(self.stage, [Stage::Untouched; 2], reached);
         }
+        fail_at(self.failure, reached)?;
         Ok(WatchedFile {
             file: self.rt.open_file(how, path)?,
             stage: self.stage,
