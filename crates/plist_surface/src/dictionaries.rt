@@ -115,11 +115,23 @@ pub fn print_keys<W: Write>(out: &mut W, name: &str, pairs: &Dictionary) -> Resu
     Ok(())
 }
 
-pub fn print<W: Write>(alloc: Global, out: &mut W) -> Result<(), Error> {
+fn print_removed<W: Write>(alloc: Global, out: &mut W) -> Result<(), Error> {
     let mut pairs = numbered(alloc, &["a", "b", "c"])?;
-    let _gone = pairs.remove("a");
-    print_keys(out, "[a, b, c] after remove(a)", &pairs)?;
-    let mut sorted = numbered(alloc, &["b", "a", "é", "Z"])?;
-    sorted.sort_keys()?;
-    print_keys(out, "[b, a, é, Z] after sort_keys", &sorted)
+    drop(pairs.remove("a"));
+    let printed = print_keys(out, "[a, b, c] after remove(a)", &pairs);
+    drop(pairs);
+    printed
+}
+
+fn print_sorted<W: Write>(alloc: Global, out: &mut W) -> Result<(), Error> {
+    let mut pairs = numbered(alloc, &["b", "a", "é", "Z"])?;
+    pairs.sort_keys()?;
+    let printed = print_keys(out, "[b, a, é, Z] after sort_keys", &pairs);
+    drop(pairs);
+    printed
+}
+
+pub fn print<W: Write>(alloc: Global, out: &mut W) -> Result<(), Error> {
+    print_removed(alloc, out)?;
+    print_sorted(alloc, out)
 }

@@ -29,16 +29,33 @@ fn print_equality<R: Files, W: Write>(
     out: &mut W,
     value: &Value,
 ) -> Result<(), Error> {
-    let same = loaded(rt, alloc, "written.plist")? == *value;
+    let again = loaded(rt, alloc, "written.plist")?;
+    let same = again == *value;
+    drop(again);
     Ok(writeln!(out, "read again: {same}")?)
 }
 
 // Prints the error for a missing file.
 fn print_missing<R: Files, W: Write>(rt: &R, alloc: Global, out: &mut W) -> Result<(), Error> {
     match loaded(rt, alloc, "missing.plist") {
-        Ok(_value) => Ok(()),
+        Ok(value) => {
+            drop(value);
+            Ok(())
+        }
         Err(error) => Ok(writeln!(out, "missing: {error}")?),
     }
+}
+
+// Stores a value in a file, and prints what the file contains.
+fn print_stored<R: Files + AllocGlobal, W: Write>(
+    rt: &R,
+    alloc: Global,
+    out: &mut W,
+    value: &Value,
+) -> Result<(), Error> {
+    stored(rt, alloc, value, "written.plist")?;
+    print_file(rt, out)?;
+    print_equality(rt, alloc, out, value)
 }
 
 pub fn print<R: Files + AllocGlobal, W: Write>(
@@ -48,8 +65,8 @@ pub fn print<R: Files + AllocGlobal, W: Write>(
 ) -> Result<(), Error> {
     let text: &[u8] = b"{k = k;}";
     let value = read(alloc, text)?;
-    stored(rt, alloc, &value, "written.plist")?;
-    print_file(rt, out)?;
-    print_equality(rt, alloc, out, &value)?;
+    let printed = print_stored(rt, alloc, out, &value);
+    drop(value);
+    printed?;
     print_missing(rt, alloc, out)
 }

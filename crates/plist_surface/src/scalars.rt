@@ -176,20 +176,21 @@ fn print_integers<W: Write>(out: &mut W) -> Result<(), Error> {
     Ok(())
 }
 
+// Prints the end of a line: the text, or the error.
+fn print_text<W: Write>(out: &mut W, answer: Result<String, Error>) -> Result<(), Error> {
+    let printed = print_answer(out, &answer);
+    drop(answer);
+    printed
+}
+
 fn print_dates<W: Write>(alloc: Global, out: &mut W) -> Result<(), Error> {
     for text in DATES {
         write!(out, "date {text}")?;
-        let answer = date_again(alloc, text);
-        let printed = print_answer(out, &answer);
-        drop(answer);
-        printed?;
+        print_text(out, date_again(alloc, text))?;
     }
     for bytes in REALS {
         write!(out, "date of bytes")?;
-        let answer = date_of_bytes(alloc, bytes);
-        let printed = print_answer(out, &answer);
-        drop(answer);
-        printed?;
+        print_text(out, date_of_bytes(alloc, bytes))?;
     }
     Ok(())
 }

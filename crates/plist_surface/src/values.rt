@@ -207,21 +207,25 @@ fn print_within<W: Write>(alloc: Global, out: &mut W, limits: Limits) -> Result<
 }
 
 // Returns the file of a value.
-fn file_of(alloc: Global, value: &Value) -> Result<Vec<u8>, Error> {
+fn file_of(alloc: Global, value: Value) -> Result<Vec<u8>, Error> {
     let mut file = Vec::new(alloc);
-    written(alloc, value, &mut file)?;
+    let done = written(alloc, &value, &mut file);
+    drop(value);
+    done?;
     Ok(file)
 }
 
+// Prints the bytes of a value's file.
+fn print_file<W: Write>(alloc: Global, out: &mut W, name: &str, value: Value) -> Result<(), Error> {
+    let file = file_of(alloc, value)?;
+    print_bytes(out, name, file.as_slice())
+}
+
 pub fn print<W: Write>(alloc: Global, out: &mut W) -> Result<(), Error> {
-    let file = file_of(alloc, &built(alloc)?)?;
+    let file = file_of(alloc, built(alloc)?)?;
     print_items(out, "built", plist::Reader::new(alloc, file))?;
     let row: &[u8] = b"(a, a)";
-    print_bytes(
-        out,
-        "(a, a)",
-        file_of(alloc, &read(alloc, row)?)?.as_slice(),
-    )?;
+    print_file(alloc, out, "(a, a)", read(alloc, row)?)?;
     print_within(alloc, out, Limits { depth: 1, items: 9 })?;
     print_within(alloc, out, Limits { depth: 2, items: 5 })
 }
