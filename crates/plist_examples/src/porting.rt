@@ -33,10 +33,10 @@ fn real_text(alloc: Global, digits: &str) -> Result<String, Wrong> {
 /// Runs an example of a call that a program written for the Rust crate makes.
 pub(crate) fn run<R: Files>(rt: &R, alloc: Global, row: Row<'_>) -> Result<(), Wrong> {
     let text = match row.check {
-        "file under limits" => words_in_file(rt, alloc, row.given)?,
-        "taken apart" => text_in(alloc, row.given)?,
-        "text of four bytes" => real_text(alloc, row.given)?,
-        _ => return unreadable(alloc, row.check),
+        "file under limits" => words_in_file(rt, alloc, row.given),
+        "taken apart" => text_in(alloc, row.given),
+        "text of four bytes" => real_text(alloc, row.given),
+        _ => unreadable(alloc, row.check),
     };
-    expect_same(alloc, text.as_str(), row.wanted)
+    expect_same(alloc, text?.as_str(), row.wanted)
 }

@@ -67,6 +67,24 @@ impl<'a> Env for Given<'a> {
     }
 }
 
+// Checks that a run of these words prints this, reports that on standard error, and ends with this
+// status.
+fn expect_output(
+    rt: &(impl Abort + AllocGlobal + Env + Files),
+    what: &str,
+    words: Vec<String>,
+    printed: &[u8],
+    said: &[u8],
+    status: u8,
+) {
+    let mut out = Vec::new(rt.alloc());
+    let mut err = Vec::new(rt.alloc());
+    let found = run_words(rt, rt.alloc(), words.as_slice(), &mut out, &mut err);
+    drop(words);
+    let found = (err.as_slice(), out.as_slice(), found);
+    same(rt, what, &found, &(said, printed, status));
+}
+
 // Checks that a run of these arguments prints nothing, reports this on standard error, and ends
 // with this status.
 pub(crate) fn expect_given(
@@ -76,16 +94,11 @@ pub(crate) fn expect_given(
     status: u8,
 ) {
     let given = must(rt, program_arguments(&Given { words }, rt.alloc()));
-    let mut out = Vec::new(rt.alloc());
-    let mut err = Vec::new(rt.alloc());
-    let found = run_words(rt, rt.alloc(), given.as_slice(), &mut out, &mut err);
-    drop(given);
-    let found = (err.as_slice(), out.len(), found);
-    same(rt, "reported, printed, status", &found, &(said, 0, status));
+    expect_output(rt, "reported, printed, status", given, b"", said, status);
 }
 
-// Checks that a run of these words prints this, reports that on standard error, and ends with this
-// status.
+// Checks that a run of a line's words prints this, reports that on standard error, and ends with
+// this status.
 pub(crate) fn expect_run(
     rt: &(impl Abort + AllocGlobal + Env + Files),
     line: &str,
@@ -93,11 +106,7 @@ pub(crate) fn expect_run(
     said: &[u8],
     status: u8,
 ) {
-    let mut out = Vec::new(rt.alloc());
-    let mut err = Vec::new(rt.alloc());
-    let found = run(rt, line, &mut out, &mut err);
-    let found = (err.as_slice(), out.as_slice(), found);
-    same(rt, line, &found, &(said, printed, status));
+    expect_output(rt, line, words_of(rt, line), printed, said, status);
 }
 
 // Checks that a run prints this, and succeeds.
