@@ -1,6 +1,6 @@
 //! How `AsciiReader` ends, and how many items are read for a value.
 
-use crate::support::{expect_value, must, same, some};
+use crate::support::{expect_value, is_there, must, same, some};
 use plist::Value;
 use plist_ascii::AsciiReader;
 use plist_base::{Error, OwnedEvent};
@@ -19,14 +19,15 @@ fn second_item(
     device: &mut Device,
 ) -> (Option<Result<OwnedEvent, Error>>, u32) {
     let mut reader = AsciiReader::new(rt.alloc(), device);
-    let _first = reader.next();
+    drop(reader.next());
     let second = reader.next();
     let mut more = 0u32;
     for _ in 0..3 {
-        if reader.next().is_some() {
+        if is_there(reader.next()) {
             more = more.saturating_add(1);
         }
     }
+    drop(reader);
     (second, more)
 }
 

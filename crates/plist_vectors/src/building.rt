@@ -9,17 +9,17 @@ use std::process::Abort;
 // Writes an array of a scalar of each kind and an empty dictionary, by the writer's own methods.
 // What is built shows whether they succeed.
 fn write_scalars<W: Writer>(writer: &mut W, date: Date) {
-    let _ = writer.write_start_array(None);
-    let _ = writer.write_boolean(true);
-    let _ = writer.write_data(CowSlice::Borrowed(&[0, 255]));
-    let _ = writer.write_date(date);
-    let _ = writer.write_integer(Integer::from(7u8));
-    let _ = writer.write_real(RealBits::Four([63, 192, 0, 0]));
-    let _ = writer.write_string(CowStr::Borrowed("x"));
-    let _ = writer.write_uid(Uid::new(4));
-    let _ = writer.write_start_dictionary(None);
-    let _ = writer.write_end_collection();
-    let _ = writer.write_end_collection();
+    drop(writer.write_start_array(None));
+    drop(writer.write_boolean(true));
+    drop(writer.write_data(CowSlice::Borrowed(&[0, 255])));
+    drop(writer.write_date(date));
+    drop(writer.write_integer(Integer::from(7u8)));
+    drop(writer.write_real(RealBits::Four([63, 192, 0, 0])));
+    drop(writer.write_string(CowStr::Borrowed("x")));
+    drop(writer.write_uid(Uid::new(4)));
+    drop(writer.write_start_dictionary(None));
+    drop(writer.write_end_collection());
+    drop(writer.write_end_collection());
 }
 
 #[test]
@@ -27,7 +27,9 @@ fn each_call_of_a_writer(rt: HostRuntime) {
     let mut builder = Builder::new(rt.alloc());
     write_scalars(&mut builder, must(&rt, Date::from_plist_real([0; 8])));
     let wanted = "[8 true <00ff> date:0 7 real:3fc00000 'x' uid:4 {0 end end";
-    expect_value(&rt, builder.finish(), wanted);
+    let built = builder.finish();
+    drop(builder);
+    expect_value(&rt, built, wanted);
 }
 
 // Checks what `write_value` returns, and then the value that was built.
@@ -52,4 +54,6 @@ fn a_value_is_written_to_a_builder(rt: HostRuntime) {
     expect_answers(&rt, &mut builder, "'a'", "ok");
     let refusal = "ExpectedEndOfEventStream { found: StartDictionary }";
     expect_handed(&rt, &value, &mut builder, refusal, "'a'");
+    drop(builder);
+    drop(value);
 }

@@ -4,7 +4,7 @@ ghost use Rattle.std.specs.Prelude.{◌<◌, ◌≤◌, None, length};
 
 use crate::support::{must, that, value_of};
 use plist::Value;
-use plist_base::Source;
+use plist_base::{Error, Source};
 use plist_binread::BinaryReader;
 use plist_reader::Reader;
 use plist_support::{add_words, words_of};
@@ -93,6 +93,17 @@ fn expect_end(rt: &(impl Abort + AllocGlobal), cut: &Cut, found: &str, items: &s
     );
 }
 
+// Returns whether a result is the error for bytes that are missing.
+fn ends_early(answer: Result<Value, Error>) -> bool {
+    match answer {
+        Ok(value) => {
+            drop(value);
+            false
+        }
+        Err(error) => error.is_eof(),
+    }
+}
+
 // Checks the items that each of the readers yields for a file that is cut, and that it has no
 // value.
 fn expect_items(rt: &(impl Abort + AllocGlobal), cut: &mut Cut, items: &str) {
@@ -101,7 +112,7 @@ fn expect_items(rt: &(impl Abort + AllocGlobal), cut: &mut Cut, items: &str) {
     expect_end(rt, cut, found.as_str(), items);
     let found = must(rt, words_of(alloc, Reader::new(alloc, &mut *cut)));
     expect_end(rt, cut, found.as_str(), items);
-    let is_eof = Value::from_reader(alloc, &mut *cut).is_err_and(|error| error.is_eof());
+    let is_eof = ends_early(Value::from_reader(alloc, &mut *cut));
     that(
         rt,
         "an end in place of a value, cut at",
@@ -123,10 +134,10 @@ fn expect_cuts(rt: &(impl Abort + AllocGlobal), items: &str, step: usize)
     requires { 0 < step }
 {
     let mut file = Vec::new(rt.alloc());
-    must(
-        rt,
-        value_of(rt, items).to_writer_binary(rt.alloc(), &mut file),
-    );
+    let value = value_of(rt, items);
+    let written = value.to_writer_binary(rt.alloc(), &mut file);
+    drop(value);
+    must(rt, written);
     let table = table_of(file.as_slice());
     let trailer = file.len().saturating_sub(TRAILER);
     let mut cut = Cut {

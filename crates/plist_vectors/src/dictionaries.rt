@@ -44,8 +44,11 @@ fn keys_of_entries(rt: HostRuntime) {
     let mut pairs = dictionary_of(&rt, "{ 'a' 1 end");
     for (key, wanted) in [("a", "a a Integer(1)"), ("b", "b b")] {
         let entry = pairs.entry(must(&rt, String::from_str(rt.alloc(), key)));
-        same(&rt, key, &words_of_entry(&rt, &entry).as_str(), &wanted);
+        let words = words_of_entry(&rt, &entry);
+        drop(entry);
+        same(&rt, key, &words.as_str(), &wanted);
     }
+    drop(pairs);
 }
 
 #[test]

@@ -1,6 +1,6 @@
 //! How `Reader` reads in windows, and how it ends.
 
-use crate::support::{file_of_true, must, same, some, that};
+use crate::support::{file_of_true, is_there, must, same, some, that};
 use plist_base::{Error, OwnedEvent, Seeking};
 use plist_reader::Reader;
 use plist_support::{Device, DeviceFault, Disk, expect_io, words_of};
@@ -49,10 +49,11 @@ fn first_item(
     let first = reader.next();
     let mut more = 0u64;
     for _ in 0..3 {
-        if reader.next().is_some() {
+        if is_there(reader.next()) {
             more = more.saturating_add(1);
         }
     }
+    drop(reader);
     (first, more)
 }
 

@@ -24,6 +24,7 @@ fn last_error(rt: &(impl Abort + AllocGlobal), device: &mut Device) -> Option<Er
             _ => {}
         }
     }
+    drop(reader);
     last
 }
 

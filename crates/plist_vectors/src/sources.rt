@@ -133,7 +133,10 @@ fn calls_of(rt: &(impl Abort + AllocGlobal), windows: bool, places: &[u32], roun
             expect_read(rt, &mut source, size, *place, 3);
         }
     }
-    source.into_inner().calls
+    let disk = source.into_inner();
+    let calls = disk.calls;
+    drop(disk);
+    calls
 }
 
 // Each part of a file is read once if parts are read alternately, even if two share a slot. A third

@@ -20,6 +20,11 @@ pub(crate) fn must<T, E: Debug>(rt: &impl Abort, answer: Result<T, E>) -> T {
     }
 }
 
+// Returns whether something is there.
+pub(crate) fn is_there<T: Drop>(found: Option<T>) -> bool {
+    found.is_some()
+}
+
 // Returns the content of an option that must not be `None`.
 pub(crate) fn some<T>(rt: &impl Abort, what: &str, found: Option<T>) -> T {
     match found {

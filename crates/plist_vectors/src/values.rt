@@ -9,6 +9,8 @@ fn debug_output(rt: HostRuntime) {
     let value = value_of(&rt, "{ 'k' [ { 'on' true end 5 uid:4 end end");
     let data = Data::new(must(&rt, Vec::from_slice(rt.alloc(), &[0, 255])));
     let found = must(&rt, format!(in rt.alloc(); "{data:?} {value:?}"));
+    drop(value);
+    drop(data);
     let wanted = "[0, 255] Dictionary({\"k\": Array([Dictionary({\"on\": Boolean(true)}), \
                   Integer(5), Uid(4)])})";
     same(&rt, "the debug output", &found.as_str(), &wanted);
@@ -49,6 +51,7 @@ fn from_each_type(rt: HostRuntime) {
 fn contents_are_taken_out(rt: HostRuntime) {
     let mut items = some(&rt, "an array", value_of(&rt, "[ <00ff> end").into_array());
     let data = some(&rt, "an item", items.pop());
+    drop(items);
     let bytes = some(&rt, "data", data.into_data());
     same(&rt, "the bytes", &bytes.as_slice(), &[0, 255].as_slice());
 }
@@ -66,6 +69,9 @@ fn kinds_of_values(rt: HostRuntime) {
         ("'x'", EventKind::String),
         ("uid:1", EventKind::Uid),
     ] {
-        same(&rt, words, &kind_of_value(&value_of(&rt, words)), &kind);
+        let value = value_of(&rt, words);
+        let found = kind_of_value(&value);
+        drop(value);
+        same(&rt, words, &found, &kind);
     }
 }

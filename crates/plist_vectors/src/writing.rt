@@ -29,7 +29,9 @@ fn io_without_failing_write(rt: HostRuntime) {
     let mut device = Device::new(Vec::new(rt.alloc()), u64::MAX);
     for words in ["true", "[2 'a' 'a' end"] {
         let value = value_of(&rt, words);
-        must(&rt, value.to_writer_binary(rt.alloc(), &mut device));
+        let written = value.to_writer_binary(rt.alloc(), &mut device);
+        drop(value);
+        must(&rt, written);
     }
     expect_two_sent(&rt, &device);
 }

@@ -10,7 +10,9 @@ use std::process::Abort;
 pub(crate) fn value_of(rt: &(impl Abort + AllocGlobal), words: &str) -> Value {
     let mut builder = Builder::new(rt.alloc());
     write_all(rt, &mut builder, words);
-    must(rt, builder.finish())
+    let value = must(rt, builder.finish());
+    drop(builder);
+    value
 }
 
 // Returns the words of a value's events.
@@ -34,7 +36,11 @@ pub(crate) fn expect_value(
     wanted: &str,
 ) {
     let words = match found {
-        Ok(value) => words_of_value(rt, &value),
+        Ok(value) => {
+            let words = words_of_value(rt, &value);
+            drop(value);
+            words
+        }
         Err(error) => must(rt, error.to_string(rt.alloc())),
     };
     same(rt, "the value", &words.as_str(), &wanted);
