@@ -9,17 +9,17 @@ use std::process::Abort;
 // Writes an array of a scalar of each kind and an empty dictionary, by the writer's own methods.
 // What is built shows whether they succeed.
 fn write_scalars<W: Writer>(writer: &mut W, date: Date) {
-    drop(writer.write_start_array(None));
-    drop(writer.write_boolean(true));
-    drop(writer.write_data(CowSlice::Borrowed(&[0, 255])));
-    drop(writer.write_date(date));
-    drop(writer.write_integer(Integer::from(7u8)));
-    drop(writer.write_real(RealBits::Four([63, 192, 0, 0])));
-    drop(writer.write_string(CowStr::Borrowed("x")));
-    drop(writer.write_uid(Uid::new(4)));
-    drop(writer.write_start_dictionary(None));
-    drop(writer.write_end_collection());
-    drop(writer.write_end_collection());
+    let _ = writer.write_start_array(None);
+    let _ = writer.write_boolean(true);
+    let _ = writer.write_data(CowSlice::Borrowed(&[0, 255]));
+    let _ = writer.write_date(date);
+    let _ = writer.write_integer(Integer::from(7u8));
+    let _ = writer.write_real(RealBits::Four([63, 192, 0, 0]));
+    let _ = writer.write_string(CowStr::Borrowed("x"));
+    let _ = writer.write_uid(Uid::new(4));
+    let _ = writer.write_start_dictionary(None);
+    let _ = writer.write_end_collection();
+    let _ = writer.write_end_collection();
 }
 
 #[test]
