@@ -20,8 +20,9 @@ NAME = re.compile(r"\b[A-Z]\w*\b")
 
 
 def code_of(path):
-    """Returns a file without its comments and its ghost lines."""
+    """Returns a file without its comments, its ghost lines and the names of associated types."""
     text = re.sub(r"//[^\n]*", "", path.read_text())
+    text = re.sub(r"\bSelf::[A-Z]\w*", "Self", text)
     return re.sub(r"(?ms)^\s*ghost [^;]*;\n", "", text)
 
 

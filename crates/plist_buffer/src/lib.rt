@@ -17,3 +17,4 @@ pub mod stored_scalar;
 
 pub use event_table::EventTable;
 pub use expects::{Expect, Transition};
+pub use stored_scalar::ScalarRef;
