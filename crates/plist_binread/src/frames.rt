@@ -1,6 +1,6 @@
 //! Stores the open collections compactly.
 
-ghost use Rattle.std.specs.Prelude.{◌≡◌, [], ◌∷◌, ◌++◌, None, reverse, IfSome, OnOk, OnErr};
+ghost use Rattle.std.specs.Prelude.{◌≡◌, [], ◌∷◌, ◌++◌, None, reverse, OnOk, OnErr};
 ghost use Rattle.plist_binread.specs.Frames.{NextOf, frame_of, widened, with_innermost};
 
 use plist_base::{Compact, CompactList};
