@@ -18,7 +18,7 @@ StopsFile OutOfMemory tree = ⊤
 StopsFile kind tree = ⊥
 
 -- the fault says why a file of the tree isn't stored: its kind is `Io`, or one for which no file is
--- made; no word says what is stored then, since the contents of files aren't modelled
+-- made; nothing is said of what is stored then, since the contents of files aren't modelled
 abbrev pub IsUnstored : Tree → Fault → Type 0
 IsUnstored tree fault =
     (fault.offset ≡ None) × MatchFault fault.kind ⊤ ⊤ (StopsFile fault.kind tree)
