@@ -37,6 +37,13 @@ HasEndedAscii reader = reader.input.ended ≡ true
 abbrev pub untaken_bytes : {R : Type 0} → (R → Option (List ℕ)) → AsciiReader R → Option (List ℕ)
 untaken_bytes known reader = unread known reader.input
 
+-- the items that a reader hasn't yielded yet, if its bytes are known
+abbrev pub ascii_items_to_come : {R : Type 0} → (R → Option (List ℕ)) → AsciiReader R
+    → Option (List Item)
+ascii_items_to_come known reader =
+    option_map (λ bytes. items_of_ascii (ends_bare (dialect_of reader)) bytes (place_of reader))
+    (untaken_bytes known reader)
+
 -- the bytes that can be taken, which are at most 2^64 - 1
 abbrev pub readable : Option (List ℕ) → Option (List ℕ)
 readable known = option_map (λ bytes. take (2 ^ 64 - 1) bytes) known

@@ -60,6 +60,11 @@ limited_from limits admitted level (Err fault ∷ items) = Err fault ∷ []
 abbrev pub limited_items : Limits → List Item → List Item
 limited_items limits items = limited_from limits 0 0 items
 
+-- the items that limits admit, or all of them without limits
+abbrev pub items_within : Option Limits → List Item → List Item
+items_within None items = items
+items_within (Some limits) items = limited_items limits items
+
 -- ---- the items that a counter under limits admits
 
 -- the items of a list that the counter admits

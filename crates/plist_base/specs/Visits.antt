@@ -28,6 +28,12 @@ plain_item None = None
 plain_item (Some (Ok event)) = Some (Ok (event_of event))
 plain_item (Some (Err error)) = Some (Err error)
 
+-- the item, in which a value is replaced by this event
+abbrev pub item_with : {A : Type 0} → Option (Result A Error) → PlainEvent → PlainItem
+item_with None event = None
+item_with (Some (Ok value)) event = Some (Ok event)
+item_with (Some (Err error)) event = Some (Err error)
+
 -- a call of an iterator's `next` yields this item
 abbrev pub YieldsPlain : {I : Type 0} → (next_gives : I → Option (Result Event Error) → I → Type 0)
     → I → PlainItem → I → Type 0

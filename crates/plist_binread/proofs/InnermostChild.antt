@@ -5,7 +5,7 @@ use Rattle.std.proofs.lemmas.Bool.{lt-ltb}
 use Rattle.std.proofs.Math.Seq.{drop-cons}
 use Rattle.plist_base.specs.Events.{PlainEvent, EndCollection, Item}
 use Rattle.plist_binread.specs.declared.frames.Frame.{Frame}
-use Rattle.plist_binread.specs.Frames.{advanced}
+use Rattle.plist_binread.specs.Frames.{frame_of}
 use Rattle.plist_decode.specs.Packed.{KeepsOtherTags}
 use Rattle.plist_format.specs.Unfolding.{TableEntry, unfolding_of, until_fault}
 use Rattle.plist_decode.specs.declared.head.Bounds.{Bounds}
@@ -13,6 +13,10 @@ use Rattle.plist_binread.specs.Remaining.{path_of, MarksOpenPath, MatchesFile, c
 use Rattle.std.proofs.lemmas.List.{drop_all, get_or_default}
 use Rattle.plist_binread.proofs.OpenObjects.{first_below, first_open}
 use Rattle.plist_binread.proofs.WalkInvariant.{known_closed, known_with}
+
+-- the frame after its next child was taken
+abbrev advanced : Frame → Frame
+advanced frame = frame_of frame.object (frame.next + 1) frame.count
 
 pub next_path : (tags : List ℕ) (f : Frame) (fs : List Frame) → MarksOpenPath tags (f ∷ fs)
     → MarksOpenPath tags (advanced f ∷ fs)

@@ -8,8 +8,8 @@ use Rattle.plist_base.specs.declared.limits.LimitCounter.{LimitCounter}
 use Rattle.plist_base.specs.Events.{Item, PlainEvent}
 use Rattle.plist_base.specs.Faults.{Fault, FaultKind, Io, LimitReached, MatchFault, OutOfMemory, error_kind_of, fault_of, kind_of}
 use Rattle.plist_base.specs.Limits.{Admits, event_or_limit, limited_by}
-use Rattle.plist_base.specs.Visits.{Flow, PlainItem, TakesTurn}
-use Rattle.plist_binread.specs.BinaryReader.{GivesAs, Steps, Walks, has_limits, is_new, item_with, unlimited_items}
+use Rattle.plist_base.specs.Visits.{Flow, PlainItem, TakesTurn, item_with}
+use Rattle.plist_binread.specs.BinaryReader.{GivesAs, Steps, Walks, has_limits, is_new, unlimited_items}
 use Rattle.plist_decode.specs.FaultOffsets.{ItemGivenWithin, MatchGiven}
 use Rattle.plist_binread.specs.Handovers.{HandsItem, TakesWithin}
 use Rattle.plist_binread.specs.Remaining.{AllocatesFirst, SomeRemain, cached_count}

@@ -11,12 +11,12 @@ use Rattle.plist_binread.specs.declared.reader.BinaryReader.{BinaryReader}
 use Rattle.plist_binread.specs.declared.reader.WalkState.{WalkState}
 use Rattle.plist_binread.specs.declared.reader.WalkState.TheVariants.{Fresh, Walking}
 use Rattle.plist_binread.specs.Walking.{IsBounded, IsCachedIfSmall, IsKnownWalk, cached_in, open_in, remaining_in, walk_objects, weight_in}
-use Rattle.plist_binread.specs.BinaryReader.{Walks, item_with}
+use Rattle.plist_binread.specs.BinaryReader.{Walks}
 use Rattle.plist_binread.specs.Remaining.{CountsObjects, entries_of, is_fresh, is_walking, next_number, objects_in_head, state_after, walk_steps}
 use Rattle.plist_decode.specs.FaultOffsets.{ErrWithin, ItemWithin}
 use Rattle.plist_binread.specs.Step.{LightensNext, YieldsItem, YieldsNext, YieldsRoot}
 use Rattle.plist_base.specs.Events.{PlainEvent}
-use Rattle.plist_base.specs.Visits.{Flow}
+use Rattle.plist_base.specs.Visits.{Flow, item_with}
 use Rattle.plist_decode.specs.declared.fault_slot.StepError.{StepError}
 use Rattle.plist_decode.specs.Slot.{SlotCountsIo, ItemSlotCountsIo, result_in, item_in}
 use Rattle.plist_base.proofs.Refusals.{MatchFault-all}

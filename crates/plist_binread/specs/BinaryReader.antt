@@ -3,7 +3,6 @@ use Rattle.std.specs.Prelude.{◌≡◌, ℕ, ◌+◌, ◌^◌, ◌<◌, ◌≤�
 use Rattle.std.specs.Option.{is_some}
 use Rattle.plist_base.specs.declared.error.Error.{Error}
 use Rattle.plist_base.specs.declared.event.Event.{Event}
-use Rattle.plist_base.specs.declared.limits.LimitCounter.{LimitCounter}
 use Rattle.plist_base.specs.declared.source.Source.{Ghosts}
 use Rattle.plist_base.specs.Events.{PlainEvent, Item, event_of}
 use Rattle.plist_base.specs.FirstItems.{GivesFirst, MatchItem}
@@ -44,10 +43,6 @@ abbrev pub upcoming_number : List ℕ → WalkState → Bounds → List Frame �
 upcoming_number bytes Fresh bounds frames = root_with (head_of bytes)
 upcoming_number bytes Walking bounds frames = next_number (entries_of bytes bounds) (reverse frames)
 upcoming_number bytes Ended bounds frames = None
-
--- the items of a file, cut by the limits if there are any
-abbrev pub file_under : Option LimitCounter → List ℕ → List Item
-file_under limiter bytes = limited_by_any limiter (items_of_file bytes)
 
 module _ {R C : Type 0} {g : Ghosts R} {h : CounterGhosts C} where
   -- the source of the reader
@@ -159,17 +154,3 @@ module _ {R C : Type 0} {g : Ghosts R} {h : CounterGhosts C} (old : BinaryReader
   -- one step of the walk, without regard to limits
   abbrev pub Walks : PlainItem → (new : BinaryReader R C g h) → Type 0
   Walks item new = StepsBy unlimited_items (λ _. false) item new
-
-  -- the reader has ended, and everything else in it is unchanged
-  pub record EndsThere (new : BinaryReader R C g h) : Type 0 where
-    pub ended : HasEndedBinary new
-    pub source : new.source ≡ old.source
-    pub decoder : new.decoder ≡ old.decoder
-    pub walk : new.walk ≡ old.walk
-    pub limiter : new.limiter ≡ old.limiter
-
--- the item, in which a value is replaced by this event
-abbrev pub item_with : {A : Type 0} → Option (Result A Error) → PlainEvent → PlainItem
-item_with None event = None
-item_with (Some (Ok value)) event = Some (Ok event)
-item_with (Some (Err error)) event = Some (Err error)

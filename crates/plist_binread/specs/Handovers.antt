@@ -36,10 +36,6 @@ module _ {V : Type 0} (step : V → PlainEvent → Flow → V → Type 0) (old n
       pub is : P event
       pub taken : TakesIfAny item event
 
-  -- an event satisfies `P`, and the visitor took it unless the result is an error
-  abbrev pub Hands : Result Flow StepError → (P : PlainEvent → Type 0) → Type 0
-  Hands answer P = HandsItem (Some answer) P
-
 module _ {V : Type 0} (step : V → PlainEvent → Flow → V → Type 0) where
   -- an event, which is what contracts see of some `Event`, is passed on to the inner visitor
   pub record PassesOn (old : Relay V) (event : PlainEvent) (flow : Flow) (new : Relay V) : Type 0

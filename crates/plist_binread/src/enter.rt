@@ -8,7 +8,7 @@ ghost use Rattle.plist_binread.specs.Step.{YieldsResult, IsFound, IsLighterEnter
 ghost use Rattle.plist_decode.specs.FaultOffsets.{ErrWithin};
 ghost use Rattle.plist_decode.specs.Decoded.{small_count};
 ghost use Rattle.plist_binread.specs.ObjectEvents.{FitsWalk};
-ghost use Rattle.plist_binread.specs.Handovers.{Hands};
+ghost use Rattle.plist_binread.specs.Handovers.{HandsItem};
 ghost use Rattle.plist_decode.specs.declared.decoded.Decoded.TheVariants.{Collection as OpenCollection};
 ghost use Rattle.plist_decode.specs.Slot.{SlotCountsIo, result_in};
 
@@ -155,7 +155,7 @@ pub fn enter<S: Source, C: DecodeCounter, V: EventVisitor>(
     requires known { IsKnownWalk (S.known source.old) decoder.old.bounds walk.old }
     requires counted { C.counts → C.count decoder.old.counter ≡ cached_in walk.old }
     // Result.
-    ensures handed { Hands V.step visitor.old visitor.new result (λ event.
+    ensures handed { HandsItem V.step visitor.old visitor.new (Some result) (λ event.
         IfSome (S.known source.old) (λ bytes.
         YieldsResult
         (remaining_entering bytes decoder.old.bounds walk.old reference.at reference.number)

@@ -1,7 +1,7 @@
 //! Stores the open collections compactly.
 
 ghost use Rattle.std.specs.Prelude.{◌≡◌, [], ◌∷◌, ◌++◌, None, reverse, OnOk, OnErr};
-ghost use Rattle.plist_binread.specs.Frames.{NextOf, frame_of, widened, with_innermost};
+ghost use Rattle.plist_binread.specs.Frames.{NextOf, frame_of, with_innermost};
 
 use plist_base::{Compact, CompactList};
 use std::alloc::{AllocError, Global};
@@ -31,11 +31,11 @@ pub struct NarrowFrame {
 
 /// A frame has a smaller form if its numbers fit into four bytes each.
 impl Compact for Frame {
-    ghost use Rattle.plist_binread.specs.Frames.{widened};
+    ghost use Rattle.plist_binread.specs.Frames.{frame_of};
 
     type Narrow = NarrowFrame;
 
-    ghost widened = { widened };
+    ghost widened = { λ narrow. frame_of narrow.object narrow.next narrow.count };
 
     #[inline(always)]
     fn narrowed(self) -> Option<NarrowFrame> {

@@ -1,6 +1,6 @@
 //! Hands decoded objects to a visitor.
 
-ghost use Rattle.std.specs.Prelude.{◌≡◌, false, true, OnOk};
+ghost use Rattle.std.specs.Prelude.{◌≡◌, Some, false, true, OnOk};
 ghost use Rattle.plist_format.specs.Object.{date, text, wide_text};
 ghost use Rattle.plist_decode.specs.CountedContent.{AreUnits, content_means, unit_size};
 ghost use Rattle.plist_decode.specs.Decoded.{EndsIn64Bits, FailsInContent, FitsBefore, IsLong, IsLongBytes, small_count};
@@ -8,7 +8,7 @@ ghost use Rattle.plist_binread.specs.ObjectEvents.{SetsContentAt, SetsDecoded, S
 ghost use Rattle.plist_decode.specs.Decoding.{start_event};
 ghost use Rattle.plist_decode.specs.FaultOffsets.{ErrWithin};
 ghost use Rattle.plist_base.specs.Events.{ScalarEvent};
-ghost use Rattle.plist_binread.specs.Handovers.{Hands, HandsRead};
+ghost use Rattle.plist_binread.specs.Handovers.{HandsItem, HandsRead};
 ghost use Rattle.plist_decode.specs.Packed.{content_bytes, is_packed, is_small_event, unpacked};
 ghost use Rattle.plist_decode.specs.Slot.{SlotCountsIo, result_in};
 ghost use Rattle.plist_decode.specs.declared.decoded.ContentKind.TheVariants.{Text as KindText};
@@ -64,7 +64,7 @@ fn hand_date<V: EventVisitor>(
     slot: &mut FaultSlot,
     visitor: &mut V,
 ) -> Result<ControlFlow<()>, StepError>
-    ensures { Hands V.step visitor.old visitor.new result
+    ensures { HandsItem V.step visitor.old visitor.new (Some result)
         (SetsLarge (date (content_bytes content)) place result slot.new) }
 {
     match Date::from_plist_real(content.to_be_bytes()) {
@@ -79,7 +79,7 @@ fn hand_read<V: EventVisitor>(
     slot: &mut FaultSlot,
     visitor: &mut V,
 ) -> Result<ControlFlow<()>, StepError>
-    ensures { Hands V.step visitor.old visitor.new result
+    ensures { HandsItem V.step visitor.old visitor.new (Some result)
         (HandsRead read.entry (result_in result slot.new)) }
 {
     match read {
@@ -98,7 +98,7 @@ fn hand_text<V: EventVisitor>(
     visitor: &mut V,
 ) -> Result<ControlFlow<()>, StepError>
     requires { IsLongBytes KindText bytes.now }
-    ensures { Hands V.step visitor.old visitor.new result
+    ensures { HandsItem V.step visitor.old visitor.new (Some result)
         (SetsLarge (text bytes.now) place result slot.new) }
 {
     match text_in(bytes) {
@@ -118,7 +118,7 @@ fn hand_long_wide_text<V: EventVisitor>(
     visitor: &mut V,
 ) -> Result<ControlFlow<()>, StepError>
     requires { AreUnits 2 bytes.now }
-    ensures { Hands V.step visitor.old visitor.new result
+    ensures { HandsItem V.step visitor.old visitor.new (Some result)
         (SetsLarge (wide_text bytes.now) place result slot.new) }
 {
     let read = wide_text_event(slot.alloc, bytes, place);
@@ -139,7 +139,7 @@ fn hand_wide_text<V: EventVisitor>(
     visitor: &mut V,
 ) -> Result<ControlFlow<()>, StepError>
     requires { AreUnits 2 bytes.now }
-    ensures { Hands V.step visitor.old visitor.new result
+    ensures { HandsItem V.step visitor.old visitor.new (Some result)
         (SetsLarge (wide_text bytes.now) place result slot.new) }
 {
     if bytes.len() > 2 * MAX_UNITS {
@@ -165,7 +165,7 @@ pub fn hand_bytes<V: EventVisitor>(
 ) -> Result<ControlFlow<()>, StepError>
     requires units { AreUnits (unit_size kind) bytes.now }
     requires long { IsLongBytes kind bytes.now }
-    ensures { Hands V.step visitor.old visitor.new result
+    ensures { HandsItem V.step visitor.old visitor.new (Some result)
         (SetsLarge (content_means kind bytes.now) place result slot.new) }
 {
     match kind {
@@ -188,7 +188,7 @@ fn hand_far<S: Source, V: EventVisitor>(
     requires fits { EndsIn64Bits place content }
     requires long { IsLong content }
     // Result.
-    ensures handed { Hands V.step visitor.old visitor.new result (λ event.
+    ensures handed { HandsItem V.step visitor.old visitor.new (Some result) (λ event.
         SetsContentAt (S.known source.old) place content (result_in result slot.new) event
         × OnOk result (is_small_event event ≡ false)) }
     // Errors.
@@ -224,7 +224,7 @@ pub fn hand_decoded<S: Source, C: DecodeCounter, V: EventVisitor>(
 ) -> Result<ControlFlow<()>, StepError>
     requires { FitsBefore decoder.old.bounds.trailer place decoded }
     // Result.
-    ensures handed { Hands V.step visitor.old visitor.new result (λ event.
+    ensures handed { HandsItem V.step visitor.old visitor.new (Some result) (λ event.
         SetsDecoded (S.known source.old) decoder.old.bounds place decoded
         (result_in result decoder.new.slot) event
         × OnOk result (is_small_event event ≡ true → small_count decoded ≡ 1)) }

@@ -1,10 +1,10 @@
 //! Takes the steps of a walk: reads the head and enters the root, or advances by one event.
 
-ghost use Rattle.std.specs.Prelude.{◌≡◌, ◌^◌, ◌<◌, replicate, IfOk, IfSome, OnOk};
+ghost use Rattle.std.specs.Prelude.{◌≡◌, ◌^◌, ◌<◌, Some, replicate, IfOk, IfSome, OnOk};
 ghost use Rattle.plist_base.specs.Outcomes.{OnlyMemory};
 ghost use Rattle.plist_binread.specs.Remaining.{CountsObjects, walk_steps};
 ghost use Rattle.plist_decode.specs.FaultOffsets.{ErrWithin, ItemWithin};
-ghost use Rattle.plist_binread.specs.Handovers.{Hands, HandsItem};
+ghost use Rattle.plist_binread.specs.Handovers.{HandsItem};
 ghost use Rattle.plist_decode.specs.Slot.{SlotCountsIo, result_in, ItemSlotCountsIo, item_in};
 ghost use Rattle.plist_binread.specs.Walking.{IsBounded, IsEmptyWalk, IsKnownWalk, cached_in, walk_objects, weight_in};
 ghost use Rattle.plist_binread.specs.Step.{LightensNext, YieldsItem, YieldsRoot};
@@ -44,7 +44,7 @@ pub fn begin<S: Source, C: DecodeCounter, V: EventVisitor>(
     requires empty { IsEmptyWalk walk.old }
     requires counted { C.counts → C.count decoder.old.counter ≡ cached_in walk.old }
     // Result.
-    ensures handed { Hands V.step visitor.old visitor.new result (λ event.
+    ensures handed { HandsItem V.step visitor.old visitor.new (Some result) (λ event.
         YieldsRoot (S.known source.old) decoder.new.bounds (result_in result decoder.new.slot) event
         walk.new) }
     // Errors.

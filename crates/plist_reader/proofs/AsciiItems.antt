@@ -28,7 +28,7 @@ use Rattle.plist_ascii.specs.declared.dialect.Dialect.{Dialect}
 use Rattle.plist_ascii.specs.Texts.{ends_bare}
 use Rattle.plist_reader.specs.declared.reader.State.{State}
 use Rattle.plist_reader.specs.declared.reader.State.TheVariants as state
-use Rattle.plist_reader.specs.Reader.{AsciiReaderOf, AsciiGives, state_items, stream_bytes_left, buffered_bytes, items_in_format, items_of_dialect, ascii_items_to_come, IsReaderFault, StateGives}
+use Rattle.plist_reader.specs.Reader.{AsciiReaderOf, AsciiGives, state_items, stream_bytes_left, buffered_bytes, items_in_format, items_of_dialect, IsReaderFault, StateGives}
 use Rattle.plist_decode.specs.declared.format.Format.TheVariants as format
 use Rattle.plist_decode.specs.Formats.{format_of, input_front}
 use Rattle.plist_reader.proofs.ReaderItems.{EndsAfter, Given, IsReaderItem, StopsIfKnown, chosen-gives, input_within, one-remain}
@@ -208,7 +208,7 @@ fresh-text : {R : Type 0} (known : R → Option (List ℕ)) (dialect : Dialect) 
     → ascii.untaken_bytes (stream_bytes_left known) reader
     ≡ option_map input_front (stream_bytes_left known sequence)
     → ascii.place_of reader ≡ 0 → ascii.dialect_of reader ≡ dialect
-    → ascii_items_to_come known reader ≡ option_map (items_of_dialect dialect) (known source)
+    → ascii.ascii_items_to_come (stream_bytes_left known) reader ≡ option_map (items_of_dialect dialect) (known source)
 fresh-text known dialect source sequence reader from at none is bytes place chosen =
     ap (λ d. option_map (λ b. items_of_ascii (ends_bare d) b (ascii.place_of reader))
     (ascii.untaken_bytes (stream_bytes_left known) reader)) chosen
@@ -257,9 +257,9 @@ module _ {R : Type 0} {g : Ghosts R} (known : R → Option (List ℕ)) (failed :
   over-gives : (old : LimitedItems (AsciiReaderOf R) LimitCounter) → old.ended ≡ true
       → StateGives {R = R} {g = g} known failed (state.Limited old) None (state.Limited old)
   over-gives old over = record {
-    items = none_allowed event_of (items_admitted old) (ascii_items_to_come known (iterator_of old))
+    items = none_allowed event_of (items_admitted old) (ascii.ascii_items_to_come (stream_bytes_left known) (iterator_of old))
         (λ items. rw over refl);
-    stops = stays (ascii_items_to_come known (iterator_of old));
+    stops = stays (ascii.ascii_items_to_come (stream_bytes_left known) (iterator_of old));
     failures = refl;
     ended = λ _. refl;
     ends = over;
@@ -288,10 +288,10 @@ module _ {R : Type 0} {g : Ghosts R} (known : R → Option (List ℕ)) (failed :
           record {
             items = first_allowed_if_known limited_by IsLimitReached (λ limiter. refl)
                 (λ limiter fault items. refl) old.limiter new.limiter old.ended new.ended
-                (ascii_items_to_come known old.inner) (ascii_items_to_come known new.inner) asked
+                (ascii.ascii_items_to_come (stream_bytes_left known) old.inner) (ascii.ascii_items_to_come (stream_bytes_left known) new.inner) asked
                 item going inner.items passes;
             stops = limited-stops old.ended new.ended old.limiter new.limiter
-                (ascii_items_to_come known old.inner) (ascii_items_to_come known new.inner) asked
+                (ascii.ascii_items_to_come (stream_bytes_left known) old.inner) (ascii.ascii_items_to_come (stream_bytes_left known) new.inner) asked
                 item going inner.stops passes;
             failures = passes-count new.ended old.limiter new.limiter asked item
                 (failed (ascii.device_of old.inner).source)
@@ -336,7 +336,7 @@ module _ {R : Type 0} {g : Ghosts R} (known : R → Option (List ℕ)) (failed :
       is bytes place chosen h =
       let gives = limited-gives old new item h in
       chosen-gives {g = g} known failed source (Some limits) dialect (state.Limited old) (state.Limited new) item
-      ((λ i. option_map (come i) (ascii_items_to_come known (is-fresh i)))
+      ((λ i. option_map (come i) (ascii.ascii_items_to_come (stream_bytes_left known) (is-fresh i)))
       ∙ ap (option_map (limited_items limits))
       (fresh-text known dialect source sequence fresh from at none is bytes place chosen)
       ∙ joined limits dialect (known source)) refl

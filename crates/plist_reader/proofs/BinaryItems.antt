@@ -6,6 +6,7 @@ use Rattle.plist_base.specs.Events.{Item, event_of}
 use Rattle.plist_base.proofs.FirstItems.{first_of_known}
 use Rattle.std.proofs.lemmas.Option.{IfSome_then}
 use Rattle.plist_base.specs.declared.limits.Limits.{Limits}
+use Rattle.plist_base.specs.Limits.{items_within}
 use Rattle.plist_base.specs.Faults.{FaultKind, Io, UnexpectedEof, kind_of, error_kind_of}
 use Rattle.plist_base.specs.Sources.{ItemCountsIo, IsOffsetWithin}
 use Rattle.plist_base.proofs.Refusals.{MatchFault-weaker}
@@ -14,7 +15,7 @@ use Rattle.plist_decode.specs.FaultOffsets.{HasOffset, MatchGiven, ItemGivenWith
 use Rattle.plist_binread.specs.Remaining.{SomeRemain, AllocatesFirst}
 use Rattle.plist_ascii.specs.declared.dialect.Dialect.{Dialect}
 use Rattle.plist_reader.specs.declared.reader.State.TheVariants as state
-use Rattle.plist_reader.specs.Reader.{BinaryReaderOf, items_of_input, items_in_format, items_within, StateGives}
+use Rattle.plist_reader.specs.Reader.{BinaryReaderOf, items_of_input, items_in_format, StateGives}
 use Rattle.plist_decode.specs.declared.format.Format.TheVariants as format
 use Rattle.plist_decode.specs.Formats.{format_of}
 use Rattle.plist_decode.proofs.Fronts.{within-placed}

@@ -8,7 +8,7 @@ use Rattle.plist_base.specs.declared.source.Source.{Ghosts}
 use Rattle.plist_base.specs.Events.{Item, event_of}
 use Rattle.plist_base.specs.FirstItems.{GivesFirst, GivesFirstIfKnown, MatchItem}
 use Rattle.plist_base.specs.declared.limits.Limits.{Limits}
-use Rattle.plist_base.specs.Limits.{limited_items}
+use Rattle.plist_base.specs.Limits.{items_within, limited_items}
 use Rattle.plist_base.specs.Faults.{FaultKind, Fault, Io, MatchFault, XmlUnsupported, IsIo, fault_at, kind_of, error_kind_of, fault_of}
 use Rattle.plist_base.specs.Outcomes.{IfFault}
 use Rattle.plist_base.specs.Sources.{ItemCountsIo}
@@ -19,7 +19,7 @@ use Rattle.plist_ascii.specs.declared.dialect.Dialect.{Dialect}
 use Rattle.plist_binread.specs.Remaining.{SomeRemain}
 use Rattle.plist_reader.specs.declared.reader.State.{State}
 use Rattle.plist_reader.specs.declared.reader.State.TheVariants as state
-use Rattle.plist_reader.specs.Reader.{BeginsInside, state_items, is_limited_in, items_in_format, items_of_dialect, items_within, IsReaderFault, StateGives, HoldsSource, source_in}
+use Rattle.plist_reader.specs.Reader.{BeginsInside, state_items, is_limited_in, items_in_format, items_of_dialect, IsReaderFault, StateGives, HoldsSource, source_in}
 use Rattle.plist_decode.specs.declared.format.Format.TheVariants as format
 use Rattle.plist_decode.specs.Formats.{format_of}
 

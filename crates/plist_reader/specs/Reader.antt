@@ -7,7 +7,7 @@ use Rattle.plist_base.specs.declared.limited_items.LimitedItems.{LimitedItems}
 use Rattle.plist_base.specs.declared.limits.Limits.{Limits}
 use Rattle.plist_base.specs.declared.limits.LimitCounter.{LimitCounter}
 use Rattle.plist_base.specs.Allowances.{HasEndedLimited, iterator_of}
-use Rattle.plist_base.specs.Limits.{GivesLimited, items_admitted, limited_items}
+use Rattle.plist_base.specs.Limits.{GivesLimited, items_admitted, items_within}
 use Rattle.plist_base.specs.Faults.{Fault, IsIo, XmlUnsupported, fault_of, fault_at}
 use Rattle.plist_base.specs.Events.{Item, event_of}
 use Rattle.plist_base.specs.FirstItems.{GivesFirstIfKnown, MatchItem}
@@ -50,11 +50,6 @@ items_of_dialect dialect bytes = items_in_format dialect (format_of bytes) bytes
 abbrev pub items_of_input : List ℕ → List Item
 items_of_input bytes = items_of_dialect Lax bytes
 
--- the items that limits admit, or all of them without limits
-abbrev pub items_within : Option Limits → List Item → List Item
-items_within None items = items
-items_within (Some limits) items = limited_items limits items
-
 -- the buffered bytes, which were read from the source but not consumed yet
 abbrev pub buffered_bytes : {R : Type 0} → BufferedSource R → List ℕ
 buffered_bytes reader = drop reader.from (take reader.end reader.window)
@@ -73,14 +68,6 @@ BinaryReaderOf R g = BinaryReader R Uncounted g ghosts
 abbrev pub AsciiReaderOf : Type 0 → Type 0
 AsciiReaderOf R = AsciiReader (BufferedSource R)
 
--- the items that a reader of ASCII hasn't yielded yet, if the source's bytes are known
-abbrev pub ascii_items_to_come : {R : Type 0} (known : R → Option (List ℕ)) → AsciiReaderOf R
-    → Option (List Item)
-ascii_items_to_come known reader =
-    let stops = ends_bare (ascii.dialect_of reader) in
-    option_map (λ bytes. items_of_ascii stops bytes (ascii.place_of reader))
-    (ascii.untaken_bytes (stream_bytes_left known) reader)
-
 module _ {R : Type 0} {g : Ghosts R} (known : R → Option (List ℕ)) where
   -- the remaining items, of the source or of the chosen reader, if the source's bytes are known
   abbrev pub state_items : State R g → Option (List Item)
@@ -88,9 +75,9 @@ module _ {R : Type 0} {g : Ghosts R} (known : R → Option (List ℕ)) where
       option_map (λ bytes. items_within limits (items_of_dialect dialect bytes)) (known source)
   state_items (state.Binary reader) =
       option_map (λ bytes. binary.items_to_come bytes reader) (known (binary.binary_source reader))
-  state_items (state.Ascii reader) = ascii_items_to_come known reader
-  state_items (state.Limited reader) = option_map (items_admitted reader) (ascii_items_to_come known
-      (iterator_of reader))
+  state_items (state.Ascii reader) = ascii.ascii_items_to_come (stream_bytes_left known) reader
+  state_items (state.Limited reader) = option_map (items_admitted reader)
+      (ascii.ascii_items_to_come (stream_bytes_left known) (iterator_of reader))
   state_items other = Some []
 
 -- the source in a state, or `None` while the first item is read
@@ -119,7 +106,7 @@ HasEndedState (state.Ascii reader) = ascii.HasEndedAscii reader
 HasEndedState (state.Limited reader) = HasEndedLimited reader
 HasEndedState other = ⊤
 
--- does a reader in this state have limits?
+-- whether a reader in this state has limits
 abbrev pub is_limited_in : {R : Type 0} {g : Ghosts R} → State R g → Bool
 is_limited_in (state.Unread source limits dialect) = is_some limits
 is_limited_in (state.Binary reader) = binary.has_limits reader
@@ -156,8 +143,7 @@ HoldsSource failed old item new = IfSome old (λ source.
 -- one call of the ASCII reader's `next`
 abbrev pub AsciiGives : {R : Type 0} (known : R → Option (List ℕ)) (failed : R → ℕ)
     → AsciiReaderOf R → Option (Result Event Error) → AsciiReaderOf R → Type 0
-AsciiGives known failed =
-    ascii.GivesAscii (stream_bytes_left known) (λ bytes. Some (failed bytes.source))
+AsciiGives known failed = ascii.GivesAscii (stream_bytes_left known) (λ b. Some (failed b.source))
 
 module _ {R : Type 0} {g : Ghosts R} (known : R → Option (List ℕ)) (failed : R → ℕ) where
   -- the first item is that of a new reader, or a fault because no reader was chosen

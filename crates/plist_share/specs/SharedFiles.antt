@@ -1,7 +1,6 @@
 -- What the sharing writer writes for a tree: a file of it with one object for each different
--- subtree. No file with the same events has fewer objects. The subtrees are the scalars, the keys
--- as strings, and the collections. Two collections that differ only in order or in repeated keys
--- are different.
+-- subtree. The subtrees are the scalars, the keys as strings, and the collections. Two collections
+-- that differ only in order or in repeated keys are different.
 use Rattle.std.specs.Prelude.{◌≡◌, ℕ, ◌^◌, ◌<◌, ◌≤◌, Bool, true, false, ◌&&◌, List, length, map, Ok}
 use Rattle.std.specs.List.{sum_by}
 use Rattle.std.specs.Set.{distinct_count, unique_keys}
@@ -38,8 +37,7 @@ abbrev mutual
       bytes_eq k l && (tree_eq t u && members_eq ms ns)
   members_eq ms ns = false
 
--- the tree and all trees in it, with each key as a string, in the order of their events (`positions`
--- also has their indices)
+-- the tree and all trees in it, with each key as a string, in the order of their events
 abbrev pub subtrees : Tree → List Tree
 subtrees tree = map (λ (one : ℕ × Tree). one.1) (positions tree 0)
 
@@ -54,10 +52,9 @@ IsLeastOfAll tree = (file : List ℕ) → items_of_file file ≡ map Ok (bracket
 
 -- the number of bytes of the whole file, which has one object for each different subtree
 abbrev pub shared_file_size : Tree → ℕ
-shared_file_size tree =
-    let count = distinct_subtrees tree in
-    let objects = sum_by (object_size (reference_width count)) (unique_keys tree_eq (subtrees tree))
-    in size_with count objects
+shared_file_size tree = let count = distinct_subtrees tree in
+    let size = object_size (reference_width count) in
+    size_with count (sum_by size (unique_keys tree_eq (subtrees tree)))
 
 -- the bytes are such a file of the tree
 pub record IsSharedFileOf (tree : Tree) (file : List ℕ) : Type 0 where

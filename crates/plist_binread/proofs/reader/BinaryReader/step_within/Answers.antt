@@ -2,7 +2,8 @@ use Rattle.std.proofs.Common.{◌^◌, Some, refl, rules, sym, ap, arith}
 use Rattle.std.specs.Option.{is_some}
 use Rattle.plist_base.specs.Faults.{fault_of}
 use Rattle.plist_base.specs.Limits.{RefusesAny}
-use Rattle.plist_binread.specs.BinaryReader.{Walks, binary_source, is_new, item_with, unlimited_items}
+use Rattle.plist_base.specs.Visits.{item_with}
+use Rattle.plist_binread.specs.BinaryReader.{Walks, binary_source, is_new, unlimited_items}
 use Rattle.plist_binread.proofs.LimitedSteps.{turns_within}
 use Rattle.plist_decode.specs.Slot.{item_in}
 use Rattle.plist_binread.proofs.ReaderLimits.{limit-current, refused-given, refused-other}
