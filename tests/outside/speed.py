@@ -4,7 +4,8 @@
 Each shape of file is made in some sizes. The programs run in turn. For each program the least
 processor time (user and system) and the greatest peak memory are printed. The other programs are a
 program over the Rust crate `plist` as Debian packages it (librust-plist-dev, built by cargo from
-tests/outside/peer; it reads the whole file into memory first), Python's plistlib, and plistutil
+tests/outside/peer; it reads the whole file into memory first; if the variable PEER is set, it names
+such a program, over any version of the crate), Python's plistlib, and plistutil
 (libplist), which converts the file to XML. Programs that aren't installed are left out. If a
 program fails on a shape, its cell says `fails`. If the first run of a program is short, there are
 more runs, so that a difference of a few milliseconds can be seen. If it is long, there is no second
@@ -250,7 +251,9 @@ def made(path, shape, *size):
 
 
 def peer(folder):
-    """Builds the program over the crate, if cargo and the crate are installed."""
+    """Returns the program over the crate that PEER names, or builds it if cargo and the crate are installed."""
+    if "PEER" in os.environ:
+        return pathlib.Path(os.environ["PEER"])
     if shutil.which("cargo") is None:
         return None
     source = shutil.copytree(HERE / "peer", folder / "peer")

@@ -3,8 +3,8 @@
 
 The files and the programs are those of speed.py, with as many runs. For each program the least
 processor time (user and system) and the greatest peak memory count. There are more shapes: many empty
-arrays, a dictionary of many keys, an array of equal texts, and ASCII project files, which neither the
-crate (1.3.1) nor `plistlib` reads. `plistlib` loads and dumps the value. `plistutil` is left out,
+arrays, a dictionary of many keys, an array of equal texts, and ASCII project files, which neither
+version 1.3.1 of the crate nor `plistlib` reads. `plistlib` loads and dumps the value. `plistutil` is left out,
 because it copies a file that is binary already.
 
 A second table compares the writers alone, on events that are read from memory and written to memory:

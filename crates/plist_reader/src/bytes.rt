@@ -1,8 +1,7 @@
 //! Reads the bytes of a source one after another, from the first one on.
 
-ghost use Rattle.std.specs.Prelude.{◌≡◌, ◌≤◌, Some, slice_get};
+ghost use Rattle.std.specs.Prelude.{◌≡◌, ◌≤◌, Some};
 ghost use Rattle.plist_base.specs.Sources.{CountsFailure};
-ghost use Rattle.plist_base.specs.Outcomes.{DecodesBy};
 
 use plist_ascii::ByteReader;
 use plist_base::Source;

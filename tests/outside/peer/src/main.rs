@@ -19,6 +19,23 @@ const EPOCH: u64 = 978_307_200;
 /// How many bytes of lines are buffered before they are written.
 const FULL: usize = 1 << 16;
 
+/// An event as `Writer::write` takes it: version 1.3 borrows it, 1.8 takes it over.
+trait Handed<'a> {
+    fn of(event: &'a mut Event<'static>) -> Self;
+}
+
+impl<'a> Handed<'a> for &'a Event<'static> {
+    fn of(event: &'a mut Event<'static>) -> Self {
+        event
+    }
+}
+
+impl<'a> Handed<'a> for Event<'static> {
+    fn of(event: &'a mut Event<'static>) -> Self {
+        std::mem::replace(event, Event::EndCollection)
+    }
+}
+
 const fn pairs() -> [[u8; 2]; 256] {
     let digits = b"0123456789abcdef";
     let mut table = [[0; 2]; 256];
@@ -149,7 +166,7 @@ fn main() -> Result<(), Box<dyn std::error::Error>> {
             let mut file = Vec::new();
             let mut writer = BinaryWriter::new(&mut file);
             for event in BinaryReader::new(Cursor::new(bytes)) {
-                writer.write(&event?)?;
+                writer.write(Handed::of(&mut event?))?;
             }
             println!("{}", file.len());
         }
