@@ -1,5 +1,5 @@
 -- What contracts say about a reader: its remaining items, its open collections and its cache.
-use Rattle.std.specs.Prelude.{◌≡◌, ℕ, ◌+◌, ◌^◌, ◌<◌, ◌≤◌, Bool, true, false, List, [], length, reverse, Option, None, Some, Result, Ok, Err, MatchBool, MatchOption, OnErr, IfSome, ⊤}
+use Rattle.std.specs.Prelude.{◌≡◌, ℕ, ◌+◌, ◌^◌, ◌<◌, ◌≤◌, Bool, true, false, List, [], length, reverse, Option, None, Result, MatchBool, MatchOption, OnErr, IfSome, ⊤}
 use Rattle.std.specs.Option.{is_some}
 use Rattle.plist_base.specs.declared.error.Error.{Error}
 use Rattle.plist_base.specs.declared.event.Event.{Event}
