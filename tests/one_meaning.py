@@ -18,7 +18,7 @@ ALLOWED = {
     "Item": (None, ASSOCIATED), "Err": (None, ASSOCIATED), "Output": (None, ASSOCIATED),
     "IntoIter": ({"plist", "plist_pairs"}, ASSOCIATED), "Iter": ({"plist", "plist_pairs"}, NAMED),
     "Values": ({"plist", "plist_pairs"}, NAMED),
-    "Head": ({"plist_format", "plist_decode"}, SEEN), "Trailer": ({"plist_format", "plist_decode"}, SEEN),
+    "Head": ({"plist_base", "plist_decode"}, SEEN), "Trailer": ({"plist_base", "plist_decode"}, SEEN),
 }
 WORD = re.compile(r"\s*((?:(?:abbrev|unfoldable|opaque|pub|data|record)\s+)*)([^\W\d][\w'-]*)\s*(?=[:({])(.*)")
 TYPE = re.compile(r"\s*pub(?:\(crate\))?\s+(?:struct|enum|trait|type)\s+(\w+)")

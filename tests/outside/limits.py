@@ -22,7 +22,7 @@ import peak_memory
 import speed
 
 BEYOND = 2 << 20
-CRATES = ("plist_base", "plist_format", "plist_decode", "plist_binread", "plist_buffer",
+CRATES = ("plist_base", "plist_decode", "plist_binread", "plist_buffer",
           "plist_binwrite", "plist_ascii", "plist_pairs", "plist_reader", "plist")
 REACHED = b"OutOfMemory\n"
 VALUE = b"a value\n"

@@ -285,7 +285,7 @@ def built(folder, name, crates, uses, words):
 
 def items_program(folder):
     """Builds the program over `BinaryReader`."""
-    return built(folder, "items", ("plist_base", "plist_format", "plist_decode", "plist_binread"),
+    return built(folder, "items", ("plist_base", "plist_decode", "plist_binread"),
                  "plist_base plist_binread", ["no_such_file"])
 
 

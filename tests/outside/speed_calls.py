@@ -18,7 +18,7 @@ import tempfile
 import time
 
 HERE = pathlib.Path(__file__).resolve().parent
-CRATES = ("plist_base", "plist_format", "plist_decode", "plist_binread", "plist_buffer", "plist_binwrite",
+CRATES = ("plist_base", "plist_decode", "plist_binread", "plist_buffer", "plist_binwrite",
           "plist_ascii", "plist_reader", "plist_pairs", "plist")
 RUNS = 5
 KEYS = 100_000

@@ -21,7 +21,7 @@ import tempfile
 import speed
 
 HERE = pathlib.Path(__file__).resolve().parent
-CRATES = ("plist_base", "plist_format", "plist_decode", "plist_binread", "plist_buffer",
+CRATES = ("plist_base", "plist_decode", "plist_binread", "plist_buffer",
           "plist_binwrite", "plist_share", "plist_ascii", "plist_reader")
 USES = "plist_base plist_binread plist_binwrite plist_share plist_reader"
 RUNS = 5

@@ -13,7 +13,7 @@ use Rattle.plist_ascii.specs.Texts.{ends_bare}
 use Rattle.plist_ascii.specs.Unread.{IfKnown}
 use Rattle.plist_base.specs.declared.source.Source.{Ghosts}
 use Rattle.plist_binread.specs.declared.reader.BinaryReader.{BinaryReader}
-use Rattle.plist_format.specs.Unfolding.{items_of_file}
+use Rattle.plist_base.specs.Unfolding.{items_of_file}
 use Rattle.plist_reader.specs.Reader.{items_of_dialect}
 use Rattle.plist_decode.specs.Formats.{input_front, format_of}
 use Rattle.plist_reader.proofs.AsciiItems.{ascii-goes}
@@ -28,7 +28,7 @@ use Rattle.plist.specs.Events.{GivesEvent, remaining_events}
 use Rattle.plist_base.proofs.Refusals.{MatchFault-at}
 use Rattle.plist_decode.specs.declared.counter.DecodeCounter.{Ghosts as CounterGhosts}
 use Rattle.plist_base.specs.Bracketing.{bracketing}
-use Rattle.plist_format.specs.Container.{magic}
+use Rattle.plist_base.specs.Container.{magic}
 use Rattle.plist_binwrite.specs.Written.{IsWrittenAs}
 use Rattle.plist.specs.ValueTrees.{tree_of}
 use Rattle.plist.proofs.PredictedItems.{back, only-memory}

@@ -4,7 +4,11 @@ use Rattle.std.specs.List.{list_any, AllByRecursion, IsDistinct}
 use Rattle.std.proofs.lemmas.Map.Steps.{length-le_from_distinct_below}
 use Rattle.std.proofs.lemmas.Bool.Decides.{eqb_tells}
 use Rattle.std.proofs.lemmas.Bool.{or_parts, or_right}
-use Rattle.plist_base.specs.inner.Paths.{IsPath}
+
+-- each index is below the number of objects, and no object is open twice
+pub record IsPath (count : ℕ) (path : List ℕ) : Type 0 where
+  pub distinct : IsDistinct nat_eq path
+  pub below : (number : ℕ) → list_any (nat_eq number) path ≡ true → number < count
 
 pub none_equal : (i : ℕ) (xs : List ℕ) → list_any (nat_eq i) xs ≡ false
     → AllByRecursion (λ y. nat_eq i y ≡ false) xs

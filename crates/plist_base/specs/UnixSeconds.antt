@@ -1,9 +1,9 @@
 -- The Unix second that the text of a date spells. The text is in a profile of RFC 3339, such as
 -- `2001-01-01T00:00:00Z` or `2001-01-01 01:30:00+01:30`.
-use Rattle.std.specs.Prelude.{◌≡◌, ℕ, ◌+◌, ◌-◌, ◌*◌, nat_le, nat_lt, Bool, if◌then◌else◌, ◌&&◌, ◌||◌, ◌==◌, List, length, slice_index, ℤ, pos, neg_ℤ, ◌+ℤ◌, ◌-ℤ◌, ◌*ℤ◌, ◌≤ℤ◌, ◌<ℤ◌, Option, None, Some, refl, codes}
+use Rattle.std.specs.Prelude.{◌≡◌, ℕ, ◌+◌, ◌-◌, ◌*◌, nat_le, nat_lt, Bool, if◌then◌else◌, ◌&&◌, ◌||◌, ◌==◌, List, length, slice_index, ℤ, pos, neg_ℤ, ◌+ℤ◌, ◌-ℤ◌, ◌*ℤ◌, ◌≤ℤ◌, ◌<ℤ◌, Option, None, Some}
 use Rattle.std.specs.Char.{is_ascii_digit}
 use Rattle.std.specs.Int.{is_in_range}
-use Rattle.jiff_core.specs.Calendar.{days_from_civil, days_in_month, days_of_months, days_of_years, day_count}
+use Rattle.jiff_core.specs.Calendar.{days_from_civil, days_in_month}
 
 -- ---- numbers
 
@@ -103,23 +103,3 @@ abbrev pub HasFourDigitYear : ℤ → Type 0
 HasFourDigitYear second =
     ((days_from_civil (pos 0) 1 1 *ℤ pos 86400) ≤ℤ second)
     × (second <ℤ ((days_from_civil (pos 9999) 12 31 +ℤ pos 1) *ℤ pos 86400))
-
--- ---- worked examples
-
-epoch : unix_second_of_text (codes "1970-01-01T00:00:00Z") ≡ Some (pos 0)
-unfolding unix_second_of_text two_digits day_number second_of_day days_from_civil days_of_years
-    days_of_months day_count
-epoch = refl
-
-with_offset : unix_second_of_text (codes "2001-01-01t00:00:00+01:00") ≡ Some (pos 978303600)
-unfolding unix_second_of_text two_digits day_number second_of_day days_from_civil days_of_years
-    days_of_months day_count
-with_offset = refl
-
-no_leap_day : unix_second_of_text (codes "1900-02-29T00:00:00Z") ≡ None
-unfolding unix_second_of_text two_digits day_number second_of_day
-no_leap_day = refl
-
-no_leap_second : unix_second_of_text (codes "2000-01-01T23:59:60Z") ≡ None
-unfolding unix_second_of_text two_digits day_number second_of_day
-no_leap_second = refl

@@ -14,7 +14,7 @@ use Rattle.plist_binread.specs.declared.walk.Walk.{Walk}
 use Rattle.plist_decode.specs.declared.head.Bounds.{Bounds}
 use Rattle.plist_binread.specs.declared.frames.Frame.{Frame}
 use Rattle.plist_binread.proofs.Tags.{open_uncached}
-use Rattle.plist_format.specs.Unfolding.{until_fault}
+use Rattle.plist_base.specs.Unfolding.{until_fault}
 use Rattle.plist_decode.specs.Reading.{object_at}
 use Rattle.plist_binread.specs.References.{AreReferencesOf, ReadsChildAt}
 use Rattle.plist_binread.specs.Remaining.{place_at, children_at, entries_of, next_number, Explains}

@@ -3,7 +3,7 @@ use Rattle.std.proofs.Common.{◌≡◌, ℕ, ◌+◌, ◌-◌, ◌*◌, ◌^◌
 use Rattle.std.proofs.lemmas.List.{length-take-le, length-drop, drop-drop, take-take, drop-take}
 use Rattle.plist_base.specs.declared.error.Error.{Error}
 use Rattle.plist_base.specs.Faults.{IsIo, kind_of, error_kind_of}
-use Rattle.plist_format.specs.Container.{number_of, number_at}
+use Rattle.plist_base.specs.Container.{number_of, number_at}
 use Rattle.plist_decode.specs.Reading.{object_at}
 use Rattle.plist_binread.specs.References.{AreReferencesOf, IsNumberAt, ReadsChildAt, reference_place}
 use Rattle.plist_decode.specs.Decoding.{children_in, reference_index}

@@ -11,9 +11,9 @@ use Rattle.plist_base.specs.Events.{PlainEvent, Item}
 use Rattle.plist_base.proofs.Refusals.{MatchFault-all, MatchFault-at, MatchFault-weaker}
 use Rattle.plist_binread.specs.declared.frames.Frame.{Frame}
 use Rattle.plist_decode.specs.declared.head.Head as code
-use Rattle.plist_format.specs.Container.{Head, head_of}
-use Rattle.plist_format.specs.Object.{Object}
-use Rattle.plist_format.specs.Unfolding.{table_of, items_of, unfolding_of, until_fault, items_with, items_of_file}
+use Rattle.plist_base.specs.Container.{Head, head_of}
+use Rattle.plist_base.specs.Object.{Object}
+use Rattle.plist_base.specs.Unfolding.{table_of, items_of, unfolding_of, until_fault, items_with, items_of_file}
 use Rattle.plist_decode.specs.declared.head.Bounds.{Bounds}
 use Rattle.plist_binread.specs.Remaining.{path_of, remaining_items, entries_of, places_with, places_of, CountsObjects, IsHeld, MatchesFile, SomeRemain, AllocatesFirst}
 use Rattle.plist_binread.specs.Step.{RefusesFirst, YieldsResult}
@@ -25,7 +25,7 @@ use Rattle.plist_decode.specs.Packed.{is_marked}
 use Rattle.plist_decode.specs.Slot.{result_in}
 use Rattle.plist_decode.specs.inner.Heads.{head_seen}
 use Rattle.plist_binread.proofs.WalkSteps.{items_beyond, items_step, remaining_at}
-use Rattle.plist_format.proofs.Tables.{slice_get-within, slice_get-beyond}
+use Rattle.plist_base.proofs.Tables.{slice_get-within, slice_get-beyond}
 use Rattle.plist_binread.proofs.OpenObjects.{get_or-zeros}
 use Rattle.plist_binread.proofs.WalkInvariant.{found}
 use Rattle.std.proofs.lemmas.Option.{IfSome_then}

@@ -7,7 +7,7 @@ use Rattle.plist_base.specs.Events.{PlainEvent, EndCollection, Item}
 use Rattle.plist_binread.specs.declared.frames.Frame.{Frame}
 use Rattle.plist_binread.specs.Frames.{frame_of}
 use Rattle.plist_decode.specs.Packed.{KeepsOtherTags}
-use Rattle.plist_format.specs.Unfolding.{TableEntry, unfolding_of, until_fault}
+use Rattle.plist_base.specs.Unfolding.{TableEntry, unfolding_of, until_fault}
 use Rattle.plist_decode.specs.declared.head.Bounds.{Bounds}
 use Rattle.plist_binread.specs.Remaining.{path_of, MarksOpenPath, MatchesFile, children_at, place_at, entries_of, remaining_items, SomeRemain, next_number, walk_steps, walk_weight}
 use Rattle.std.proofs.lemmas.List.{drop_all, get_or_default}

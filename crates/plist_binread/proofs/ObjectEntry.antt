@@ -19,7 +19,7 @@ use Rattle.plist_decode.specs.Decoded.{DecodesAt, IsDecodedThere, RefusesObjectA
 use Rattle.plist_binread.specs.ObjectEvents.{SetsDecoded, SetsEvent, event_of_object, is_refused}
 use Rattle.plist_decode.specs.Decoding.{IsRefusedAs}
 use Rattle.plist_binread.specs.Step.{YieldsResult, YieldsCurrent, OpensObject}
-use Rattle.plist_format.specs.Unfolding.{until_fault}
+use Rattle.plist_base.specs.Unfolding.{until_fault}
 use Rattle.plist_decode.specs.Packed.{is_marked, unmarked, cached, scalar_event}
 use Rattle.plist_binread.proofs.ObjectEvents.{named-long}
 use Rattle.plist_binread.proofs.OpenObjects.{not_open}

@@ -10,7 +10,7 @@ use Rattle.plist_base.specs.Faults.{FaultKind}
 use Rattle.plist_base.specs.Faults as faults
 use Rattle.plist_base.specs.Sources.{LiesAt}
 use Rattle.plist_base.specs.Trees as trees
-use Rattle.plist_format.specs.Object.{Object, Scalar, Array, Dictionary, Faulty, date, date_if_any, text}
+use Rattle.plist_base.specs.Object.{Object, Scalar, Array, Dictionary, Faulty, date, date_if_any, text}
 use Rattle.plist_decode.specs.CountedContent.{content_means}
 use Rattle.plist_decode.specs.Decoded.{FitsBefore, content_size, small_count}
 use Rattle.plist_binread.specs.ObjectEvents.{FitsWalk, SetsContentAt, SetsDecoded, SetsEvent, event_of_object}

@@ -11,7 +11,7 @@ use Rattle.plist_decode.specs.declared.counter.DecodeCounter.{Ghosts as CounterG
 use Rattle.plist_binread.specs.declared.reader.BinaryReader.{BinaryReader}
 use Rattle.plist_decode.specs.declared.head.Bounds.{Bounds}
 use Rattle.plist_binread.specs.declared.walk.Walk.{Walk}
-use Rattle.plist_format.specs.Container.{head_of}
+use Rattle.plist_base.specs.Container.{head_of}
 use Rattle.plist_binread.specs.Walking.{IsBounded, IsKnownWalk, cached_in, walk_objects}
 use Rattle.plist_binread.specs.BinaryReader.{GivesAs, KeepsInvariant}
 use Rattle.plist_binread.specs.Remaining.{AllocatesFirst, AreBoundsOf, SomeRemain, objects_in_head}

@@ -5,7 +5,7 @@ use Rattle.std.specs.Prelude.{OnOk}
 use Rattle.plist_base.specs.declared.error.Error.{Error}
 use Rattle.plist_base.specs.declared.source.Source.{Ghosts}
 use Rattle.plist_base.specs.Faults.{error_kind_of, kind_of}
-use Rattle.plist_format.specs.Unfolding.{items_of_file, until_fault}
+use Rattle.plist_base.specs.Unfolding.{items_of_file, until_fault}
 use Rattle.plist_decode.specs.declared.counter.DecodeCounter.{Ghosts as CounterGhosts}
 use Rattle.plist_binread.specs.declared.reader.BinaryReader.{BinaryReader}
 use Rattle.plist_binread.specs.declared.reader.WalkState.{WalkState}

@@ -18,16 +18,16 @@ use Rattle.plist_binread.specs.Step.{IsCollectionStart}
 use Rattle.plist_binread.specs.Walking.{IsWalkOf, open_in, walk_objects}
 use Rattle.plist_binread.specs.declared.walk.Walk.{Walk}
 use Rattle.plist_decode.specs.declared.head.Bounds.{Bounds}
-use Rattle.plist_format.specs.Object.{Object, object_in}
+use Rattle.plist_base.specs.Object.{Object, object_in}
 use Rattle.plist_decode.specs.Packed.{is_marked, kind_of_tag, open_tag, packed_kind, scalar_of_kind, unmarked, unpacked, cached, KeepsOtherTags}
 use Rattle.plist_decode.specs.declared.decoded.CollectionKind.{CollectionKind}
 use Rattle.plist_binread.proofs.Tags.{cached_closed, open_tag-kind, open_tag-marked, open_tag-start, open_uncached, kind_of_tag-some}
 use Rattle.plist_decode.specs.declared.packed.PackedKind.{PackedKind}
-use Rattle.plist_format.specs.Unfolding.{TableEntry, unfolding_of, until_fault}
+use Rattle.plist_base.specs.Unfolding.{TableEntry, unfolding_of, until_fault}
 use Rattle.plist_binread.specs.Remaining.{children_at, place_at, scalar_at, path_of, MarksOpenPath, IsHeld, LocatesReferences, MatchesFile, places_of, entries_of, remaining_items, Explains}
 use Rattle.plist_decode.specs.Decoding.{AreReferencesAt, IsCollection, IsRefusedAs, children_in, scalar_event_in, scalar_in}
 use Rattle.plist_binread.proofs.WalkSteps.{collection_count, items_beyond, items_open, yields_refused, yields_scalar, refused_memory}
-use Rattle.plist_format.proofs.Tables.{slice_get-within, slice_get-beyond, length-table_of}
+use Rattle.plist_base.proofs.Tables.{slice_get-within, slice_get-beyond, length-table_of}
 use Rattle.std.proofs.lemmas.Option.{IfSome_then}
 use Rattle.std.proofs.lemmas.Bool.{eqb-false, false≢true}
 

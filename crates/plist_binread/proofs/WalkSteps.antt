@@ -9,8 +9,8 @@ use Rattle.plist_base.specs.Events.{PlainEvent, EndCollection, Item}
 use Rattle.plist_base.specs.Trees.{Data, String}
 use Rattle.plist_base.proofs.Refusals.{MatchFault-at, MatchFault-weaker}
 use Rattle.plist_binread.specs.declared.frames.Frame.{Frame}
-use Rattle.plist_format.specs.Object.{Object, Scalar, Array, Dictionary, Faulty}
-use Rattle.plist_format.specs.Unfolding.{TableEntry, items_of, unfolding_of, until_fault}
+use Rattle.plist_base.specs.Object.{Object, Scalar, Array, Dictionary, Faulty}
+use Rattle.plist_base.specs.Unfolding.{TableEntry, items_of, unfolding_of, until_fault}
 use Rattle.plist_binread.specs.Remaining.{path_of, MarksOpenPath, remaining_items, SomeRemain, AllocatesFirst, Explains, walk_steps, walk_weight}
 use Rattle.plist_decode.specs.Decoding.{IsCollection, children_in, scalar_event_in, Allocates, IsRefusedAs}
 use Rattle.plist_binread.proofs.OpenObjects.{admits_more}

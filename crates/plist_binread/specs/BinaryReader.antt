@@ -9,8 +9,8 @@ use Rattle.plist_base.specs.FirstItems.{GivesFirst, MatchItem}
 use Rattle.plist_base.specs.Limits.{limited_by_any}
 use Rattle.plist_base.specs.Sources.{ItemCountsIo}
 use Rattle.plist_base.specs.Visits.{PlainItem}
-use Rattle.plist_format.specs.Container.{head_of}
-use Rattle.plist_format.specs.Unfolding.{items_of_file, until_fault}
+use Rattle.plist_base.specs.Container.{head_of}
+use Rattle.plist_base.specs.Unfolding.{items_of_file, until_fault}
 use Rattle.plist_decode.specs.FaultOffsets.{ItemGivenWithin}
 use Rattle.plist_decode.specs.declared.counter.DecodeCounter.{Ghosts as CounterGhosts}
 use Rattle.plist_binread.specs.declared.reader.BinaryReader.{BinaryReader}

@@ -3,7 +3,7 @@ use Rattle.std.specs.Prelude.{◌≡◌, ℕ, ◌+◌, ◌^◌, ◌<◌, ◌≤�
 use Rattle.plist_base.specs.declared.error.Error.{Error}
 use Rattle.plist_base.specs.Events.{PlainEvent, StartArray, StartDictionary, ScalarEvent}
 use Rattle.plist_base.specs.Sources.{ResultCountsIo}
-use Rattle.plist_format.specs.Object.{Object, Scalar, Array, Dictionary, Faulty}
+use Rattle.plist_base.specs.Object.{Object, Scalar, Array, Dictionary, Faulty}
 use Rattle.plist_decode.specs.CountedContent.{content_means}
 use Rattle.plist_decode.specs.Decoded.{IsDecodedThere, content_size}
 use Rattle.plist_decode.specs.Decoding.{IsRefusedAs, child_count}

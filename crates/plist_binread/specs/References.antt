@@ -3,7 +3,7 @@ use Rattle.std.specs.Prelude.{◌≡◌, ℕ, ◌+◌, ◌*◌, ◌<◌, ◌≤�
 use Rattle.plist_base.specs.declared.error.Error.{Error}
 use Rattle.plist_base.specs.Faults.{IsIo, kind_of, error_kind_of}
 use Rattle.plist_base.specs.Sources.{LiesAt}
-use Rattle.plist_format.specs.Container.{number_at}
+use Rattle.plist_base.specs.Container.{number_at}
 use Rattle.plist_decode.specs.Decoding.{AreReferencesAt, children_in, reference_index}
 use Rattle.plist_decode.specs.Reading.{bytes_at, object_at}
 use Rattle.plist_decode.specs.declared.head.Bounds.{Bounds}

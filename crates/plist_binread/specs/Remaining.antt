@@ -9,11 +9,11 @@ use Rattle.plist_base.specs.Trees as trees
 use Rattle.plist_base.specs.Trees.{Data, String}
 use Rattle.plist_binread.specs.declared.frames.Frame.{Frame}
 use Rattle.plist_decode.specs.declared.head.Bounds.{Bounds}
-use Rattle.plist_format.specs.Container.{Head, head_of}
+use Rattle.plist_base.specs.Container.{Head, head_of}
 use Rattle.plist_decode.specs.Packed.{is_marked, is_packed_if_any, packed_kind, unmarked, cached, open_kind, open_start}
 use Rattle.plist_binread.specs.declared.reader.WalkState.{WalkState}
 use Rattle.plist_binread.specs.declared.reader.WalkState.TheVariants.{Fresh, Walking, Ended}
-use Rattle.plist_format.specs.Unfolding.{TableEntry, table_of, unfolding_of}
+use Rattle.plist_base.specs.Unfolding.{TableEntry, table_of, unfolding_of}
 use Rattle.plist_decode.specs.Decoding.{AreReferencesAt, children_in, scalar_in}
 use Rattle.plist_decode.specs.Reading.{bytes_at}
 

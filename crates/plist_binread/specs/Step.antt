@@ -4,8 +4,8 @@ use Rattle.std.specs.List.{slice_get}
 use Rattle.plist_base.specs.declared.error.Error.{Error}
 use Rattle.plist_base.specs.Events.{PlainEvent, EndCollection, Item}
 use Rattle.plist_base.specs.Faults.{MatchFault, kind_of, error_kind_of, fault_of}
-use Rattle.plist_format.specs.Container.{head_of}
-use Rattle.plist_format.specs.Unfolding.{TableEntry, items_of_file, unfolding_of, until_fault}
+use Rattle.plist_base.specs.Container.{head_of}
+use Rattle.plist_base.specs.Unfolding.{TableEntry, items_of_file, unfolding_of, until_fault}
 use Rattle.plist_decode.specs.Decoded.{IsDecodedAs}
 use Rattle.plist_decode.specs.Packed.{cached, is_marked, is_packed, open_kind, open_start, unmarked, unpacked}
 use Rattle.plist_decode.specs.Reading.{bytes_at}

@@ -3,8 +3,8 @@ use Rattle.std.specs.Prelude.{◌≡◌, ℕ, ◌-◌, ◌<◌, ◌≤◌, true,
 use Rattle.plist_base.specs.declared.error.Error.{Error}
 use Rattle.plist_base.specs.Events.{Item, PlainEvent}
 use Rattle.plist_base.specs.Faults.{Fault}
-use Rattle.plist_format.specs.Container.{Head}
-use Rattle.plist_format.specs.Unfolding.{unfolding_of}
+use Rattle.plist_base.specs.Container.{Head}
+use Rattle.plist_base.specs.Unfolding.{unfolding_of}
 use Rattle.plist_decode.specs.Packed.{is_small_event, unmarked}
 use Rattle.plist_decode.specs.declared.head.Bounds.{Bounds}
 use Rattle.plist_binread.specs.declared.frames.Frame.{Frame}

@@ -1,7 +1,7 @@
 //! Hands decoded objects to a visitor.
 
 ghost use Rattle.std.specs.Prelude.{◌≡◌, Some, false, true, OnOk};
-ghost use Rattle.plist_format.specs.Object.{date, text, wide_text};
+ghost use Rattle.plist_base.specs.Object.{date, text, wide_text};
 ghost use Rattle.plist_decode.specs.CountedContent.{AreUnits, content_means, unit_size};
 ghost use Rattle.plist_decode.specs.Decoded.{EndsIn64Bits, FailsInContent, FitsBefore, IsLong, IsLongBytes, small_count};
 ghost use Rattle.plist_binread.specs.ObjectEvents.{SetsContentAt, SetsDecoded, SetsLarge, is_refused};

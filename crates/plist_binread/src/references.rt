@@ -3,7 +3,7 @@
 ghost use Rattle.std.specs.Prelude.{◌≤◌, ◌≡◌, ◌+◌, ◌^◌, ◌<◌};
 ghost use Rattle.plist_base.specs.Outcomes.{DecodesBy, IfRefused};
 ghost use Rattle.plist_base.specs.Sources.{IsIoWithin};
-ghost use Rattle.plist_format.specs.Container.{number_at};
+ghost use Rattle.plist_base.specs.Container.{number_at};
 ghost use Rattle.plist_decode.specs.FaultOffsets.{ErrWithin};
 ghost use Rattle.plist_decode.specs.Slot.{SlotCountsIo, result_in};
 

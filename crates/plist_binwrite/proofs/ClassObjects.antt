@@ -3,8 +3,8 @@ use Rattle.std.proofs.Common.{◌≡◌, ℕ, ◌+◌, ◌-◌, ◌<◌, Bool, n
 use Rattle.plist_base.specs.Events.{PlainEvent}
 use Rattle.plist_base.specs.Trees as trees
 use Rattle.plist_base.specs.Trees.{Scalar, Tree, Leaf, Array, Dictionary, Trees, NoTrees, TreeAnd, Members, NoMembers, MemberAnd}
-use Rattle.plist_format.specs.Object as obj
-use Rattle.plist_format.specs.Object.{Object}
+use Rattle.plist_base.specs.Object as obj
+use Rattle.plist_base.specs.Object.{Object}
 use Rattle.plist_binwrite.specs.Classes.{AreClasses, object_of, Describes}
 use Rattle.plist_binwrite.specs.EventClasses.{class_in, events_in}
 use Rattle.plist_binwrite.specs.declared.classes.Classed.{Classed}

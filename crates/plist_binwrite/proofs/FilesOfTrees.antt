@@ -4,9 +4,9 @@ use Rattle.std.specs.Str.{chars, is_utf8}
 use lib.Utf8.{encode}
 use Rattle.plist_base.specs.Trees as trees
 use Rattle.plist_base.specs.Trees.{Leaf, Array, Dictionary, trees_of, members_of}
-use Rattle.plist_format.specs.Container.{head_of}
-use Rattle.plist_format.specs.Object.{object_in}
-use Rattle.plist_format.specs.Visits.{visits_of, visits}
+use Rattle.plist_base.specs.Container.{head_of}
+use Rattle.plist_base.specs.Object.{object_in}
+use Rattle.plist_base.specs.Unfolding.{visits_of, visits}
 use Rattle.plist_binwrite.specs.Forms.{least_width, length_form, units_of, scalar_form}
 use Rattle.plist_binwrite.specs.Sizes.{object_count, file_size}
 

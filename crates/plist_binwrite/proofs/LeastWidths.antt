@@ -8,7 +8,7 @@ use Rattle.std.proofs.lemmas.Nat.{div-mul-add, mod_below, pow-add}
 use Rattle.std.proofs.Math.Seq.{take-length}
 use lib.Arith.{mod-mul}
 use native.Mathlib.Nat.{mod-eq_of_lt}
-use Rattle.plist_format.specs.Container.{number_of}
+use Rattle.plist_base.specs.Container.{number_of}
 use Rattle.plist_binwrite.specs.Forms.{least_width}
 
 -- ---- the least width

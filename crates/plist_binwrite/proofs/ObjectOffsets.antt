@@ -8,8 +8,8 @@ use Rattle.std.proofs.lemmas.List.Recursion.{or_push}
 use Rattle.std.proofs.lemmas.Map.Keys.{IsDistinct-push}
 use Rattle.std.proofs.lemmas.Bool.Decides.{eqb_tells}
 use Rattle.std.proofs.lemmas.List.{get_or-replicate, get_or-set_same, get_or-set_other, length-replicate, length-set}
-use Rattle.plist_format.specs.Container.{magic}
-use Rattle.plist_format.specs.Object.{Object}
+use Rattle.plist_base.specs.Container.{magic}
+use Rattle.plist_base.specs.Object.{Object}
 use Rattle.plist_binwrite.specs.Forms.{form, IsWritable}
 use Rattle.plist_binwrite.specs.Written.{object_table, laid_out, Laid}
 use Rattle.std.proofs.Math.ListN.{get_or-eq_default}

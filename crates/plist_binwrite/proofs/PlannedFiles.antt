@@ -7,11 +7,10 @@ use Rattle.std.proofs.lemmas.List.Elements.{All-from_get_or, recursion_from_All}
 use Rattle.std.proofs.lemmas.Option.{slice_get-map, slice_get-get_or}
 use Rattle.plist_base.specs.Bracketing.{bracketing, lengthless, AreAlike, AreTreeEvents}
 use Rattle.plist_base.specs.Trees.{Tree}
-use Rattle.plist_format.specs.Container.{Head, head_of}
-use Rattle.plist_format.specs.Object.{Object, object_in}
-use Rattle.plist_format.specs.Unfolding.{TableEntry, table_of, unfolding_of, until_fault, items_with, items_of_file}
-use Rattle.plist_format.specs.Visits.{visits_of, visits_with, visits}
-use Rattle.plist_format.proofs.Tables.{length-table_of}
+use Rattle.plist_base.specs.Container.{Head, head_of}
+use Rattle.plist_base.specs.Object.{Object, object_in}
+use Rattle.plist_base.specs.Unfolding.{TableEntry, table_of, unfolding_of, until_fault, items_with, items_of_file, visits_of, visits_with, visits}
+use Rattle.plist_base.proofs.Tables.{length-table_of}
 use Rattle.plist_binwrite.specs.Classes.{IsFileBy, count_by, objects_by, size_by, files_by}
 use Rattle.plist_binwrite.specs.Sizes.{collections_in, object_size, size_with}
 use Rattle.plist_binwrite.specs.Forms.{form, table_form, AllFit, reference_width, least_width}

@@ -6,8 +6,8 @@ use Rattle.std.proofs.lemmas.Bool.{cases_eq}
 use Rattle.std.proofs.lemmas.Map.Made.{Contains-tail}
 use Rattle.std.specs.Result.{OnOk}
 use Rattle.std.proofs.lemmas.List.{length-replicate, length-set}
-use Rattle.plist_format.specs.Container.{magic}
-use Rattle.plist_format.specs.Object.{Object}
+use Rattle.plist_base.specs.Container.{magic}
+use Rattle.plist_base.specs.Object.{Object}
 use Rattle.plist_binwrite.specs.Written.{file_with, object_table, laid_out, table_and_trailer}
 use Rattle.plist_base.specs.Faults.{Fault}
 use Rattle.plist_base.specs.Sinks.{HasPut, IsSizeOrNone, PutsBytes, PutsNothing}

@@ -16,8 +16,8 @@ use Rattle.std.proofs.Math.Utf8.{scalar, scalars, scalar_cases}
 use Rattle.std.proofs.Math.Seq.{take-append_seam, drop-append_seam}
 use Rattle.plist_base.specs.declared.real.RealBits.TheVariants.{Four, Eight}
 use Rattle.plist_base.specs.Trees as trees
-use Rattle.plist_format.specs.Object.{Object, Scalar, Array, Dictionary, Faulty, object_in, text, text_of_units, dictionary, date, date_if_any}
-use Rattle.plist_format.proofs.Layouts.{layout-data, layout-text, layout-wide_text, layout-array, layout-dictionary}
+use Rattle.plist_base.specs.Object.{Object, Scalar, Array, Dictionary, Faulty, object_in, text, text_of_units, dictionary, date, date_if_any}
+use Rattle.plist_base.proofs.Layouts.{layout-data, layout-text, layout-wide_text, layout-array, layout-dictionary}
 use Rattle.plist_buffer.proofs.Uniques.{all_both}
 use Rattle.plist_binwrite.proofs.ReadingNumbers.{counted, front, integer_read, length-table, numbers_back, uid_read}
 

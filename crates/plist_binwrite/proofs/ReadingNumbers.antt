@@ -8,8 +8,8 @@ use Rattle.std.proofs.lemmas.List.FromFn.{fill_by_all}
 use Rattle.std.proofs.Math.Seq.{take-append_seam, drop-append_seam}
 use Rattle.std.proofs.Math.Nat.{mul-div_cancel}
 use Rattle.plist_base.specs.Trees as trees
-use Rattle.plist_format.specs.Container.{number_of, number_at, numbers_spelled, magic, trailer_in, is_width, head_with, head_of}
-use Rattle.plist_format.specs.Object.{Object, Scalar, Counted, layout_of, length_that_follows, meaning_of_front, object_in, signed, integer_in_range}
+use Rattle.plist_base.specs.Container.{number_of, number_at, numbers_spelled, magic, trailer_in, is_width, head_with, head_of}
+use Rattle.plist_base.specs.Object.{Object, Scalar, Counted, layout_of, length_that_follows, meaning_of_front, object_in, signed, integer_in_range}
 use Rattle.plist_binwrite.specs.Forms.{doublings, unsigned_form, length_form, scalar_form, IsWritableScalar, AllFit, least_width, table_form, reference_width}
 use Rattle.std.specs.Int.{bytes_high_first}
 use Rattle.plist_binwrite.proofs.NumberForms.{length_short, length_long}

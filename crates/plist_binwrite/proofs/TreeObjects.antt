@@ -14,7 +14,7 @@ use Rattle.plist_binwrite.specs.Sizes.{object_size}
 use Rattle.plist_binwrite.specs.inner.Numbering.{IsCapped}
 use Rattle.plist_buffer.specs.Children.{half_of}
 use Rattle.plist_buffer.specs.declared.children.Half.TheVariants.{Values}
-use Rattle.plist_format.specs.declared.marker.CountedKind.TheVariants as counted
+use Rattle.plist_base.specs.declared.marker.CountedKind.TheVariants as counted
 use Rattle.plist_binwrite.specs.EventClasses.{events_in}
 use Rattle.plist_binwrite.specs.declared.plan.FilePlan.{FilePlan}
 use Rattle.plist_binwrite.specs.inner.Layout.{collection_form, number_of_event}

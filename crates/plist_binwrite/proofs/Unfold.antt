@@ -5,15 +5,13 @@ use Rattle.std.proofs.lemmas.Bool.{ne_eqb}
 use Rattle.std.proofs.lemmas.Grind.{flat_map-append}
 use Rattle.std.proofs.lemmas.List.{map-append}
 use Rattle.std.proofs.lemmas.Option.{slice_get_within}
-use Rattle.plist_base.specs.inner.Paths.{IsPath}
-use Rattle.plist_base.proofs.Paths.{path_none, path_push, path_fuel}
+use Rattle.plist_base.proofs.Paths.{IsPath, path_none, path_push, path_fuel}
 use Rattle.plist_base.specs.Bracketing.{bracketing, bracketing_of_items, bracketing_of_pairs, lengthless, lengthless_items, lengthless_pairs}
 use Rattle.plist_base.specs.Events.{PlainEvent, Item, EndCollection}
 use Rattle.plist_base.specs.Trees as trees
 use Rattle.plist_base.specs.Trees.{number_of_trees, number_of_members, Tree, Leaf, Array, Dictionary, Trees, NoTrees, TreeAnd, Members, NoMembers, MemberAnd}
-use Rattle.plist_format.specs.Object.{children_of}
-use Rattle.plist_format.specs.Unfolding.{TableEntry, items_of, until_fault, unfolding_of}
-use Rattle.plist_format.specs.Visits.{visits_within, visits_of}
+use Rattle.plist_base.specs.Object.{children_of}
+use Rattle.plist_base.specs.Unfolding.{TableEntry, items_of, until_fault, unfolding_of, visits_within, visits_of}
 use Rattle.plist_binwrite.specs.Sizes.{collection_of}
 use Rattle.plist_buffer.specs.EventTable.{item_indices, key_indices, value_indices}
 use Rattle.plist_buffer.specs.Occurrences.{event_count, OccursAt, ItemsOccurAt, PairsOccurAt, positions, positions_in_items, positions_in_pairs}

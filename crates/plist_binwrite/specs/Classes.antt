@@ -5,9 +5,9 @@ use Rattle.std.specs.Set.{unique_keys}
 use Rattle.plist_base.specs.Bracketing.{lengthless}
 use Rattle.plist_base.specs.Events.{PlainEvent}
 use Rattle.plist_base.specs.Trees.{Tree, Leaf, Array, Dictionary}
-use Rattle.plist_format.specs.Object as obj
-use Rattle.plist_format.specs.Object.{Object}
-use Rattle.plist_format.specs.Visits.{visits}
+use Rattle.plist_base.specs.Object as obj
+use Rattle.plist_base.specs.Object.{Object}
+use Rattle.plist_base.specs.Unfolding.{visits}
 use Rattle.plist_binwrite.specs.Sizes.{HasObjects, collections_in, object_size, size_with}
 use Rattle.plist_binwrite.specs.SendingAs.{FileKind}
 use Rattle.plist_buffer.specs.EventTable.{item_indices, key_indices, value_indices}

@@ -12,7 +12,7 @@ ghost use Rattle.plist_binwrite.specs.Forms.{IsWritableScalar, unsigned_form, le
 ghost use Rattle.plist_binwrite.specs.inner.Numbering.{IsCapped};
 ghost use Rattle.std.specs.Int.{bytes_high_first};
 ghost use Rattle.plist_buffer.specs.StoredScalars.{scalar_of_ref};
-ghost use Rattle.plist_format.specs.Marker.{high_half};
+ghost use Rattle.plist_base.specs.Object.{high_half};
 ghost use Rattle.plist_base.specs.Sinks.{Puts, PutsBytes, PutsNothing, room};
 ghost use Rattle.plist_binwrite.specs.Written.{table_and_trailer, trailer_of};
 
@@ -22,10 +22,10 @@ use crate::push::{
 pub use crate::text::put_text;
 use crate::text::{count_units, is_ascii_text};
 use crate::widths::{least_width, offset_width, reference_width};
+pub use plist_base::marker::CountedKind;
+use plist_base::marker::LowHalf;
 use plist_base::{Date, Error, Integer, RealBits, Sink, Uid};
 use plist_buffer::stored_scalar::ScalarRef;
-pub use plist_format::CountedKind;
-use plist_format::LowHalf;
 use std::io::Write;
 
 /// The greatest number of bytes in the object of a scalar other than a string or data.

@@ -8,13 +8,13 @@ ghost use Rattle.plist_base.specs.Trees as trees;
 ghost use Rattle.plist_binwrite.specs.Forms.{doublings, is_ascii_text, unsigned_form, length_form, scalar_form};
 ghost use Rattle.std.specs.Int.{bytes_high_first};
 ghost use Rattle.plist_buffer.specs.StoredScalars.{scalar_of_ref};
-ghost use Rattle.plist_format.specs.Marker.{byte_of, high_half};
+ghost use Rattle.plist_base.specs.Object.{byte_of, high_half};
 
 use crate::text::{count_units, is_ascii_text, push_units};
 use crate::widths::least_width;
+use plist_base::marker::{CountedKind, LowHalf, Marker, UidWidth};
 use plist_base::{Date, FixedBuffer, Integer, RealBits, Uid};
 use plist_buffer::stored_scalar::ScalarRef;
-use plist_format::{CountedKind, LowHalf, Marker, UidWidth};
 
 // Returns the marker of a number of this width.
 #[inline(always)]

@@ -13,8 +13,8 @@ use Rattle.plist_base.specs.Events.{StartArray}
 use Rattle.plist_base.specs.IntegerText.{integer_of_text}
 use Rattle.plist_base.specs.Trees.{Boolean, Integer, Real}
 use Rattle.plist_base.specs.declared.real.RealBits.TheVariants.{Four}
-use Rattle.plist_format.proofs.WorkedFiles.Files.{array, close, dictionary, refused, scalar, worked_files}
-use Rattle.plist_format.specs.Unfolding.{items_of_file}
+use Rattle.plist_base.proofs.WorkedFiles.Files.{array, close, dictionary, refused, scalar, worked_files}
+use Rattle.plist_base.specs.Unfolding.{items_of_file}
 use Rattle.plist_ascii.specs.AsciiReader.{GivesAsciiItem}
 use Rattle.plist_ascii.specs.Ascii.{items_in, items_of_ascii, token}
 use Rattle.plist_ascii.specs.Escapes.{escape, octal_char}

@@ -1,6 +1,6 @@
 -- Small files, and an ASCII text.
 use Rattle.std.specs.Prelude.{ℕ, List, codes}
-use Rattle.plist_format.proofs.WorkedFiles.Files.{file, trailer}
+use Rattle.plist_base.proofs.WorkedFiles.Files.{file, trailer}
 
 -- the root is the second object, an array
 unfoldable pub root_is_second : List ℕ

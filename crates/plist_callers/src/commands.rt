@@ -6,7 +6,7 @@ ghost use Rattle.plist_commands.specs.Commands.{Answered, MayEnd, PlainFailure, 
 ghost use Rattle.plist_commands.specs.Converting.{IfOkIs, LeavesToValue, SendsRead};
 ghost use Rattle.plist_print.specs.Printing.{PrintsKnown};
 ghost use Rattle.plist_commands.specs.declared.convert.FastPath.TheVariants.{NotApplicable, Sent};
-ghost use Rattle.plist_format.specs.Unfolding.{items_of_file};
+ghost use Rattle.plist_base.specs.Unfolding.{items_of_file};
 
 use plist_base::Error;
 use plist_commands::{

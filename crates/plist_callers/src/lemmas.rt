@@ -8,7 +8,7 @@ ghost use Rattle.std.specs.Str.{bytes_eq};
 ghost use Rattle.indexmap.specs.IndexMap.{insert_all};
 ghost use Rattle.plist_base.specs.Outcomes.{IfFault, OnlyMemory};
 ghost use Rattle.plist_base.specs.Trees.{Tree};
-ghost use Rattle.plist_format.specs.Unfolding.{items_of_file};
+ghost use Rattle.plist_base.specs.Unfolding.{items_of_file};
 ghost use Rattle.plist_pairs.specs.Shown.{shown_owned_pair};
 ghost use Rattle.plist_pairs.specs.TreeEquality.{same, IsTransitive, DecidesScalars, DecidesDictionaries, same_members};
 ghost use Rattle.plist.specs.Collecting.{built_tree};

@@ -11,7 +11,7 @@ use Rattle.plist_base.specs.Trees.{Tree, Leaf, Array, Dictionary}
 use Rattle.plist_base.proofs.Lengths.{alike_last, alike_with, continue_alike, whole_alike}
 use Rattle.plist_buffer.proofs.Grammar.{complete_of_whole}
 use Rattle.plist_base.specs.Writing.{Answer}
-use Rattle.plist_format.specs.Unfolding.{items_of_file}
+use Rattle.plist_base.specs.Unfolding.{items_of_file}
 use Rattle.plist_buffer.specs.RepeatedKeys.{HasKeysOnce}
 use Rattle.plist_buffer.specs.EventBuffers.{TestsWhole}
 use Rattle.plist_binwrite.specs.SendingAs.{SendsAs}

@@ -8,8 +8,8 @@ use Rattle.std.proofs.lemmas.Slice.Zip.{length-zip}
 use Rattle.std.proofs.Math.Nat.{mul-le-mul_right}
 use Rattle.plist_base.specs.Faults.{ObjectOffsetTooLarge}
 use Rattle.plist_base.specs.Events.{StartArray, StartDictionary}
-use Rattle.plist_format.specs.Container.{number_at, numbers_spelled}
-use Rattle.plist_format.specs.Object.{Object, Array, Faulty, dictionary, children_of, length_in}
+use Rattle.plist_base.specs.Container.{number_at, numbers_spelled}
+use Rattle.plist_base.specs.Object.{Object, Array, Faulty, dictionary, children_of, length_in}
 use Rattle.plist_decode.specs.CountedContent.{RefusesCounted}
 use Rattle.plist_decode.specs.Decoded.{IsDecodedAs}
 use Rattle.plist_decode.specs.declared.decoded.Decoded.TheVariants.{Collection}

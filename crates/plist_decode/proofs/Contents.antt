@@ -19,13 +19,13 @@ use Rattle.plist_base.specs.Sources.{ResultCountsIo}
 use Rattle.plist_base.specs.Faults.{FaultKind, Fault, IntegerOutOfRange, InvalidUtf8String, InvalidUtf16String, MatchFault, kind_of, error_kind_of, offset_of, fault_of, fault_at}
 use Rattle.plist_base.specs.Trees.{Integer, String}
 use Rattle.plist_base.proofs.Refusals.{MatchFault-at, MatchFault-weaker}
-use Rattle.plist_format.specs.Container.{number_of}
+use Rattle.plist_base.specs.Container.{number_of}
 use Rattle.plist_decode.specs.Decoding.{Decodes, Allocates, IsRefusedAs}
 use Rattle.plist_decode.specs.CountedContent.{content_means}
 use Rattle.plist_decode.specs.Reading.{IsIoOrMemoryAt}
 use Rattle.plist_decode.specs.declared.decoded.ContentKind.{ContentKind}
 use Rattle.plist_decode.specs.declared.decoded.ContentKind.TheVariants as kind
-use Rattle.plist_format.specs.Object.{Object, Scalar, Faulty, signed, integer_in_range, wide_integer, text, text_of_units, meaning_of_front}
+use Rattle.plist_base.specs.Object.{Object, Scalar, Faulty, signed, integer_in_range, wide_integer, text, text_of_units, meaning_of_front}
 
 one_digit : (n b d power rest all : ℕ) → all ≡ b * power
     → (n * b + d) * power + rest ≡ n * all + ((0 * b + d) * power + rest)

@@ -13,7 +13,7 @@ use Rattle.plist_base.specs.Faults.{FaultKind, MatchFault, fault_at, fault_of}
 use Rattle.plist_base.specs.Faults as faults
 use Rattle.plist_base.specs.Sources.{CountsIo}
 use Rattle.plist_base.specs.Trees as trees
-use Rattle.plist_format.specs.Object.{Object, Scalar, Faulty, length_in, object_in, text_of_units}
+use Rattle.plist_base.specs.Object.{Object, Scalar, Faulty, length_in, object_in, text_of_units}
 use Rattle.plist_decode.specs.CountedContent.{content_means, counted_with, unit_size}
 use Rattle.plist_decode.specs.Decoded.{DecodesAfter, DecodesAt, DecodesSeen, FitsBefore, IsDecodedAs, IsObjectFault, MeansDecoded, IsLongCount, kind_of_object_fault}
 use Rattle.plist_decode.specs.Decoding.{IsRefusedAs}

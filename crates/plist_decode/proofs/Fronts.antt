@@ -8,7 +8,7 @@ use Rattle.std.proofs.lemmas.List.{length-take, get_or-take, get_or_past}
 use Rattle.std.proofs.lemmas.List.Sums.{prefix_len-drop_all, prefix_len-drop_no, prefix_len-drop_yes}
 use Rattle.std.proofs.lemmas.Option.{slice_get_within, slice_get-get_or, get_or_from_slice_get}
 use Rattle.plist_base.specs.Sources.{IsOffsetWithin}
-use Rattle.plist_format.specs.Container.{magic}
+use Rattle.plist_base.specs.Container.{magic}
 use Rattle.plist_decode.specs.FaultOffsets.{HasOffset}
 use Rattle.plist_decode.specs.declared.format.Format.TheVariants.{Binary, Xml, Ascii}
 use Rattle.plist_decode.specs.Formats.{input_front, is_white, byte_order_mark_length, past_white, xml_place, format_of}

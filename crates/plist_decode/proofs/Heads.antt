@@ -7,7 +7,7 @@ use Rattle.std.proofs.lemmas.List.{length-drop, take_all}
 use Rattle.plist_base.specs.declared.error.Error.{Error}
 use Rattle.plist_base.specs.Faults.{Fault, fault_at, fault_of, kind_of, error_kind_of, UnexpectedEof, InvalidMagic, MatchFault, IsIo, IsIoOrMemory}
 use Rattle.plist_base.proofs.Refusals.{MatchFault-all, MatchFault-from_io, MatchFault-weaker}
-use Rattle.plist_format.specs.Container.{Trailer, Head, magic, trailer_in, head_at, head_with, head_of, numbers_spelled}
+use Rattle.plist_base.specs.Container.{Trailer, Head, magic, trailer_in, head_at, head_with, head_of, numbers_spelled}
 use Rattle.plist_decode.specs.inner.Heads.{IsFaultBefore}
 use Rattle.std.proofs.lemmas.Option.{IfSome_then}
 use Rattle.plist_decode.proofs.UnknownBytes.{IfSome-both}

@@ -2,8 +2,8 @@
 use Rattle.std.proofs.Common.{false, ◌≡◌, ℕ, suc, ◌-◌, ◌*◌, ◌%◌, ◌^◌, ◌<◌, ◌≤◌, List, ◌∷◌, ◌++◌, length, take, drop, None, Some, refl, ap, ◌∙◌, arith}
 use Rattle.std.proofs.lemmas.Bool.{le-leb, lt-leb}
 use Rattle.std.proofs.lemmas.List.{length-append, length-drop, take_all, take-append-le, drop-append-le}
-use Rattle.plist_format.specs.Container.{number_of}
-use Rattle.plist_format.specs.Object.{Object, length_in, length_that_follows, meaning_counted}
+use Rattle.plist_base.specs.Container.{number_of}
+use Rattle.plist_base.specs.Object.{Object, length_in, length_that_follows, meaning_counted}
 use Rattle.std.specs.Prelude.{nat_lt}
 use Rattle.std.proofs.lemmas.Bool.Decides.{nat_tests}
 

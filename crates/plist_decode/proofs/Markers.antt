@@ -4,12 +4,11 @@ use Rattle.std.proofs.lemmas.Bool.{le-leb}
 use Rattle.std.proofs.lemmas.List.{drop_all, length-take-le}
 use Rattle.plist_base.specs.Faults.{ObjectOffsetTooLarge}
 use Rattle.plist_decode.specs.Reading.{object_counted, object_with}
-use Rattle.plist_format.specs.Marker.{byte_of}
+use Rattle.plist_base.specs.Object.{byte_of, Faulty, Scalar, counted_layout, layout_of, object_after_marker, object_in}
 use Rattle.plist_base.specs.Trees.{Boolean}
-use Rattle.plist_format.specs.Object.{Faulty, Scalar, counted_layout, layout_of, object_after_marker, object_in}
-use Rattle.plist_format.specs.declared.marker.CountedKind.{CountedKind}
-use Rattle.plist_format.specs.declared.marker.Marker.TheVariants as marker
-use Rattle.plist_format.proofs.Layouts.{behind_by_half, layout-counted}
+use Rattle.plist_base.specs.declared.marker.CountedKind.{CountedKind}
+use Rattle.plist_base.specs.declared.marker.Marker.TheVariants as marker
+use Rattle.plist_base.proofs.Layouts.{behind_by_half, layout-counted}
 
 -- ---- the markers
 

@@ -5,7 +5,7 @@ use Rattle.std.specs.List.{range_with_len}
 use Rattle.std.proofs.lemmas.List.{drop-take, take-take, drop-drop, length-append, length-take-le, length-drop}
 use Rattle.std.proofs.lemmas.List.FromFn.{fill_by_all, get_or-map-range_with_len, length-map-range_with_len, map-range_with_len_more}
 use Rattle.plist_base.specs.Sources.{LiesAt}
-use Rattle.plist_format.specs.Container.{number_of, number_at, numbers_spelled}
+use Rattle.plist_base.specs.Container.{number_of, number_at, numbers_spelled}
 use Rattle.std.proofs.lemmas.Option.{IfSome_then}
 use Rattle.plist_decode.proofs.UnknownBytes.{IfSome-both}
 use Rattle.plist_decode.specs.Reading.{AreFirstNumbers}

@@ -2,7 +2,7 @@
 use Rattle.std.proofs.Common.{◌≡◌, ℕ, ◌+◌, ◌≤◌, List, ◌∷◌, ◌++◌, length, take, drop, Option, IfSome, refl, ap, sym, ◌∙◌}
 use Rattle.std.proofs.lemmas.List.{take-take, take-append-drop}
 use Rattle.plist_base.specs.Sources.{LiesAt}
-use Rattle.plist_format.specs.Object.{layout_of, object_after_marker, object_in}
+use Rattle.plist_base.specs.Object.{layout_of, object_after_marker, object_in}
 use Rattle.plist_decode.proofs.NumberRuns.{take-drop-take}
 use Rattle.std.proofs.lemmas.Option.{IfSome_then}
 

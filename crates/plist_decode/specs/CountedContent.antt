@@ -2,7 +2,7 @@
 use Rattle.std.specs.Prelude.{◌≡◌, ℕ, ◌+◌, ◌-◌, ◌*◌, ◌<◌, ◌≤◌, List, ◌++◌, length, drop, None, Some}
 use Rattle.std.specs.Borrow.{Bor}
 use Rattle.plist_base.specs.Faults.{ObjectOffsetTooLarge}
-use Rattle.plist_format.specs.Object.{Object, Faulty, length_in, meaning_counted, text, wide_text}
+use Rattle.plist_base.specs.Object.{Object, Faulty, length_in, meaning_counted, text, wide_text}
 use Rattle.plist_decode.specs.Reading.{data_of_content}
 use Rattle.plist_decode.specs.declared.decoded.ContentKind.{ContentKind}
 use Rattle.plist_decode.specs.declared.decoded.ContentKind.TheVariants as kind

@@ -2,7 +2,7 @@
 use Rattle.std.specs.Prelude.{◌≡◌, ℕ, ◌+◌, ◌*◌, ◌^◌, ◌<◌, ◌≤◌, List, ◌∷◌, ◌++◌, length, take, drop, true, Option, Result, IfSome, MatchResult, ⊤}
 use Rattle.plist_base.specs.declared.error.Error.{Error}
 use Rattle.plist_base.specs.Faults.{FaultKind, ObjectOffsetTooLarge, NullObjectUnimplemented, FillObjectUnimplemented, UnknownObjectType, IntegerOutOfRange, OverflowOrNanDate, InvalidUtf8String, InvalidUtf16String}
-use Rattle.plist_format.specs.Object.{Object, Scalar, Faulty, date, meaning_of_front, object_in}
+use Rattle.plist_base.specs.Object.{Object, Scalar, Faulty, date, meaning_of_front, object_in}
 use Rattle.plist_decode.specs.CountedContent.{content_means, unit_size}
 use Rattle.plist_base.specs.declared.event.Event.{Event}
 use Rattle.plist_decode.specs.Decoding.{AreReferencesAt, Decodes, IsCollection, IsRefusedAs, child_count, children_in, start_event}

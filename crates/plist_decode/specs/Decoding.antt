@@ -7,8 +7,8 @@ use Rattle.plist_base.specs.Trees as trees
 use Rattle.plist_base.specs.Trees.{Data, String}
 use Rattle.plist_base.specs.declared.event.Event.{Event}
 use Rattle.plist_decode.specs.Packed.{is_small_event, scalar_event}
-use Rattle.plist_format.specs.Container.{number_at}
-use Rattle.plist_format.specs.Object.{Object, Scalar, Array, Dictionary, Faulty, children_of}
+use Rattle.plist_base.specs.Container.{number_at}
+use Rattle.plist_base.specs.Object.{Object, Scalar, Array, Dictionary, Faulty, children_of}
 use Rattle.plist_decode.specs.declared.decoded.CollectionKind.{CollectionKind}
 use Rattle.plist_decode.specs.declared.decoded.CollectionKind.TheVariants as collection
 

@@ -2,7 +2,7 @@
 use Rattle.std.specs.Prelude.{ℕ, ◌+◌, ◌-◌, ◌^◌, Bool, if◌then◌else◌, ◌==◌, nat_eq, List, [], ◌∷◌, take, drop, slice_index, Option, None, Some}
 use Rattle.std.specs.Option.{option_map_or}
 use Rattle.std.specs.List.{list_any, prefix_len, starts_with}
-use Rattle.plist_format.specs.Container.{magic}
+use Rattle.plist_base.specs.Container.{magic}
 use Rattle.plist_decode.specs.declared.format.Format.{Format}
 use Rattle.plist_decode.specs.declared.format.Format.TheVariants.{Binary, Xml, Ascii}
 

@@ -1,8 +1,8 @@
 -- What the bytes at an object's front say, whatever follows them.
 use Rattle.std.specs.Prelude.{◌≡◌, ℕ, ◌+◌, ◌<◌, ◌≤◌, List, ◌++◌, length, Option, IfSome}
 use Rattle.plist_base.specs.Sources.{LiesAt}
-use Rattle.plist_format.specs.Container.{number_of}
-use Rattle.plist_format.specs.Object.{Object, meaning_of_front}
+use Rattle.plist_base.specs.Container.{number_of}
+use Rattle.plist_base.specs.Object.{Object, meaning_of_front}
 use Rattle.plist_decode.specs.declared.head.Bounds.{Bounds}
 
 -- ---- what lies at the front of bytes

@@ -4,10 +4,10 @@ use Rattle.std.specs.List.{range_with_len}
 use Rattle.plist_base.specs.Faults.{Fault, IsIoOrMemory}
 use Rattle.plist_base.specs.declared.real.RealBits.TheVariants.{Four, Eight}
 use Rattle.plist_base.specs.Trees.{Data, Real, Uid}
-use Rattle.plist_format.specs.Container.{number_at, number_of, numbers_spelled}
-use Rattle.plist_format.specs.Object.{Object, Scalar, counted_layout, layout_of, object_after_marker, object_in}
-use Rattle.plist_format.specs.declared.marker.CountedKind.{CountedKind}
-use Rattle.plist_format.specs.declared.marker.CountedKind.TheVariants as counted
+use Rattle.plist_base.specs.Container.{number_at, number_of, numbers_spelled}
+use Rattle.plist_base.specs.Object.{Object, Scalar, counted_layout, layout_of, object_after_marker, object_in}
+use Rattle.plist_base.specs.declared.marker.CountedKind.{CountedKind}
+use Rattle.plist_base.specs.declared.marker.CountedKind.TheVariants as counted
 use Rattle.plist_decode.specs.declared.decoded.CollectionKind.{CollectionKind}
 use Rattle.plist_decode.specs.declared.decoded.CollectionKind.TheVariants as collection
 use Rattle.std.specs.declared.alloc.Global.{Global}

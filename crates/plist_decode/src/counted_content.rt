@@ -5,7 +5,7 @@
 
 ghost use Rattle.std.specs.Prelude.{◌≡◌, ◌+◌, ◌-◌, ◌*◌, ◌%◌, ◌^◌, ◌<◌, ◌≤◌, length, IfNone, IfSome};
 ghost use Rattle.plist_base.specs.Trees.{String};
-ghost use Rattle.plist_format.specs.Object.{Scalar, text, wide_text};
+ghost use Rattle.plist_base.specs.Object.{Scalar, text, wide_text};
 ghost use Rattle.plist_decode.specs.CountedContent.{EndsBefore, IsCount, IsLength, IsLengthCut, LiesAfter, RefusesCounted, counted_with};
 ghost use Rattle.plist_decode.specs.Decoded.{DecodesAfter, DecodesScalar, MeansDecoded};
 ghost use Rattle.plist_decode.specs.Front.{ShowsContent};
@@ -18,7 +18,7 @@ use crate::numbers::number_from;
 use crate::packed::{PackedKind, content_from};
 use crate::utf8::short_text_in;
 use crate::utf16::utf16_text_in;
-use plist_format::LowHalf;
+use plist_base::marker::LowHalf;
 
 // Returns how many bytes a number has. The low two bits of the byte before the number encode this.
 #[inline(always)]

@@ -3,7 +3,7 @@
 ghost use Rattle.std.specs.Prelude.{◌≡◌, ℕ};
 ghost use Rattle.plist_base.specs.Faults.{ObjectOffsetTooLarge, OutOfMemory, fault_at, fault_without_offset, fault_of};
 ghost use Rattle.plist_base.specs.Sources.{CountsIo};
-ghost use Rattle.plist_format.specs.Object.{Object};
+ghost use Rattle.plist_base.specs.Object.{Object};
 ghost use Rattle.plist_decode.specs.FaultOffsets.{FailsWithin};
 ghost use Rattle.plist_decode.specs.Decoding.{IsRefusedAs};
 ghost use Rattle.plist_decode.specs.Decoded.{IsObjectFault};

@@ -4,7 +4,7 @@
 //! are at least 25 of them, which is enough for any of these objects.
 
 ghost use Rattle.std.specs.Prelude.{◌^◌, ◌<◌, ◌≤◌, length, IfNone, IfSome};
-ghost use Rattle.plist_format.specs.Object.{Scalar, date, signed, signed_integer, unsigned_integer, wide_integer};
+ghost use Rattle.plist_base.specs.Object.{Scalar, date, signed, signed_integer, unsigned_integer, wide_integer};
 ghost use Rattle.plist_decode.specs.Decoded.{DecodesFixed, MeansDecoded};
 ghost use Rattle.plist_base.specs.Trees.{Integer};
 ghost use Rattle.plist_decode.specs.Front.{IsContent, IsNumber, ShowsContent};
@@ -13,7 +13,7 @@ ghost use Rattle.plist_decode.specs.Reading.{short_real, long_real, uid_of_conte
 use crate::decoded::{Decoded, ObjectFault};
 use crate::numbers::number_from;
 use crate::packed::{PackedKind, content_from, content_of};
-use plist_format::UidWidth;
+use plist_base::marker::UidWidth;
 
 // Returns the number in the first `width` bytes, or `None` if there are fewer bytes.
 #[inline(always)]

@@ -8,8 +8,8 @@ ghost use Rattle.plist_base.specs.Sources.{ResultCountsIo};
 ghost use Rattle.plist_decode.specs.FaultOffsets.{HasOffset};
 ghost use Rattle.plist_decode.specs.Formats.{is_white, byte_order_mark_length, input_front, xml_place, format_of};
 
+use plist_base::marker::MAGIC;
 use plist_base::{Error, ErrorKind, Source, read_exact_at};
-use plist_format::MAGIC;
 
 const MARK: &[u8; 3] = b"\xef\xbb\xbf";
 

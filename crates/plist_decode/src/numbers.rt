@@ -2,7 +2,7 @@
 
 ghost use Rattle.std.specs.Prelude.{◌≡◌, ◌+◌, ◌-◌, ◌*◌, ◌^◌, ◌<◌, ◌≤◌, length, IfOk, vec_len, vec_capacity};
 ghost use Rattle.plist_base.specs.Sources.{ResultCountsIo, FailsReading, IsIoWithin};
-ghost use Rattle.plist_format.specs.Container.{number_of, number_at, numbers_spelled};
+ghost use Rattle.plist_base.specs.Container.{number_of, number_at, numbers_spelled};
 ghost use Rattle.plist_decode.specs.FaultOffsets.{ErrWithin};
 ghost use Rattle.plist_decode.specs.Reading.{AreFirstNumbers, AreBytesAt, AreNumbersAt, IsIoOrMemoryAt};
 ghost use Rattle.plist_base.specs.Outcomes.{DecodesBy, IfFault, IfRead, IfRefused};

@@ -24,8 +24,8 @@ use crate::fixed_content::{
 };
 use crate::head::Bounds;
 use crate::packed::PackedKind;
+use plist_base::marker::{CountedKind, Marker};
 use plist_base::{Source, read_exact_at};
-use plist_format::{CountedKind, Marker};
 
 // Decodes an object from its marker and the bytes that follow the marker.
 #[inline(always)]

@@ -3,14 +3,14 @@
 ghost use Rattle.std.specs.Prelude.{◌≡◌, ◌+◌, ◌-◌, ◌^◌, ◌<◌, ◌≤◌, length, Ok, Err, IfOk, IfErr, MatchOption, ⊤};
 ghost use Rattle.plist_base.specs.Faults.{MatchFault, kind_of, error_kind_of};
 ghost use Rattle.plist_base.specs.Sources.{ResultCountsIo, FailsReading, IsIoWithin};
-ghost use Rattle.plist_format.specs.Container.{is_width, trailer_in};
+ghost use Rattle.plist_base.specs.Container.{is_width, trailer_in};
 ghost use Rattle.plist_decode.specs.inner.Heads.{trailer_seen, has_magic, IsTrailerAt, end_of_table, IsNumberWidth, HasHead, HasNoHead};
 ghost use Rattle.plist_decode.specs.FaultOffsets.{ErrWithin};
 ghost use Rattle.plist_base.specs.Outcomes.{DecodesBy, IfFault, IfRead, IfRefused};
 
 use crate::numbers::number_from;
+use plist_base::marker::MAGIC;
 use plist_base::{Error, ErrorKind, Source, read_exact_at};
-use plist_format::MAGIC;
 
 /// The contents of the trailer.
 #[derive(Clone, Copy)]

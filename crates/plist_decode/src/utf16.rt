@@ -4,7 +4,7 @@ ghost use Rattle.std.specs.Prelude.{◌≡◌, ◌+◌, ◌*◌, ◌/◌, ◌++�
 ghost use Rattle.std.specs.Char.{len_utf8};
 ghost use Rattle.plist_base.specs.Faults.{InvalidUtf16String};
 ghost use Rattle.plist_base.specs.Trees.{String};
-ghost use Rattle.plist_format.specs.Object.{Faulty, Scalar, wide_text};
+ghost use Rattle.plist_base.specs.Object.{Faulty, Scalar, wide_text};
 ghost use Rattle.plist_decode.specs.inner.Utf16.{IsNextChar, IsUnpaired, unit_at};
 
 use crate::numbers::unit_from;

@@ -10,8 +10,7 @@ use Rattle.std.proofs.lemmas.Option.{same_Some, slice_get_within}
 use Rattle.plist_base.specs.Bracketing.{bracketing}
 use Rattle.plist_base.specs.Events.{PlainEvent}
 use Rattle.plist_base.specs.Trees.{Tree}
-use Rattle.plist_base.specs.inner.Paths.{IsPath}
-use Rattle.plist_base.proofs.Paths.{path_fuel, path_none, path_push}
+use Rattle.plist_base.proofs.Paths.{IsPath, path_fuel, path_none, path_push}
 use Rattle.plist_keyed.specs.Archives.{ArchiveFault, resolved_tree}
 use Rattle.plist_keyed.specs.inner.Walks.{AreSettled, IsIn, NameOnly, events_at, uid_of_event}
 use Rattle.plist.specs.Accessors.{uid_in}

@@ -10,8 +10,7 @@ use Rattle.std.proofs.lemmas.Option.{slice_get_within}
 use Rattle.plist_base.specs.Bracketing.{bracketing}
 use Rattle.plist_base.specs.Events.{PlainEvent, ScalarEvent}
 use Rattle.plist_base.specs.Trees.{Tree, Leaf, Uid}
-use Rattle.plist_base.specs.inner.Paths.{IsPath}
-use Rattle.plist_base.proofs.Paths.{path_none, path_push, path_rises}
+use Rattle.plist_base.proofs.Paths.{IsPath, path_none, path_push, path_rises}
 use Rattle.plist_keyed.specs.Archives.{ArchiveFault, and_then, object_found, replaced, resolved, resolved_tree}
 use Rattle.plist_keyed.specs.inner.Walks.{AreSettled, IsIn, NameOnly, events_at, replaced_events, uid_of_event}
 use Rattle.plist.specs.Accessors.{uid_in}

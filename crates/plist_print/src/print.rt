@@ -2,7 +2,7 @@
 
 ghost use Rattle.std.specs.Prelude.{◌≡◌, IfSome};
 ghost use Rattle.plist_binread.specs.BinaryReader.{binary_source};
-ghost use Rattle.plist_format.specs.Unfolding.{items_of_file};
+ghost use Rattle.plist_base.specs.Unfolding.{items_of_file};
 ghost use Rattle.plist_print.specs.Printing.{CountsReadsOf, PrintsKnown, items_left};
 ghost use Rattle.plist_print.specs.PrintRuns.{PrintsReader, PrintsRun, PrintsSource};
 

@@ -20,7 +20,7 @@ use Rattle.plist_decode.specs.declared.format.Format.TheVariants as format
 use Rattle.plist_decode.specs.Formats.{format_of}
 use Rattle.plist_decode.proofs.Fronts.{within-placed}
 use Rattle.plist_reader.proofs.ReaderItems.{EndsAfter, Given, IsReaderItem, StopsIfKnown, chosen-gives, input_within, one-remain, same-items}
-use Rattle.plist_format.specs.Unfolding.{items_of_file}
+use Rattle.plist_base.specs.Unfolding.{items_of_file}
 use Rattle.plist_ascii.specs.declared.dialect.Dialect.TheVariants.{Lax}
 
 -- ---- `OutOfMemory` is yielded only if something remains

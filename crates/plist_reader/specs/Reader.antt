@@ -20,7 +20,7 @@ use Rattle.plist_decode.specs.declared.counter.Uncounted.{Uncounted}
 use Rattle.plist_decode.specs.contracts.counter.UncountedDecodeCounter.TheImpl.{ghosts}
 use Rattle.plist_decode.specs.FaultOffsets.{HasOffset, MatchGiven}
 use Rattle.plist_binread.specs.Remaining.{SomeRemain, walk_steps}
-use Rattle.plist_format.specs.Unfolding.{items_of_file}
+use Rattle.plist_base.specs.Unfolding.{items_of_file}
 use Rattle.plist_ascii.specs.Ascii.{IsFaultOfBytes, items_of_ascii}
 use Rattle.plist_ascii.specs.AsciiReader as ascii
 use Rattle.plist_ascii.specs.declared.reader.AsciiReader.{AsciiReader}

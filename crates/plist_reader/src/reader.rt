@@ -4,7 +4,7 @@ ghost use Rattle.std.specs.Prelude.{◌≡◌, ◌<◌, IfSome, Some, true};
 ghost use Rattle.std.specs.Option.{is_some};
 ghost use Rattle.plist_base.specs.Limits.{items_within};
 ghost use Rattle.plist_binread.specs.BinaryReader.{WillGive, has_limits as is_limited_file, is_new, binary_source as source_of_file};
-ghost use Rattle.plist_format.specs.Unfolding.{items_of_file};
+ghost use Rattle.plist_base.specs.Unfolding.{items_of_file};
 ghost use Rattle.plist_decode.specs.Formats.{format_of};
 ghost use Rattle.plist_reader.specs.Reader.{StateGives, all_steps, steps_in_state};
 

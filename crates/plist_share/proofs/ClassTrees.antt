@@ -6,8 +6,8 @@ use Rattle.std.proofs.lemmas.List.{get_or-set_other}
 use Rattle.std.proofs.lemmas.Option.{slice_get_within, same_Some}
 use Rattle.plist_base.specs.Trees.{Scalar, Tree, Leaf, Array, Dictionary, Trees, NoTrees, TreeAnd, Members, NoMembers, MemberAnd}
 use Rattle.plist_base.specs.Events.{PlainEvent, shape_of}
-use Rattle.plist_format.specs.Object as obj
-use Rattle.plist_format.specs.Object.{dictionary}
+use Rattle.plist_base.specs.Object as obj
+use Rattle.plist_base.specs.Object.{dictionary}
 use Rattle.plist_binwrite.specs.Classes.{AreClasses, object_of}
 use Rattle.plist_binwrite.specs.Forms.{key_numbers, value_numbers}
 use Rattle.plist_buffer.specs.EventTable.{item_indices, key_indices, value_indices, keys_in, values_in, event_at, nth_number}

@@ -6,8 +6,8 @@ use Rattle.plist_base.specs.Faults.{Fault}
 use Rattle.plist_base.specs.Trees.{Tree}
 use Rattle.plist_base.specs.Bracketing.{bracketing}
 use Rattle.plist_base.proofs.Paths.{path_none}
-use Rattle.plist_format.specs.Container.{Head, head_of}
-use Rattle.plist_format.specs.Unfolding.{table_of, unfolding_of, items_with, items_of_file}
+use Rattle.plist_base.specs.Container.{Head, head_of}
+use Rattle.plist_base.specs.Unfolding.{table_of, unfolding_of, items_with, items_of_file}
 use Rattle.plist_binwrite.proofs.Least.{no_fault, all_items}
 use Rattle.plist_binwrite.proofs.Totals.{unique_distinct, pigeons}
 use Rattle.plist_buffer.proofs.Uniques.{all_unique}

@@ -6,9 +6,9 @@ use Rattle.std.proofs.lemmas.List.{map-append}
 use Rattle.std.proofs.lemmas.Option.{slice_get_within}
 use Rattle.plist_base.specs.Trees as trees
 use Rattle.plist_base.specs.Trees.{Tree, Leaf, Array, Dictionary, Trees, NoTrees, TreeAnd, Members, NoMembers, MemberAnd}
-use Rattle.plist_format.specs.Object as obj
-use Rattle.plist_format.specs.Object.{Object}
-use Rattle.plist_format.specs.Unfolding.{TableEntry}
+use Rattle.plist_base.specs.Object as obj
+use Rattle.plist_base.specs.Object.{Object}
+use Rattle.plist_base.specs.Unfolding.{TableEntry}
 use Rattle.plist_binwrite.proofs.ClassObjects.{the_scalar, the_text, the_items, the_pairs}
 use Rattle.plist_buffer.proofs.Uniques.{all_both}
 use Rattle.plist_buffer.specs.Occurrences.{positions, positions_in_items, positions_in_pairs}

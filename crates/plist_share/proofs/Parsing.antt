@@ -3,16 +3,15 @@ use Rattle.std.proofs.Common.{◌≡◌, ℕ, zero, suc, ◌+◌, Bool, true, fa
 use Rattle.std.specs.Prelude.{slice_get}
 use Rattle.std.specs.List.{list_any, flat_map}
 use Rattle.std.proofs.lemmas.Option.{slice_get_within}
-use Rattle.plist_base.specs.inner.Paths.{IsPath}
-use Rattle.plist_base.proofs.Paths.{path_push, path_rises}
+use Rattle.plist_base.proofs.Paths.{IsPath, path_push, path_rises}
 use Rattle.plist_base.specs.Faults.{Fault}
 use Rattle.plist_base.specs.Events.{PlainEvent, EndCollection, ScalarEvent, Item}
 use Rattle.plist_base.specs.Trees as trees
 use Rattle.plist_base.specs.Trees.{Tree, Leaf, Array, Dictionary, Trees, NoTrees, TreeAnd, Members, NoMembers, MemberAnd}
 use Rattle.plist_base.specs.Bracketing.{bracketing, bracketing_of_items, bracketing_of_pairs}
-use Rattle.plist_format.specs.Object as obj
-use Rattle.plist_format.specs.Object.{Object, children_of}
-use Rattle.plist_format.specs.Unfolding.{TableEntry, items_of, items_found, unfolding_of}
+use Rattle.plist_base.specs.Object as obj
+use Rattle.plist_base.specs.Object.{Object, children_of}
+use Rattle.plist_base.specs.Unfolding.{TableEntry, items_of, items_found, unfolding_of}
 use Rattle.plist_share.proofs.Meaning.{Stands, Means, MeansItems, MeansPairs}
 
 tail_is : (a b : Item) (xs ys : List Item) → a ∷ xs ≡ b ∷ ys → xs ≡ ys

@@ -8,8 +8,8 @@ use Rattle.std.specs.Str.{bytes_eq}
 use Rattle.plist_base.specs.Bracketing.{bracketing}
 use Rattle.plist_base.specs.Scalars.{scalar_eq}
 use Rattle.plist_base.specs.Trees.{Tree, Leaf, Array, Dictionary, Trees, NoTrees, TreeAnd, Members, NoMembers, MemberAnd}
-use Rattle.plist_format.specs.Container.{Head, head_of}
-use Rattle.plist_format.specs.Unfolding.{items_of_file}
+use Rattle.plist_base.specs.Container.{Head, head_of}
+use Rattle.plist_base.specs.Unfolding.{items_of_file}
 use Rattle.plist_buffer.specs.Occurrences.{positions}
 use Rattle.plist_binwrite.specs.Sizes.{HasObjects, object_size, size_with}
 use Rattle.plist_binwrite.specs.SendingAs.{FileKind}

@@ -8,13 +8,12 @@ use Rattle.plist_base.specs.declared.fixed_buffer.FixedBuffer.{FixedBuffer}
 use Rattle.plist_base.specs.Trees.{Tree}
 use Rattle.plist_base.specs.Writing.{Answer}
 use Rattle.plist_base.specs.declared.sink.Sink.{Sink}
-use Rattle.plist_format.specs.Object.{Object}
+use Rattle.plist_base.specs.Object.{Object, high_half}
 use Rattle.plist_buffer.specs.Children.{half_of}
 use Rattle.plist_buffer.specs.Occurrences.{OccursAt}
 use Rattle.plist_buffer.specs.declared.children.Half.{Half}
 use Rattle.plist_buffer.specs.declared.children.Half.TheVariants.{Keys, Values}
-use Rattle.plist_format.specs.Marker.{high_half}
-use Rattle.plist_format.specs.declared.marker.CountedKind.{CountedKind}
+use Rattle.plist_base.specs.declared.marker.CountedKind.{CountedKind}
 use Rattle.plist_binwrite.specs.Classes.{Describes, IsFileBy, object_of}
 use Rattle.plist_binwrite.specs.EventClasses.{events_in, class_in}
 use Rattle.plist_binwrite.specs.Forms.{form, length_form, reference_width, table_form, units_of}

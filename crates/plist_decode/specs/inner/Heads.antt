@@ -5,7 +5,7 @@ use Rattle.plist_base.specs.declared.error.Error.{Error}
 use Rattle.plist_base.specs.Faults.{Fault, MatchFault, fault_of}
 use Rattle.plist_decode.specs.declared.trailer.Trailer as code
 use Rattle.plist_decode.specs.declared.head.Head as held
-use Rattle.plist_format.specs.Container.{Trailer, Head, head_at, head_of, head_with, magic, trailer_in}
+use Rattle.plist_base.specs.Container.{Trailer, Head, head_at, head_of, head_with, magic, trailer_in}
 
 -- what contracts see of a trailer that the code has read
 abbrev pub trailer_seen : code.Trailer → Trailer

@@ -2,7 +2,7 @@
 use Rattle.std.specs.Prelude.{◌≡◌, ℕ, ◌+◌, ◌*◌, ◌-◌, ◌/◌, ◌<◌, ◌≤◌, List, ◌∷◌, drop, length, None, Some}
 use Rattle.std.specs.Char.{IsScalar, len_utf8}
 use Rattle.std.specs.Char.Utf16.{utf16_chars}
-use Rattle.plist_format.specs.Container.{number_at, numbers_spelled}
+use Rattle.plist_base.specs.Container.{number_at, numbers_spelled}
 
 module _ (bytes : List ℕ) (index : ℕ) where
   -- the unit at an index

@@ -7,7 +7,7 @@ use Rattle.plist_base.specs.Sinks.{buffered, room}
 use Rattle.plist_buffer.specs.Children.{half_of, indices_left}
 use Rattle.plist_buffer.specs.declared.children.Half.TheVariants.{Keys, Values}
 use Rattle.plist_buffer.proofs.ChildIndices.{are_items}
-use Rattle.plist_format.specs.Marker.{high_half}
+use Rattle.plist_base.specs.Object.{high_half}
 use Rattle.plist_binwrite.specs.EventClasses.{events_in}
 use Rattle.plist_binwrite.specs.Forms.{length_form}
 use Rattle.plist_binwrite.specs.inner.Layout.{references_of}

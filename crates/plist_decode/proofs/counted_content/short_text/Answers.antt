@@ -1,7 +1,7 @@
 use Rattle.std.proofs.Common.{ap, sym, ◌∙◌}
 use Rattle.std.specs.Str.{IsUtf8}
 use Rattle.plist_base.specs.Trees.{String}
-use Rattle.plist_format.specs.Object.{Scalar}
+use Rattle.plist_base.specs.Object.{Scalar}
 use Rattle.plist_decode.proofs.Contents.{text-utf8, text-not_utf8}
 use Rattle.plist_decode.proofs.PackedScalars.{packed_text}
 use Rattle.plist_decode.proofs.counted_content.short_text.Goals as goal

@@ -1,5 +1,5 @@
 use Rattle.std.proofs.Common.{sym, subst}
-use Rattle.plist_format.specs.Object.{Object}
+use Rattle.plist_base.specs.Object.{Object}
 use Rattle.plist_decode.specs.Decoded.{IsDecodedAs}
 use Rattle.plist_decode.proofs.counted_content.short_wide_text.Goals as goal
 

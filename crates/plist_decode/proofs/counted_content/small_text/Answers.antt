@@ -1,6 +1,6 @@
 use Rattle.std.proofs.Common.{ap, sym}
 use Rattle.plist_base.specs.Trees.{String}
-use Rattle.plist_format.specs.Object.{Scalar}
+use Rattle.plist_base.specs.Object.{Scalar}
 use Rattle.plist_decode.proofs.PackedScalars.{packed_text}
 use Rattle.plist_decode.proofs.counted_content.small_text.Goals as goal
 

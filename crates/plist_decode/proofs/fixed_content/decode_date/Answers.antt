@@ -1,5 +1,5 @@
 use Rattle.std.proofs.Common.{ap, sym, ◌∙◌}
-use Rattle.plist_format.specs.Object.{date}
+use Rattle.plist_base.specs.Object.{date}
 use Rattle.plist_decode.proofs.fixed_content.decode_date.Goals as goal
 
 pub returns-in-Some : goal.returns-in-Some

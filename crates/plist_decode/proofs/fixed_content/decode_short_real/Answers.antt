@@ -1,7 +1,7 @@
 use Rattle.std.proofs.Common.{◌≡◌, take, ap, refl, sym, ◌∙◌, rules}
 use Rattle.plist_base.specs.declared.real.RealBits.TheVariants.{Four}
 use Rattle.plist_base.specs.Trees.{Real}
-use Rattle.plist_format.specs.Object.{Scalar}
+use Rattle.plist_base.specs.Object.{Scalar}
 use Rattle.plist_decode.specs.Packed.{content_bytes}
 use Rattle.plist_decode.proofs.fixed_content.decode_short_real.Goals as goal
 

@@ -1,6 +1,6 @@
 use Rattle.std.proofs.Common.{◌∷◌, ◌++◌}
 use Rattle.plist_base.specs.Trees.{Integer}
-use Rattle.plist_format.specs.Object.{Scalar, signed}
+use Rattle.plist_base.specs.Object.{Scalar, signed}
 use Rattle.plist_decode.proofs.fixed_content.decode_signed.Goals as goal
 
 pub returns-in-Some : goal.returns-in-Some

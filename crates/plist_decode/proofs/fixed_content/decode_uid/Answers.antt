@@ -1,6 +1,6 @@
 use Rattle.std.proofs.Common.{refl}
 use Rattle.plist_base.specs.Trees.{Uid}
-use Rattle.plist_format.specs.Object.{Scalar}
+use Rattle.plist_base.specs.Object.{Scalar}
 use Rattle.plist_decode.proofs.fixed_content.decode_uid.Goals as goal
 
 pub returns-in-Some : goal.returns-in-Some

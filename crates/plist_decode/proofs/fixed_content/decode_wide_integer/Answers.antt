@@ -1,6 +1,6 @@
 use Rattle.std.proofs.Common.{◌≡◌, ◌<◌, ◌++◌, pos, refl, ◌∙◌, arith}
 use Rattle.plist_base.specs.Trees.{Integer}
-use Rattle.plist_format.specs.Object.{Scalar, wide_integer, meaning_of_front}
+use Rattle.plist_base.specs.Object.{Scalar, wide_integer, meaning_of_front}
 use Rattle.plist_decode.proofs.Contents.{wide_front, wide_low, wide_high}
 use Rattle.plist_decode.proofs.fixed_content.decode_wide_integer.Goals as goal
 

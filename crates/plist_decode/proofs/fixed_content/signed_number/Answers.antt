@@ -1,7 +1,7 @@
 use Rattle.std.proofs.Common.{◌^◌, refl, ap, sym, arith}
 use Rattle.std.proofs.lemmas.Bool.{lt-ltb}
 use Rattle.plist_base.specs.Trees.{Integer}
-use Rattle.plist_format.specs.Object.{Scalar}
+use Rattle.plist_base.specs.Object.{Scalar}
 use Rattle.plist_decode.proofs.Contents.{negative_bits}
 use Rattle.plist_decode.proofs.fixed_content.signed_number.Goals as goal
 

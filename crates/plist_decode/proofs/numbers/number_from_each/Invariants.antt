@@ -1,5 +1,5 @@
 use Rattle.std.proofs.Common.{◌≡◌, ◌<◌, ◌^◌, take}
-use Rattle.plist_format.specs.Container.{number_of}
+use Rattle.plist_base.specs.Container.{number_of}
 use Rattle.plist_decode.proofs.numbers.number_from_each.Given as goal
 
 abbrev pub invariant-loop-byte : goal.invariant-loop-byte

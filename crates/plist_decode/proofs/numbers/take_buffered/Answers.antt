@@ -1,6 +1,6 @@
 use Rattle.std.proofs.Common.{◌≡◌, ◌+◌, ◌-◌, ◌*◌, ◌/◌, ◌≤◌, ◌∙◌, ap, arith, length, rules, take, drop}
 use Rattle.std.proofs.Math.Nat.{div-mul-le_self}
-use Rattle.plist_format.specs.Container.{number_of}
+use Rattle.plist_base.specs.Container.{number_of}
 use Rattle.plist_decode.proofs.NumberRuns.{number_within, numbers_at_hand, numbers_more}
 use Rattle.plist_decode.proofs.numbers.take_buffered.Goals as goal
 

@@ -1,6 +1,6 @@
 use Rattle.std.proofs.Common.{◌≡◌, ◌/◌, ◌*◌, ◌<◌, length, arith}
 use Rattle.std.proofs.lemmas.List.FromFn.{fill_by_all}
-use Rattle.plist_format.specs.Container.{number_at}
+use Rattle.plist_base.specs.Container.{number_at}
 use Rattle.plist_decode.proofs.numbers.write_units.Goals as goal
 
 pub returns : goal.returns

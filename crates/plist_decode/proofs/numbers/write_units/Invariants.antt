@@ -1,5 +1,5 @@
 use Rattle.std.proofs.Common.{◌≡◌, ℕ, ◌*◌, ◌<◌, length, get_or}
-use Rattle.plist_format.specs.Container.{number_at}
+use Rattle.plist_base.specs.Container.{number_at}
 use Rattle.plist_decode.proofs.numbers.write_units.Given as goal
 
 abbrev pub invariant-loop-i : goal.invariant-loop-i

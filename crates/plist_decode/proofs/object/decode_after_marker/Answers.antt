@@ -1,5 +1,5 @@
 use Rattle.std.proofs.Common.{refl}
-use Rattle.plist_format.proofs.Layouts.{layout-uid}
+use Rattle.plist_base.proofs.Layouts.{layout-uid}
 use Rattle.plist_decode.proofs.Markers.{object_by_half, object_is_boolean}
 use Rattle.plist_decode.proofs.object.decode_after_marker.Goals as goal
 

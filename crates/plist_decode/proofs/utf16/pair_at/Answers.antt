@@ -1,6 +1,6 @@
 use Rattle.std.proofs.Common.{◌+◌, arith, get_or}
 use Rattle.std.proofs.str.Utf16.{IsPair}
-use Rattle.plist_format.specs.Container.{numbers_spelled}
+use Rattle.plist_base.specs.Container.{numbers_spelled}
 use Rattle.plist_decode.specs.inner.Utf16.{unit_at}
 use Rattle.plist_decode.proofs.Utf16Chars.{last_unpaired, next_pair, nth_unit, unpaired}
 use Rattle.plist_decode.proofs.utf16.pair_at.Goals as goal

@@ -1,7 +1,7 @@
 use Rattle.std.proofs.Common.{arith, sym, subst, append_assoc, append-nil, IsUtf8, ◌∙◌}
 use Rattle.std.proofs.lemmas.Str.{IsUtf8-append, IsUtf8-encode}
 use Rattle.std.proofs.str.Utf16.{utf16_chars-drop_all}
-use Rattle.plist_format.specs.Container.{numbers_spelled}
+use Rattle.plist_base.specs.Container.{numbers_spelled}
 use Rattle.plist_decode.proofs.Decoding.{units_text}
 use Rattle.plist_decode.proofs.Utf16Chars.{units_length}
 use Rattle.plist_decode.proofs.utf16.utf16_text_in.Goals as goal

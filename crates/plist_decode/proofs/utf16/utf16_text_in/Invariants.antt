@@ -1,6 +1,6 @@
 use Rattle.std.proofs.Common.{◌-◌, ◌≡◌, ◌*◌, ◌++◌, ◌≤◌, length, take, drop, IsUtf8, encode_utf8_all}
 use Rattle.std.specs.Char.Utf16.{has_unpaired_surrogate, utf16_lossy_chars}
-use Rattle.plist_format.specs.Container.{numbers_spelled}
+use Rattle.plist_base.specs.Container.{numbers_spelled}
 use Rattle.plist_decode.proofs.utf16.utf16_text_in.Given as goal
 
 abbrev pub invariant-loop-at : goal.invariant-loop-at

@@ -1,7 +1,7 @@
 use Rattle.std.proofs.Common.{◌≡◌, ◌+◌, ◌-◌, ◌^◌, arith, Result, Ok, Err, IfSome, ◌∙◌}
 use Rattle.std.specs.Prelude.{⊤}
 use Rattle.plist_base.specs.Faults.{Fault, MatchFault, error_kind_of, fault_of, kind_of}
-use Rattle.plist_format.specs.Container.{Head, head_of}
+use Rattle.plist_base.specs.Container.{Head, head_of}
 use Rattle.plist_decode.specs.inner.Heads.{head_seen}
 use Rattle.std.proofs.lemmas.Result.{IfOk-weaker, IfErr-weaker}
 use Rattle.plist_decode.proofs.Heads.{refused_short, refused_io, refused_magic, refused_cut, HeadSaid, head_whole}

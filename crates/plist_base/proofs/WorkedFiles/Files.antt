@@ -9,9 +9,9 @@ use Rattle.plist_base.specs.Events.{Item, StartArray, StartDictionary, EndCollec
 use Rattle.plist_base.specs.Faults.{FaultKind, fault_at}
 use Rattle.plist_base.specs.Trees.{Scalar}
 use Rattle.plist_base.specs.Date.{real_exponent, real_mantissa, real_scale, parts_in_second, parts_of, whole_seconds, parts_left, real_second, second_of_bits}
-use Rattle.plist_format.specs.Container.{Trailer, magic, head_of}
-use Rattle.plist_format.specs.Object.{object_in}
-use Rattle.plist_format.specs.Unfolding.{unfolding_of, items_of_file}
+use Rattle.plist_base.specs.Container.{Trailer, magic, head_of}
+use Rattle.plist_base.specs.Object.{object_in}
+use Rattle.plist_base.specs.Unfolding.{unfolding_of, items_of_file}
 
 -- the value of a hexadecimal digit: 0 to 9, or a to f
 abbrev pub digit_value : (code : ℕ) → ℕ

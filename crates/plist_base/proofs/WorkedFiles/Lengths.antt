@@ -2,7 +2,7 @@
 use Rattle.std.specs.Prelude.{[], ◌∷◌, refl, codes}
 use Rattle.plist_base.specs.Faults.{ObjectOffsetTooLarge, InvalidUtf8String}
 use Rattle.plist_base.specs.Trees.{String}
-use Rattle.plist_format.proofs.WorkedFiles.Files.{AreWorked, hex, file, one_object, trailer, refused, scalar, worked_files}
+use Rattle.plist_base.proofs.WorkedFiles.Files.{AreWorked, hex, file, one_object, trailer, refused, scalar, worked_files}
 
 lengths : AreWorked (
     -- a string

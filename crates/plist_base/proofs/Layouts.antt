@@ -1,11 +1,10 @@
 -- The layouts that several markers share, and lengths by the low half of a marker.
 use Rattle.std.proofs.Common.{rules, refl, ap, ◌≡◌, ℕ, ◌+◌, ◌*◌, ◌%◌, ◌<◌, ◌≤◌, List, arith}
 use Rattle.plist_base.specs.Trees.{Data, Uid}
-use Rattle.plist_format.specs.Container.{number_of, numbers_spelled}
-use Rattle.plist_format.specs.Marker.{high_half}
-use Rattle.plist_format.specs.Object.{Scalar, Array, Layout, Refused, Fixed, Counted, text, wide_text, counted_layout, dictionary, layout_of, length_in, meaning_counted, object_after_marker}
-use Rattle.plist_format.specs.declared.marker.CountedKind.{CountedKind}
-use Rattle.plist_format.specs.declared.marker.CountedKind.TheVariants as kind
+use Rattle.plist_base.specs.Container.{number_of, numbers_spelled}
+use Rattle.plist_base.specs.Object.{high_half, Scalar, Array, Layout, Refused, Fixed, Counted, text, wide_text, counted_layout, dictionary, layout_of, length_in, meaning_counted, object_after_marker}
+use Rattle.plist_base.specs.declared.marker.CountedKind.{CountedKind}
+use Rattle.plist_base.specs.declared.marker.CountedKind.TheVariants as kind
 
 pub layout-data : (w m : ℕ) → 64 ≤ m → m ≤ 79
     → layout_of w m ≡ Counted 1 (λ _ content. Scalar (Data content))

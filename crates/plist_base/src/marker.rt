@@ -1,9 +1,13 @@
-//! The marker of an object, which is its first byte and determines what follows.
+//! The bytes with which a binary property list begins, and the marker of an object, which is its
+//! first byte and determines what follows.
 
 ghost use Rattle.std.specs.Prelude.{◌≡◌, ℕ, ◌%◌, ◌<◌, ◌≤◌, IfNone, IfSome};
-ghost use Rattle.plist_format.specs.Marker.{IsDecodedMarker, byte_of, high_half};
+ghost use Rattle.plist_base.specs.Object.{IsDecodedMarker, byte_of, high_half};
 
 use std::marker::Model;
+
+/// The bytes with which each binary property list begins.
+pub const MAGIC: &[u8; 8] = b"bplist00";
 
 /// The low half of the marker of an object that has a length: the length itself if it is below 15,
 /// or 15, which means that the length follows the marker.

@@ -3,8 +3,8 @@ use Rattle.std.proofs.Common.{◌≡◌, ℕ, ◌<◌, ◌≤◌, List, length, 
 use Rattle.std.specs.List.{slice_get}
 use Rattle.std.proofs.lemmas.List.{length-map}
 use Rattle.std.proofs.lemmas.Option.{slice_get-map, slice_get-get_or, slice_get_past}
-use Rattle.plist_format.specs.Object.{object_in}
-use Rattle.plist_format.specs.Unfolding.{table_of}
+use Rattle.plist_base.specs.Object.{object_in}
+use Rattle.plist_base.specs.Unfolding.{table_of}
 
 pub slice_get-within : (before places : List ℕ) (width i : ℕ) → i < length places
     → slice_get (table_of before width places) i
