@@ -7,6 +7,8 @@ ghost use Rattle.plist_base.specs.Container.{number_at};
 ghost use Rattle.plist_decode.specs.FaultOffsets.{ErrWithin};
 ghost use Rattle.plist_decode.specs.Slot.{SlotCountsIo, result_in};
 
+use crate::frames::Frame;
+use crate::walk::Walk;
 use plist_base::Source;
 use plist_decode::counter::DecodeCounter;
 use plist_decode::decoded::CollectionKind;
@@ -103,22 +105,6 @@ impl Run {
         self.find(place, width)
     }
 
-    /// Returns the number in the `width` bytes at an offset, or `None` if they aren't buffered.
-    ///
-    /// If the run doesn't contain these bytes, it is filled again from the source's buffer.
-    #[inline(always)]
-    pub fn read<S: Source>(&mut self, source: &S, place: u64, width: usize) -> Option<u64>
-        requires width { width ≤ 8 }
-        requires run { IsRunOf (S.known source.now) self.old }
-        ensures value { IsNumberAt result (S.known source.now) place width }
-        ensures run { IsRunOf (S.known source.now) self.new }
-    {
-        match self.number_at(place, width) {
-            Some(number) => Some(number),
-            None => self.refill(source, place, width),
-        }
-    }
-
     /// Fills the run from the source's buffer, and returns the number in the `width` bytes at an
     /// offset, or `None` if they aren't buffered.
     #[inline(always)]
@@ -188,7 +174,7 @@ impl References {
     //
     // It doesn't wrap around, because the references of an open collection end before the trailer.
     #[inline(always)]
-    fn reference_place(&self, index: u64, width: usize) -> u64
+    pub fn reference_place(&self, index: u64, width: usize) -> u64
         requires { index < self.now.count }
         ensures { reference_place self.now index width < 2 ^ 64
             → result ≡ reference_place self.now index width }
@@ -236,12 +222,18 @@ pub struct ReferenceReader {
     /// A copy of bytes from which the references to values are read if they lie far from the
     /// references to the keys.
     pub values: Run,
+    /// The number of the collection whose children were prefetched last, or were near.
+    pub prefetched_for: u64,
+    /// The exclusive or of the bytes that were read for the last prefetch. Nothing depends on it.
+    pub prefetched: u8,
 }
 
 impl ReferenceReader {
     ghost use Rattle.std.specs.Prelude.{◌≡◌, ◌<◌, ◌≤◌, Option, List, ℕ};
     ghost use Rattle.plist_decode.specs.FaultOffsets.{ErrWithin};
     ghost use Rattle.plist_binread.specs.References.{AreReferencesOf, AreRunsOf, IsNumberAt, ReadsChildAt};
+    ghost use Rattle.plist_binread.specs.Step.{stored_references};
+    ghost use Rattle.plist_binread.specs.Walking.{walk_objects};
     ghost use Rattle.plist_decode.specs.Slot.{SlotCountsIo, result_in};
 
     /// Creates a reader that hasn't read any references yet.
@@ -251,12 +243,28 @@ impl ReferenceReader {
         ReferenceReader {
             near: Run::new(),
             values: Run::new(),
+            prefetched_for: 0,
+            prefetched: 0,
         }
     }
 
-    // Returns the reference at offset `at`, or `None` if it isn't buffered.
+    // Returns the number in the `width` bytes at an offset, or `None` if neither run contains them.
     #[inline(always)]
-    fn buffered_reference<S: Source>(
+    fn number_at(&self, place: u64, width: usize) -> Option<u64>
+        requires { width ≤ 8 }
+        ensures { (known : Option (List ℕ)) → AreRunsOf known self.now
+            → IsNumberAt result known place width }
+    {
+        match self.near.number_at(place, width) {
+            Some(number) => Some(number),
+            None => self.values.number_at(place, width),
+        }
+    }
+
+    // Fills a run from offset `at` on, and returns the reference there, or `None` if it isn't
+    // buffered.
+    #[inline(always)]
+    fn refill<S: Source>(
         &mut self,
         source: &S,
         is_value: bool,
@@ -268,29 +276,30 @@ impl ReferenceReader {
         ensures value { IsNumberAt result (S.known source.now) at width }
         ensures runs { AreRunsOf (S.known source.now) self.new }
     {
-        match self.near.number_at(at, width) {
-            Some(number) => Some(number),
-            None if is_value => self.values.read(source, at, width),
-            None => self.near.refill(source, at, width),
+        if is_value {
+            self.values.refill(source, at, width)
+        } else {
+            self.near.refill(source, at, width)
         }
     }
 
-    /// Reads the reference to a child of the collection whose references lie here, and returns the
-    /// child's number.
+    /// Reads the reference to the next child of an open collection, and returns the child's number.
     #[inline(always)]
     pub fn read_child<S: Source, C: DecodeCounter>(
         &mut self,
         source: &mut S,
         decoder: &mut Decoder<C>,
-        references: References,
-        index: u64,
+        walk: &Walk,
+        frame: Frame,
     ) -> Result<u64, StepError>
-        requires index { index < references.count }
-        requires references { AreReferencesOf (S.known source.old) decoder.old.bounds references }
+        requires object { frame.object < walk_objects walk.now }
+        requires next { frame.next < frame.count }
+        requires references { AreReferencesOf (S.known source.old) decoder.old.bounds
+            (stored_references walk.now frame) }
         requires runs { AreRunsOf (S.known source.old) self.old }
         // Result.
         ensures child { ReadsChildAt (result_in result decoder.new.slot) (S.known source.old)
-            decoder.old.bounds references.place index }
+            decoder.old.bounds (stored_references walk.now frame).place frame.next }
         // Errors.
         ensures fault { ErrWithin 0 decoder.old.bounds.trailer
             (result_in result decoder.new.slot) }
@@ -302,11 +311,16 @@ impl ReferenceReader {
         ensures failures { SlotCountsIo S.failures result decoder.new.slot source.old source.new }
     {
         let width = decoder.bounds.reference_width;
-        let at = references.reference_place(index, width);
+        let references = walk.references(frame);
+        let at = references.reference_place(frame.next, width);
         if at >= decoder.bounds.trailer || decoder.bounds.trailer - at < width as u64 {
             return Err(decoder.slot.refuse_overrun(references.place));
         }
-        match self.buffered_reference(source, references.is_value(index), at, width) {
+        if let Some(number) = self.number_at(at, width) {
+            return Ok(number);
+        }
+        walk.prefetch(source, self, frame, width);
+        match self.refill(source, references.is_value(frame.next), at, width) {
             Some(number) => Ok(number),
             None => read_reference(source, at, width, &mut decoder.slot),
         }

@@ -117,7 +117,7 @@ pub fn advance<S: Source, C: DecodeCounter, V: EventVisitor>(
         NextChild::End(_) => Some(Ok(visitor.end_collection())),
         NextChild::Child(frame) => {
             let location = walk.references(frame);
-            match references.read_child(source, decoder, location, frame.next) {
+            match references.read_child(source, decoder, walk, frame) {
                 Ok(number) => {
                     let reference = Reference {
                         at: location.place,

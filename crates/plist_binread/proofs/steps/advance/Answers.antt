@@ -20,9 +20,9 @@ taken g c =
 
 pub read_child-requires-clause-references : goal.read_child-requires-clause-references
 read_child-requires-clause-references g c =
-    rw c.references-location.ensures (child_references _ c.args.decoder.now.bounds c.args.walk.now
-    c.next_child.new.self c.in-Child.frame c.in-Child.ensures.within
-    (taken g (goal.at.read_child-requires-clause-references g c).In-Child))
+    child_references _ c.args.decoder.now.bounds c.args.walk.now c.next_child.new.self
+    c.in-Child.frame c.in-Child.ensures.within
+    (taken g (goal.at.read_child-requires-clause-references g c).In-Child)
 
 -- some steps remain before this one
 some : (g : _) (c : In-Child g) → 0 < weight_in c.args.walk.now
@@ -45,7 +45,7 @@ returns-in-Err-clause-handed g c =
       is = record {
         first = child_failed _ _ c.args.walk.now c.next_child.new.self c.in-Child.frame
             c.in-Child.ensures.within (taken g t.In-Child) _
-            (rw c.references-location.ensures at c.in-Err.ensures.child);
+            c.in-Err.ensures.child;
         cached = IfSome-all _ (λ _. tt);
         end = λ closes. absurd (rw c.in-Child.is at (c.next_child.ensures.closes closes));
       };
@@ -73,11 +73,11 @@ returns-in-Ok-clause-handed g c =
       is = record {
         first = child_yields _ _ c.args.walk.now c.next_child.new.self c.in-Child.frame
             c.in-Child.ensures.within (taken g t.In-Child) _ c.in-Ok.ensures.unchanged
-            c.in-Ok.number (rw at at c.in-Ok.ensures.child) answer h.event c.enter.new.walk
+            c.in-Ok.number c.in-Ok.ensures.child answer h.event c.enter.new.walk
             (rw (c.read_child.ensures.bounds, at) at h.is.0);
         cached = child_kept _ c.args.decoder.now.bounds c.args.walk.now c.next_child.new.self
             c.in-Child.frame c.in-Child.ensures.within (taken g t.In-Child) _
-            c.in-Ok.ensures.unchanged c.in-Ok.number (rw at at c.in-Ok.ensures.child) answer h.event
+            c.in-Ok.ensures.unchanged c.in-Ok.number c.in-Ok.ensures.child answer h.event
             c.enter.new.walk.tags.items h.is.1;
         end = λ closes. absurd (rw c.in-Child.is at (c.next_child.ensures.closes closes));
       };

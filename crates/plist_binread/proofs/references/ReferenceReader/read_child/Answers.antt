@@ -5,11 +5,19 @@ use Rattle.plist_binread.proofs.references.ReferenceReader.read_child.Goals as g
 
 pub returns-in-Some-clause-child : goal.returns-in-Some-clause-child
 returns-in-Some-clause-child g c =
-    known_slot _ c.args.decoder.now.bounds c.args.references c.args.index _ (Ok _)
-    c.requires.references c.reference_place-at.ensures c.in-Some.ensures.value tt
+    known_slot _ c.args.decoder.now.bounds _ c.args.frame.next _ (Ok _) c.requires.references
+    (rw c.references-references.ensures at c.reference_place-at.ensures)
+    (c.in-Some.ensures _ c.requires.runs) tt
+
+pub returns-in-Some-refill-clause-child : goal.returns-in-Some-refill-clause-child
+returns-in-Some-refill-clause-child g c =
+    known_slot _ c.args.decoder.now.bounds _ c.args.frame.next _ (Ok _) c.requires.references
+    (rw c.references-references.ensures at c.reference_place-at.ensures)
+    c.in-Some-refill.ensures.value tt
 
 pub returns-in-None-clause-child : goal.returns-in-None-clause-child
 returns-in-None-clause-child g c =
-    known_slot _ c.args.decoder.now.bounds c.args.references c.args.index _
+    known_slot _ c.args.decoder.now.bounds _ c.args.frame.next _
     (result_in c.read_reference.result c.read_reference.new.slot) c.requires.references
-    c.reference_place-at.ensures c.read_reference.ensures.value c.read_reference.ensures.refused
+    (rw c.references-references.ensures at c.reference_place-at.ensures)
+    c.read_reference.ensures.value c.read_reference.ensures.refused
