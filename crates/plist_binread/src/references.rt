@@ -222,8 +222,8 @@ pub struct ReferenceReader {
     /// A copy of bytes from which the references to values are read if they lie far from the
     /// references to the keys.
     pub values: Run,
-    /// The number of the collection whose children were prefetched last, or were near.
-    pub prefetched_for: u64,
+    /// The number of the collection for which a prefetch was considered last.
+    pub considered: u64,
     /// The exclusive or of the bytes that were read for the last prefetch. Nothing depends on it.
     pub prefetched: u8,
 }
@@ -243,7 +243,7 @@ impl ReferenceReader {
         ReferenceReader {
             near: Run::new(),
             values: Run::new(),
-            prefetched_for: 0,
+            considered: 0,
             prefetched: 0,
         }
     }

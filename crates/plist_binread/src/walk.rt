@@ -105,6 +105,7 @@ impl Walk {
 
     // Reads the first byte of each buffered object among the next items or values of a collection,
     // and returns the exclusive or of these bytes.
+    #[inline(never)]
     fn read_ahead<S: Source>(&self, source: &S, frame: Frame, width: usize) -> u8
         requires object { frame.object < walk_objects self.now }
         requires next { frame.next < frame.count }
@@ -133,32 +134,10 @@ impl Walk {
         read
     }
 
-    // Prefetches the objects of the next children of a collection if its number is far from that of
-    // the collection for which this function was called before.
-    #[inline(never)]
-    fn prefetch_if_far<S: Source>(
-        &self,
-        source: &S,
-        references: &mut ReferenceReader,
-        frame: Frame,
-        width: usize,
-    )
-        requires object { frame.object < walk_objects self.now }
-        requires next { frame.next < frame.count }
-        requires width { (0 < width) × (width ≤ 8) }
-        requires runs { AreRunsOf (S.known source.now) references.old }
-        ensures runs { AreRunsOf (S.known source.now) references.new }
-    {
-        let before = references.prefetched_for;
-        references.prefetched_for = frame.object;
-        if frame.object.wrapping_sub(before) >= FAR_NUMBER {
-            references.prefetched = self.read_ahead(source, frame, width);
-        }
-    }
-
     /// Prefetches the objects of the next children of a collection, before every sixteenth child,
-    /// and if objects seem to be scattered over the file: the processor would then wait for each of
-    /// them in turn.
+    /// if the number of the collection is far from that of the one for which this was considered
+    /// before. Objects then seem to be scattered over the file, so that the processor would wait for
+    /// each of them in turn.
     ///
     /// The kit has no instruction that prefetches, so a byte of each object is read.
     #[inline(always)]
@@ -175,8 +154,13 @@ impl Walk {
         requires runs { AreRunsOf (S.known source.now) references.old }
         ensures runs { AreRunsOf (S.known source.now) references.new }
     {
-        if frame.next % PREFETCH_STEP == 0 && frame.count - frame.next >= MIN_PREFETCH {
-            self.prefetch_if_far(source, references, frame, width);
+        if frame.next % PREFETCH_STEP != 0 || frame.count - frame.next < MIN_PREFETCH {
+            return;
+        }
+        let before = references.considered;
+        references.considered = frame.object;
+        if frame.object.wrapping_sub(before) >= FAR_NUMBER {
+            references.prefetched = self.read_ahead(source, frame, width);
         }
     }
 }
