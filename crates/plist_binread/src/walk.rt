@@ -21,8 +21,8 @@ const MIN_PREFETCH: u64 = 8;
 // The difference of two numbers of objects from which on the objects are taken to be scattered.
 const FAR_NUMBER: u64 = 512;
 
-// The distance of two objects from which on the second one is prefetched. If it follows the first
-// one more closely, the processor mostly fetches it by itself.
+// The distance of two objects in bytes from which on the second one is prefetched. If it is nearer
+// to the first one, the processor mostly fetches it by itself.
 const FAR: u64 = 4096;
 
 /// The state of a walk over the objects of a file.
@@ -125,7 +125,7 @@ impl Walk {
         let mut read = 0;
         for reference in bytes.chunks_exact(width).take(count as usize) {
             if let Some(place) = self.offset_of(number_from(reference)) {
-                if place.wrapping_sub(before) >= FAR {
+                if place.abs_diff(before) >= FAR {
                     read ^= source.buffered(place).first().copied().unwrap_or(0);
                 }
                 before = place;
@@ -159,7 +159,7 @@ impl Walk {
         }
         let before = references.considered;
         references.considered = frame.object;
-        if frame.object.wrapping_sub(before) >= FAR_NUMBER {
+        if frame.object.abs_diff(before) >= FAR_NUMBER {
             references.prefetched = self.read_ahead(source, frame, width);
         }
     }
