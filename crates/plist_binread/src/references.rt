@@ -8,6 +8,7 @@ ghost use Rattle.plist_decode.specs.FaultOffsets.{ErrWithin};
 ghost use Rattle.plist_decode.specs.Slot.{SlotCountsIo, result_in};
 
 use crate::frames::Frame;
+use crate::prefetch::Prefetcher;
 use crate::walk::Walk;
 use plist_base::Source;
 use plist_decode::counter::DecodeCounter;
@@ -170,9 +171,9 @@ impl References {
         }
     }
 
-    // Returns the offset of the reference to a child.
-    //
-    // It doesn't wrap around, because the references of an open collection end before the trailer.
+    /// Returns the offset of the reference to a child.
+    ///
+    /// It doesn't wrap around, because the references of an open collection end before the trailer.
     #[inline(always)]
     pub fn reference_place(&self, index: u64, width: usize) -> u64
         requires { index < self.now.count }
@@ -222,10 +223,8 @@ pub struct ReferenceReader {
     /// A copy of bytes from which the references to values are read if they lie far from the
     /// references to the keys.
     pub values: Run,
-    /// The number of the collection for which a prefetch was considered last.
-    pub considered: u64,
-    /// The exclusive or of the bytes that were read for the last prefetch. Nothing depends on it.
-    pub prefetched: u8,
+    /// Prefetches objects when a copy is filled.
+    pub prefetcher: Prefetcher,
 }
 
 impl ReferenceReader {
@@ -243,8 +242,7 @@ impl ReferenceReader {
         ReferenceReader {
             near: Run::new(),
             values: Run::new(),
-            considered: 0,
-            prefetched: 0,
+            prefetcher: Prefetcher::new(),
         }
     }
 
@@ -319,7 +317,7 @@ impl ReferenceReader {
         if let Some(number) = self.number_at(at, width) {
             return Ok(number);
         }
-        walk.prefetch(source, self, frame, width);
+        self.prefetcher.prefetch(source, walk, frame, width);
         match self.refill(source, references.is_value(frame.next), at, width) {
             Some(number) => Ok(number),
             None => read_reference(source, at, width, &mut decoder.slot),

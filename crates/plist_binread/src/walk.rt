@@ -5,25 +5,9 @@ ghost use Rattle.std.proofs.Props.{props};
 ghost use Rattle.plist_binread.specs.Remaining.{ArePacked, MarksOpenPath};
 
 use crate::frames::{Frame, Frames, NextChild};
-use crate::references::{ReferenceReader, References};
-use plist_base::Source;
-use plist_decode::decoded::CollectionKind;
-use plist_decode::numbers::number_from;
+use crate::references::References;
 use plist_decode::packed::{open_kind, open_start, unmark_open};
 use std::alloc::Global;
-
-// How many children are between two prefetches.
-const PREFETCH_STEP: u64 = 16;
-
-// Nothing is prefetched if fewer children than this are left.
-const MIN_PREFETCH: u64 = 8;
-
-// The difference of two numbers of objects from which on the objects are taken to be scattered.
-const FAR_NUMBER: u64 = 512;
-
-// The distance of two objects in bytes from which on the second one is prefetched. If it is nearer
-// to the first one, the processor mostly fetches it by itself.
-const FAR: u64 = 4096;
 
 /// The state of a walk over the objects of a file.
 #[derive(Drop)]
@@ -41,8 +25,7 @@ pub struct Walk {
 }
 
 impl Walk {
-    ghost use Rattle.std.specs.Prelude.{◌≡◌, ◌<◌, ◌≤◌, ℕ, true};
-    ghost use Rattle.plist_binread.specs.References.{AreRunsOf};
+    ghost use Rattle.std.specs.Prelude.{◌≡◌, ◌<◌, ℕ, true};
     ghost use Rattle.plist_binread.specs.Step.{IsEnd, ParentIsOpen, TakesNextChild, WeightFalls, closes, stored_references};
     ghost use Rattle.plist_binread.specs.Walking.{IsEmptyWalk, cached_in, open_in, walk_objects};
 
@@ -94,73 +77,13 @@ impl Walk {
             count: frame.count,
         }
     }
-    // Returns the offset of an object, or `None` if it is cached or open, or doesn't exist.
+
+    /// Returns the offset of an object, or `None` if it is cached or open, or doesn't exist.
     #[inline(always)]
-    fn offset_of(&self, number: u64) -> Option<u64> {
+    pub fn offset_of(&self, number: u64) -> Option<u64> {
         if number >= self.tags.len() as u64 || self.tags[number as usize] != 0 {
             return None;
         }
         Some(self.contents[number as usize])
-    }
-
-    // Reads the first byte of each buffered object among the next items or values of a collection,
-    // and returns the exclusive or of these bytes.
-    #[inline(never)]
-    fn read_ahead<S: Source>(&self, source: &S, frame: Frame, width: usize) -> u8
-        requires object { frame.object < walk_objects self.now }
-        requires next { frame.next < frame.count }
-        requires width { (0 < width) × (width ≤ 8) }
-    {
-        let references = self.references(frame);
-        let left = (frame.count - frame.next).min(PREFETCH_STEP);
-        let (index, count) = match references.kind {
-            CollectionKind::Array => (frame.next, left),
-            CollectionKind::Dictionary => (frame.next + 1, left / 2),
-        };
-        if index >= frame.count {
-            return 0;
-        }
-        let bytes = source.buffered(references.reference_place(index, width));
-        let mut before = 0;
-        let mut read = 0;
-        for reference in bytes.chunks_exact(width).take(count as usize) {
-            if let Some(place) = self.offset_of(number_from(reference)) {
-                if place.abs_diff(before) >= FAR {
-                    read ^= source.buffered(place).first().copied().unwrap_or(0);
-                }
-                before = place;
-            }
-        }
-        read
-    }
-
-    /// Prefetches the objects of the next children of a collection, before every sixteenth child,
-    /// if the number of the collection is far from that of the one for which this was considered
-    /// before. Objects then seem to be scattered over the file, so that the processor would wait for
-    /// each of them in turn.
-    ///
-    /// The kit has no instruction that prefetches, so a byte of each object is read.
-    #[inline(always)]
-    pub fn prefetch<S: Source>(
-        &self,
-        source: &S,
-        references: &mut ReferenceReader,
-        frame: Frame,
-        width: usize,
-    )
-        requires object { frame.object < walk_objects self.now }
-        requires next { frame.next < frame.count }
-        requires width { (0 < width) × (width ≤ 8) }
-        requires runs { AreRunsOf (S.known source.now) references.old }
-        ensures runs { AreRunsOf (S.known source.now) references.new }
-    {
-        if frame.next % PREFETCH_STEP != 0 || frame.count - frame.next < MIN_PREFETCH {
-            return;
-        }
-        let before = references.considered;
-        references.considered = frame.object;
-        if frame.object.abs_diff(before) >= FAR_NUMBER {
-            references.prefetched = self.read_ahead(source, frame, width);
-        }
     }
 }

@@ -1,0 +1,102 @@
+//! Prefetches the objects of a collection's next children if objects are scattered over the file.
+
+ghost use Rattle.std.specs.Prelude.{◌<◌, ◌≤◌, ◌+◌};
+ghost use Rattle.plist_binread.specs.Walking.{walk_objects};
+
+use crate::frames::Frame;
+use crate::walk::Walk;
+use plist_base::Source;
+use plist_decode::decoded::CollectionKind;
+use plist_decode::numbers::number_from;
+
+// The number of children from one prefetch to the next.
+const STEP: u64 = 16;
+
+// Nothing is prefetched if fewer children than this are left.
+const FEW: u64 = 8;
+
+// Two collections are taken to be scattered if their numbers differ by at least this much.
+const FAR_NUMBER: u64 = 512;
+
+// An object is prefetched only if it is at least this many bytes from the one before it. The
+// processor mostly fetches nearer ones by itself.
+const FAR_BYTES: u64 = 4096;
+
+/// Prefetches objects, and remembers whether they seem to be scattered.
+///
+/// The processor would otherwise wait for each scattered object in turn. The kit has no instruction
+/// that prefetches, so a byte of each object is read.
+#[derive(Clone, Copy)]
+pub struct Prefetcher {
+    // The number of the collection that was entered last, among those with enough children.
+    last_entered: u64,
+    // Whether objects seem to be scattered.
+    is_scattered: bool,
+    // The exclusive or of the bytes that were read. It is stored so that the compiler keeps the
+    // reads; nothing depends on it.
+    read: u8,
+}
+
+impl Prefetcher {
+    /// Creates a prefetcher that hasn't been asked yet.
+    pub fn new() -> Self {
+        Prefetcher {
+            last_entered: u64::MAX,
+            is_scattered: false,
+            read: 0,
+        }
+    }
+
+    // Reads the first byte of each buffered object among the next items or values of a collection,
+    // unless it is near the one before it. If nearly all are near, objects aren't scattered.
+    #[inline(never)]
+    fn read_ahead<S: Source>(&mut self, source: &S, walk: &Walk, frame: Frame, width: usize)
+        requires object { frame.object < walk_objects walk.now }
+        requires left { frame.next + 8 ≤ frame.count }
+        requires width { (0 < width) × (width ≤ 8) }
+    {
+        let references = walk.references(frame);
+        let left = (frame.count - frame.next).min(STEP);
+        let (index, count) = match references.kind {
+            CollectionKind::Array => (frame.next, left),
+            CollectionKind::Dictionary => (frame.next + 1, left / 2),
+        };
+        let bytes = source.buffered(references.reference_place(index, width));
+        let mut previous = references.place;
+        let mut far = 0u64;
+        for reference in bytes.chunks_exact(width).take(count as usize) {
+            if let Some(place) = walk.offset_of(number_from(reference)) {
+                if place.abs_diff(previous) >= FAR_BYTES {
+                    self.read ^= source.buffered(place).first().copied().unwrap_or(0);
+                    far = far.saturating_add(1);
+                }
+                previous = place;
+            }
+        }
+        self.is_scattered = far > 1;
+    }
+
+    /// Prefetches the objects of the next items or values of a collection if objects seem to be
+    /// scattered. This is done for every sixteenth child, if enough children are left.
+    ///
+    /// They seem to be scattered if the collection is entered and its number is far from that of
+    /// the one that was entered before, or otherwise if the last prefetch found several objects far
+    /// from one another.
+    #[inline(always)]
+    pub fn prefetch<S: Source>(&mut self, source: &S, walk: &Walk, frame: Frame, width: usize)
+        requires object { frame.object < walk_objects walk.now }
+        requires next { frame.next < frame.count }
+        requires width { (0 < width) × (width ≤ 8) }
+    {
+        if frame.next % STEP != 0 || frame.count - frame.next < FEW {
+            return;
+        }
+        if frame.next == 0 {
+            self.is_scattered = frame.object.abs_diff(self.last_entered) >= FAR_NUMBER;
+            self.last_entered = frame.object;
+        }
+        if self.is_scattered {
+            self.read_ahead(source, walk, frame, width);
+        }
+    }
+}
