@@ -30,6 +30,8 @@ const FAR_BYTES: u64 = 4096;
 pub struct Prefetcher {
     // The number of the collection that was entered last, among those with enough children.
     last_entered: u64,
+    // The index of the child of that collection from which on objects are prefetched next.
+    due: u64,
     // Whether objects seem to be scattered.
     is_scattered: bool,
     // The exclusive or of the bytes that were read. It is stored so that the compiler keeps the
@@ -42,6 +44,7 @@ impl Prefetcher {
     pub fn new() -> Self {
         Prefetcher {
             last_entered: u64::MAX,
+            due: 0,
             is_scattered: false,
             read: 0,
         }
@@ -62,6 +65,9 @@ impl Prefetcher {
             CollectionKind::Dictionary => (frame.next + 1, left / 2),
         };
         let bytes = source.buffered(references.reference_place(index, width));
+        if bytes.len() < width {
+            return;
+        }
         let mut previous = references.place;
         let mut far = 0u64;
         for reference in bytes.chunks_exact(width).take(count as usize) {
@@ -74,6 +80,17 @@ impl Prefetcher {
             }
         }
         self.is_scattered = far > 1;
+        self.due = frame.next.saturating_add(STEP);
+    }
+
+    // Returns whether sixteen children were entered since the last prefetch for this collection.
+    #[inline(always)]
+    fn is_due(&self, frame: Frame) -> bool {
+        if frame.object == self.last_entered {
+            frame.next >= self.due
+        } else {
+            frame.next % STEP == 0
+        }
     }
 
     /// Prefetches the objects of the next items or values of a collection if objects seem to be
@@ -88,14 +105,15 @@ impl Prefetcher {
         requires next { frame.next < frame.count }
         requires width { (0 < width) × (width ≤ 8) }
     {
-        if frame.next % STEP != 0 || frame.count - frame.next < FEW {
+        if frame.count - frame.next < FEW {
             return;
         }
         if frame.next == 0 {
             self.is_scattered = frame.object.abs_diff(self.last_entered) >= FAR_NUMBER;
             self.last_entered = frame.object;
+            self.due = 0;
         }
-        if self.is_scattered {
+        if self.is_scattered && self.is_due(frame) {
             self.read_ahead(source, walk, frame, width);
         }
     }
