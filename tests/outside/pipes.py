@@ -1,13 +1,16 @@
 #!/usr/bin/env python3
-"""Runs `plist_tool convert` to a pipe, to a named pipe, to /dev/null and to /dev/full.
+"""Runs `plist_tool convert` to a pipe, to a named pipe, and to devices.
 
     tests/outside/pipes.py [PROGRAM]
 
 All bytes must come through a pipe, with status 0, although a pipe can't be synced. For a device that
-is full the status must be 1.
+is full the status must be 1. The devices are a null device and a full one of the script's own, so
+that a program that removes OUT can't remove those of the system. Only root can make them, so anyone
+else doesn't try them.
 """
 import os
 import pathlib
+import stat
 import subprocess
 import sys
 import tempfile
@@ -33,6 +36,26 @@ def through_named_pipe(source, folder):
     return status, found[0]
 
 
+def device(folder, name, minor):
+    """Makes the memory device with this number: 3 discards all bytes, and 7 is always full."""
+    path = folder / name
+    os.mknod(path, 0o600 | stat.S_IFCHR, os.makedev(1, minor))
+    return path
+
+
+def try_devices(source, folder):
+    """Converts to the devices, and returns whether they could be made and opened."""
+    try:
+        null, full = device(folder, "null", 3), device(folder, "full", 7)
+        null.open("wb").close()
+    except PermissionError:
+        return False
+    assert convert(source, null).returncode == 0
+    ran = convert(source, full)
+    assert ran.returncode == 1 and ran.stderr.startswith(b"Error: Io"), ran
+    return True
+
+
 def main():
     with tempfile.TemporaryDirectory() as name:
         folder = pathlib.Path(name)
@@ -45,10 +68,8 @@ def main():
         assert through_named_pipe(source, folder) == (0, whole)
         piped = convert(source, "/dev/stdout", stdout=subprocess.PIPE)
         assert (piped.returncode, piped.stdout) == (0, whole)
-        assert convert(source, "/dev/null").returncode == 0
-        full = convert(source, "/dev/full")
-        assert full.returncode == 1 and full.stderr.startswith(b"Error: Io"), full
-    print(f"{len(whole)} bytes came through both pipes")
+        tried = try_devices(source, folder)
+    print(f"{len(whole)} bytes came through both pipes; {'the' if tried else 'no'} devices were tried")
 
 
 if __name__ == "__main__":

@@ -1,12 +1,16 @@
 //! Calls that allocate memory, each while memory is available.
 
 use crate::support::{must, same};
+use plist::dictionary::Entry;
 use plist::stream::{AsciiReader, BinaryReader, BinaryWriter, Event, OwnedEvent, Reader, Writer};
-use plist::{Builder, Data, Date, Dictionary, Error, ErrorKind, Limits, Uid, Value, write_value};
+use plist::{
+    Builder, Data, Date, Dialect, Dictionary, Error, ErrorKind, Limits, Uid, Value, write_value,
+};
 use plist_commands::{convert_binary, print_events, print_value, program_arguments};
 use plist_keyed::{Archive, KeyedError};
 use plist_share::SharingWriter;
 use std::alloc::Global;
+use std::borrow::CowStr;
 use std::env::Env;
 use std::process::Abort;
 
@@ -82,12 +86,18 @@ fn copied(alloc: Global, value: Value) -> Result<Value, Error> {
     copy
 }
 
-fn read_values(alloc: Global) -> [Call; 6] {
+fn read_values(alloc: Global) -> [Call; 9] {
     let limited = Value::from_reader_with_limits(alloc, BINARY, LIMITS);
+    let within = Value::from_reader_within(alloc, BINARY, LIMITS, 9);
+    let tight = Value::from_reader_with_dialect(alloc, ASCII, Dialect::Tight);
+    let tight_ascii = Value::from_reader_ascii_with_dialect(alloc, ASCII, Dialect::Tight);
     let events = [Ok(Event::Boolean(true))];
     [
         ("from_reader", ran_out(Value::from_reader(alloc, BINARY))),
         ("from_reader_with_limits", ran_out(limited)),
+        ("from_reader_within", ran_out(within)),
+        ("from_reader_with_dialect", ran_out(tight)),
+        ("from_reader_ascii_with_dialect", ran_out(tight_ascii)),
         (
             "from_reader_ascii",
             ran_out(Value::from_reader_ascii(alloc, ASCII)),
@@ -162,6 +172,37 @@ fn dictionaries(rt: &(impl Abort + AllocGlobal)) -> [Call; 5] {
     calls
 }
 
+// Returns whether an insert into an entry failed. The entry must be vacant.
+fn fails_to_insert(entry: Entry<'_>) -> bool {
+    match entry {
+        Entry::Vacant(vacant) => has_failed(vacant.insert(Value::Boolean(true))),
+        Entry::Occupied(_) => true,
+    }
+}
+
+fn entries(rt: &(impl Abort + AllocGlobal)) -> [Call; 3] {
+    let (first, second, third) = (key(rt, "a"), key(rt, "b"), key(rt, "c"));
+    let mut pairs = Dictionary::new(rt.alloc());
+    let vacant = fails_to_insert(pairs.entry(first));
+    let or_insert_with = has_failed(pairs.entry(second).or_insert_with(|| Value::Boolean(true)));
+    let made = Dictionary::from_pairs(rt.alloc(), [(third, Value::Boolean(true))]);
+    drop(pairs);
+    [
+        ("insert of a vacant entry", vacant),
+        ("or_insert_with", or_insert_with),
+        ("from_pairs", ran_out(made)),
+    ]
+}
+
+fn events(alloc: Global) -> [Call; 2] {
+    let event = Event::String(CowStr::Borrowed("ab"));
+    let copy = ran_out(event.clone(alloc));
+    [
+        ("clone of an event", copy),
+        ("into_owned", ran_out(event.into_owned(alloc))),
+    ]
+}
+
 fn texts(rt: &(impl Abort + AllocGlobal)) -> [Call; 4] {
     let date = must(rt, Date::from_plist_real([0; 8]));
     let data = Data::new(must(rt, Vec::from_slice(rt.alloc(), b"ab")));
@@ -220,9 +261,11 @@ fn always_out_of_memory(rt: HostRuntime) {
         first_of(&writers(alloc)),
         first_of(&written_values(alloc)),
         first_of(&dictionaries(&rt)),
+        first_of(&entries(&rt)),
+        first_of(&events(alloc)),
         first_of(&texts(&rt)),
         first_of(&commands(&rt)),
         first_of(&archives(&rt)),
     ];
-    same(&rt, "the calls", &found, &[""; 8]);
+    same(&rt, "the calls", &found, &[""; 10]);
 }
