@@ -1,5 +1,6 @@
 -- Items as far as an allowance admits them.
-use Rattle.std.proofs.Common.{◌≡◌, Bool, true, false, cond, List, [], ◌∷◌, map, Option, None, Some, Result, Ok, Err, MatchBool, refl, sym, ap, ◌∙◌, subst, option_map}
+use Rattle.std.proofs.Common.{◌≡◌, Bool, true, false, cond, List, [], ◌∷◌, map, Option, None, Some, Result, Ok, Err, IfSome, MatchBool, refl, sym, ap, ◌∙◌, subst, option_map}
+use Rattle.std.specs.Bool.{⊤}
 use Rattle.std.specs.Iterator.{Yields}
 use Rattle.plist_base.specs.declared.error.Error.{Error}
 use Rattle.plist_base.specs.declared.event.Event.{Event}
@@ -8,9 +9,8 @@ use Rattle.plist_base.specs.Allowances.{GivesAllowed, PassesNext, items_allowed,
 use Rattle.plist_base.specs.Events.{Item, PlainEvent, event_of}
 use Rattle.plist_base.specs.Faults.{Fault}
 use Rattle.plist.specs.Collecting.{item_by}
-use Rattle.plist.specs.ValueOfItems.{PredictsItems}
-use Rattle.plist_base.specs.FirstItems.{GivesFirstIfKnown}
-use Rattle.plist_base.proofs.FirstItems.{first_allowed_if_known, none_allowed}
+use Rattle.plist.specs.ValueOfItems.{IsPredicted, PredictsItems}
+use Rattle.plist_base.proofs.FirstItems.{first_allowed_if_known}
 
 abbrev pub Given : Type 0
 Given = Option (Result Event Error)
@@ -29,15 +29,37 @@ module _ {A : Type 0} (lets : A → List Item → List Item) (may_reach : Fault 
 
   -- ---- the items that are predicted
 
+  none_left : (was : Bool) (old : A) (before : Option (List Item)) → was ≡ false
+      → IfSome before (λ all. all ≡ [])
+      → IfSome (option_map (come was old) before) (λ all. all ≡ [])
+  none_left was old None w h = tt
+  none_left was old (Some all) w h = rw (w, h) (ends old)
+
+  -- an item that is allowed is predicted if that of the inner iterator is
+  next_allowed : (old new : A) (was now : Bool) (before after : Option (List Item))
+      (asked item : Given) → was ≡ false → IsPredicted event_of before asked after
+      → PassesNext lets may_reach old asked item (new, now)
+      → IsPredicted event_of (option_map (come was old) before) item
+      (option_map (come now new) after)
+  next_allowed old new was now before after None item w h p = rw p.0 (none_left was old before w h)
+  next_allowed old new was now before after (Some asked) None w h p = absurd p
+  next_allowed old new was now before after (Some asked) (Some given) w h p =
+      first_allowed_if_known lets may_reach (λ _ _. ⊤) (λ _ _. ⊤) (λ _ _. ⊤) (λ _ _. ⊤) ends stops
+      (λ _. tt) (λ _ _ _ _. tt) (λ _. tt) old new was now before after (Some asked) (Some given) w
+      h p
+
   module _ {I : Type 0} (inner_gives : I → Given → I → Type 0) where
     -- the iterator has ended
     over : (coming : I → Option (List Item)) (old new : LimitedItems I A) (item : Given)
         → old.ended ≡ true → item ≡ None → new ≡ old
-        → GivesFirstIfKnown event_of (option_map (items_allowed lets old) (coming (iterator_of old)))
+        → IsPredicted event_of (option_map (items_allowed lets old) (coming (iterator_of old)))
         item (option_map (items_allowed lets new) (coming (iterator_of new)))
-    over coming old new item e none same =
-        rw (same, none) (none_allowed event_of (items_allowed lets old) (coming (iterator_of old))
-        (λ items. rw e refl))
+    over coming old new item e none same = rw none (by (coming (iterator_of old)))
+      where
+        by : (known : Option (List Item))
+            → IfSome (option_map (items_allowed lets old) known) (λ all. all ≡ [])
+        by None = tt
+        by (Some all) = rw e refl
 
     -- if the items of the inner iterator are predicted, so are those that are allowed
     pub allowed-shows : (coming : I → Option (List Item))
@@ -50,14 +72,13 @@ module _ {A : Type 0} (lets : A → List Item → List Item) (may_reach : Fault 
             → MatchBool b ((item ≡ None) × (new ≡ old))
             ((asked : Given) × inner_gives old.inner asked new.inner
             × PassesNext lets may_reach old.limiter asked item (new.limiter, new.ended))
-            → GivesFirstIfKnown event_of
+            → IsPredicted event_of
             (option_map (items_allowed lets old) (coming (iterator_of old))) item
             (option_map (items_allowed lets new) (coming (iterator_of new)))
         by true e (none, same) = over coming old new item e none same
         by false e (asked, gave, passes) =
-            first_allowed_if_known lets may_reach ends stops old.limiter new.limiter old.ended
-            new.ended (coming old.inner) (coming new.inner) asked item e
-            (shows old.inner asked new.inner gave) passes
+            next_allowed old.limiter new.limiter old.ended new.ended (coming old.inner)
+            (coming new.inner) asked item e (shows old.inner asked new.inner gave) passes
 
   -- ---- the events that were yielded
 

@@ -11,14 +11,14 @@ use Rattle.plist_base.proofs.Lengths.{alike_without_length}
 use Rattle.plist_base.proofs.Lengths.{lengthless-is}
 use Rattle.plist.specs.declared.stream.events.Events.{Events}
 use Rattle.plist.specs.Events.{GivesEvent, remaining_events}
+use Rattle.plist.proofs.GivenEvents.{event_comes}
 use Rattle.plist.specs.SendingValues.{StopsSending, SendsTree}
 use Rattle.plist_binwrite.specs.SendingAs.{FailsAs, SendsAs}
 use Rattle.plist_binwrite.specs.Files.{least_files}
 
--- the events that were collected and those that remain, all without lengths
+-- the events that were collected, and those that remain without lengths, are these
 abbrev pub GatheredSoFar : List PlainEvent → (stored : List PlainEvent) → (left : Events) → Type 0
-GatheredSoFar all stored left = stored ++ map without_length (remaining_events left)
-    ≡ map without_length all
+GatheredSoFar all stored left = stored ++ map without_length (remaining_events left) ≡ all
 
 -- one more event was collected
 pub gathered_more : (all stored new : List PlainEvent) (before after : Events)
@@ -26,18 +26,16 @@ pub gathered_more : (all stored new : List PlainEvent) (before after : Events)
     → GivesEvent before (Some item) after → item ≡ Ok event
     → new ≡ stored ++ without_length (event_of event) ∷ [] → GatheredSoFar all new after
 gathered_more all stored new before after item event so gives is grown =
-    let given = (subst (λ i. GivesEvent before (Some i) after) is gives).0 in
+    let given = event_comes (subst (λ i. GivesEvent before (Some i) after) is gives) in
     ap (λ l. l ++ map without_length (remaining_events after)) grown
     ∙ append_assoc stored (without_length (event_of event) ∷ []) (map without_length
     (remaining_events after))
     ∙ ap (λ l. stored ++ map without_length l) (sym given) ∙ so
 
 -- if no events remain, all of them were collected
-pub gathered_all : (tree : Tree) (stored left : List PlainEvent)
-    → stored ++ map without_length left ≡ map without_length (bracketing tree) → left ≡ []
-    → stored ≡ lengthless tree
-gathered_all tree stored left so none =
-    cc (append-nil _, lengthless-is _)
+pub gathered_all : {all : List PlainEvent} (stored left : List PlainEvent)
+    → stored ++ map without_length left ≡ all → left ≡ [] → stored ≡ all
+gathered_all stored left so none = cc (append-nil stored)
 
 pub gathered_alike : (tree : Tree) (es : List PlainEvent) → es ≡ lengthless tree
     → AreAlike es (bracketing tree)

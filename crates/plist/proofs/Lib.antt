@@ -5,6 +5,7 @@ pub mod StepLaws
 pub mod Tops
 pub mod ValueLastWins
 pub mod Starts
+pub mod GivenEvents
 pub mod BuilderItems
 pub mod BuiltVisits
 pub mod PredictedItems

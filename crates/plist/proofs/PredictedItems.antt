@@ -3,7 +3,7 @@ use Rattle.std.proofs.Common.{◌≡◌, List, [], ◌∷◌, ◌++◌, Option, 
 use Rattle.std.specs.Prelude.{⊤}
 use Rattle.std.specs.Iterator.{Yields}
 use Rattle.std.proofs.lemmas.List.{map_push}
-use Rattle.std.proofs.lemmas.Option.{none-some}
+use Rattle.std.proofs.lemmas.Option.{IfSome_then, none-some}
 use Rattle.plist_base.specs.declared.error.Error.{Error}
 use Rattle.plist_base.specs.Events.{PlainEvent, Item}
 use Rattle.plist_base.specs.Faults.{FaultKind, Fault, MatchFault, OutOfMemory, fault_of, fault_without_offset}
@@ -12,10 +12,11 @@ use Rattle.plist_base.specs.Bracketing.{bracketing, without_length, AreAlike}
 use Rattle.plist.specs.Building.{Unfinished, events_so_far, refusal_at, IsNested}
 use Rattle.plist.specs.Collecting.{Collects, IsRefusal, RefusesOne, item_by}
 use Rattle.plist.proofs.Following.{refused-ends}
-use Rattle.plist.specs.ValueOfItems.{AreItemsOfTree, IsValueOf, IsReadIfKnown, IsReadBack, PredictsItems}
+use Rattle.plist.specs.ValueOfItems.{AreItemsOfTree, IsPredicted, IsValueOf, IsReadIfKnown, IsReadBack, PredictsItems}
 use Rattle.plist_base.specs.FirstItems.{GivesFirst, GivesFirstIfKnown}
 use Rattle.plist.specs.LastWins.{last_wins}
 use Rattle.plist_base.proofs.OneTree.{one_tree}
+use Rattle.plist_base.proofs.FirstItems.{first_weaker_if_known}
 use Rattle.plist_base.proofs.Lengths.{alike_with}
 use Rattle.plist_base.proofs.Refusals.{MatchFault-weaker, MatchFault-all, MatchFault-at}
 
@@ -76,13 +77,30 @@ no-tree-end all events is none tree (others, same, like) =
     let e : others ≡ events = s.2 ∙ ap (λ l. events ++ l) (no-events s.0 s.1) ∙ append-nil events in
     none tree (ap (map without_length) (sym e) ∙ like)
 
+-- ---- what is predicted
+
+-- the first item is one that is predicted
+pub predicted : {E : Type 0} (plain : E → PlainEvent) (io memory : (before after : List Item) → Type 0)
+    (before after : Option (List Item)) (item : Option (Result E Error))
+    → GivesFirstIfKnown plain io memory before item after → IsPredicted plain before item after
+predicted plain io memory before after None h = IfSome_then before h (λ all h. h.2.0)
+predicted plain io memory before after (Some answer) h =
+    first_weaker_if_known plain io memory (λ _ _. ⊤) (λ _ _. ⊤) (λ _ _ _. tt) (λ _ _ _. tt)
+    before after (Some answer) h
+
+-- an item is the first of those that remained, whatever is true after `Io` and `OutOfMemory`
+abbrev First : {E : Type 0} → (plain : E → PlainEvent) → List Item → Result E Error → List Item
+    → Type 0
+First plain before answer after =
+    GivesFirst plain (λ _ _. ⊤) (λ _ _. ⊤) before (Some answer) after
+
 -- ---- an event is rejected
 
 -- the item after these events isn't taken
 pub stops-there : {E : Type 0} (plain : E → PlainEvent) (all left after : List Item)
     (events : List PlainEvent) (unfinished : Unfinished) (item : Result E Error) (fault : Fault)
     → IsNested unfinished → AreAlike (events_so_far unfinished) events
-    → all ≡ map Ok events ++ left → GivesFirst plain left (Some item) after
+    → all ≡ map Ok events ++ left → First plain left item after
     → RefusesOne unfinished (item_by plain item) fault → IsValueOf all (Err fault)
 stops-there plain all left after events unfinished (Ok event) fault ok alike is b r =
     by (refusal_at unfinished e) refl r
@@ -118,7 +136,7 @@ never-rejected : {E : Type 0} (plain : E → PlainEvent) (tree : Tree) (left aft
     (event : PlainEvent) (fault : Fault) → IsNested unfinished
     → AreAlike (events_so_far unfinished) events
     → map Ok (bracketing tree) ≡ map Ok events ++ left → item_by plain item ≡ Ok event
-    → GivesFirst plain left (Some item) after → IsRefusal (refusal_at unfinished event) fault
+    → First plain left item after → IsRefusal (refusal_at unfinished event) fault
     → fault ≡ fault_without_offset OutOfMemory
 never-rejected plain tree left after events unfinished (Err error) event fault ok alike is same b r =
     absurd (cc same)
@@ -140,15 +158,19 @@ never-rejected plain tree left after events unfinished (Ok given) event fault ok
 module _ {E I : Type 0} (plain : E → PlainEvent)
     (gives : I → Option (Result E Error) → I → Type 0) (coming : I → Option (List Item))
     (shows : PredictsItems plain gives coming) where
-  asked : (old : I) (item : Option (Result E Error)) (new : I) (all : List Item)
-      → coming old ≡ Some all → gives old item new → (left : List Item)
-      × (coming new ≡ Some left) × GivesFirst plain all item left
-  asked old item new all c g =
-      subst (λ o. GivesFirstIfKnown plain o item (coming new)) c (shows old item new g)
+  asked : (old : I) (answer : Result E Error) (new : I) (all : List Item)
+      → coming old ≡ Some all → gives old (Some answer) new → (left : List Item)
+      × (coming new ≡ Some left) × First plain all answer left
+  asked old answer new all c g =
+      subst (λ o. IsPredicted plain o (Some answer) (coming new)) c (shows old (Some answer) new g)
+
+  ended : (old new : I) (all : List Item) → coming old ≡ Some all → gives old None new → all ≡ []
+  ended old new all c g =
+      subst (λ o. IsPredicted plain o None (coming new)) c (shows old None new g)
 
   first : (x : Result E Error) (d : PlainEvent) (taken : List (Result E Error))
       (more all left : List Item) → map (item_by plain) (x ∷ taken) ≡ Ok d ∷ more
-      → GivesFirst plain all (Some x) left → all ≡ Ok d ∷ left
+      → First plain all x left → all ≡ Ok d ∷ left
   first (Ok event) d taken more all left e b = cc (e, b)
   first (Err error) d taken more all left e b = cc e
 
@@ -156,11 +178,11 @@ module _ {E I : Type 0} (plain : E → PlainEvent)
   drained : (events : List PlainEvent) (taken : List (Result E Error)) (iter t u : I)
       (all : List Item) → coming iter ≡ Some all → Yields gives iter taken t → gives t None u
       → map (item_by plain) taken ≡ map Ok events → all ≡ map Ok events
-  drained [] [] iter t u all c y end e = (asked t None u all (ap coming (sym y) ∙ c) end).2
+  drained [] [] iter t u all c y end e = ended t u all (ap coming (sym y) ∙ c) end
   drained [] (x ∷ taken) iter t u all c y end e = cc e
   drained (d ∷ events) [] iter t u all c y end e = cc e
   drained (d ∷ events) (x ∷ taken) iter t u all c (mid, s, y) end e =
-      let g = asked iter (Some x) mid all c s in
+      let g = asked iter x mid all c s in
       first x d taken (map Ok events) all g.0 e g.2
       ∙ ap (λ l. Ok d ∷ l) (drained events taken mid t u g.0 g.1 y end (cc e))
 
@@ -169,14 +191,14 @@ module _ {E I : Type 0} (plain : E → PlainEvent)
       (all : List Item) → coming iter ≡ Some all → Yields gives iter taken t
       → map (item_by plain) taken ≡ map Ok events ++ item ∷ []
       → (x : Result E Error) × (item_by plain x ≡ item) × (left after : List Item)
-      × (all ≡ map Ok events ++ left) × GivesFirst plain left (Some x) after
+      × (all ≡ map Ok events ++ left) × First plain left x after
   following [] [] iter t item all c y e = absurd (cc e)
   following [] (x ∷ taken) iter t item all c (mid, s, y) e =
-      let g = asked iter (Some x) mid all c s in
+      let g = asked iter x mid all c s in
       (x, cc e, all, g.0, refl, g.2)
   following (d ∷ events) [] iter t item all c y e = absurd (cc e)
   following (d ∷ events) (x ∷ taken) iter t item all c (mid, s, y) e =
-      let g = asked iter (Some x) mid all c s in
+      let g = asked iter x mid all c s in
       let (last, same, left, after, split, gives) = following events taken mid t item g.0 g.1 y (cc e) in (
         last,
         same,

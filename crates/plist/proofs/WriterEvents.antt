@@ -8,6 +8,7 @@ use Rattle.plist_base.specs.Writing.{Answer}
 use Rattle.plist.specs.declared.stream.events.Events.{Events}
 use Rattle.plist.specs.WrittenEvents.{TakesAll, WritesEvents, WritesItem}
 use Rattle.plist.specs.Events.{remaining_events, GivesEvent}
+use Rattle.plist.proofs.GivenEvents.{event_comes, memory_comes, none_comes}
 
 module _ {S : Type 0} (Step : S → PlainEvent → Answer → S → Type 0) where
   took-more : (taken : List PlainEvent) (before between after : S) (e : PlainEvent)
@@ -30,7 +31,7 @@ module _ {S : Type 0} (Step : S → PlainEvent → Answer → S → Type 0) wher
       → WritesItem Step now (item_of item) (Ok tt) after → HandedSoFar before all left after
   one-more before now after all events left (Ok e) (taken, is, took) g s = (
     taken ++ event_of e ∷ [],
-    is ∙ ap (λ l. taken ++ l) g.0
+    is ∙ ap (λ l. taken ++ l) (event_comes g)
         ∙ sym (append_assoc taken (event_of e ∷ []) (remaining_events left)),
     took-more _
         _ now _ _ took s,
@@ -43,16 +44,17 @@ module _ {S : Type 0} (Step : S → PlainEvent → Answer → S → Type 0) wher
       → WritesItem Step now (item_of item) (Err fault) after
       → WritesEvents Step before all (Err fault) after
   refused before now after all events left (Ok e) fault (taken, is, took) g s =
-      (taken, event_of e ∷ remaining_events left, is ∙ ap (λ l. taken ++ l) g.0, (now, took, inl s))
-  refused before now after all events left (Err error) fault (taken, is, took) g s = (
-    taken,
-    remaining_events events,
-    is,
-    (now, took, inr (cc (s.0, g.0), g.1, s.1)),
-  )
+      (taken, event_of e ∷ remaining_events left, is ∙ ap (λ l. taken ++ l) (event_comes g), (now, took, inl s))
+  refused before now after all events left (Err error) fault (taken, is, took) g s =
+      let stops = memory_comes g in (
+        taken,
+        remaining_events events,
+        is,
+        (now, took, inr (cc (s.0, stops.0), stops.1, s.1)),
+      )
 
   pub all-handed : (before now : S) (all : List PlainEvent) (events left : Events)
       → HandedSoFar before all events now → GivesEvent events None left
       → TakesAll Step before all now
   all-handed before now all events left (taken, is, took) g =
-      rw (is ∙ ap (λ l. taken ++ l) g.0 ∙ append-nil taken) took
+      rw (is ∙ ap (λ l. taken ++ l) (none_comes g) ∙ append-nil taken) took

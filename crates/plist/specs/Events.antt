@@ -1,5 +1,5 @@
 -- The remaining events of an iterator over a value's events.
-use Rattle.std.specs.Prelude.{◌≡◌, List, [], ◌∷◌, ◌++◌, Option, Some, None, Result, Ok, Err, map, reverse, string_bytes, ⊤}
+use Rattle.std.specs.Prelude.{◌≡◌, List, [], ◌∷◌, ◌++◌, Option, Some, None, Result, Ok, IfOk, IfSome, map, reverse, string_bytes, ⊤}
 use Rattle.std.specs.Borrow.{Bor}
 use Rattle.plist_base.specs.declared.error.Error.{Error}
 use Rattle.plist_base.specs.declared.event.Event.{Event}
@@ -7,7 +7,8 @@ use Rattle.plist_base.specs.declared.event.Event.TheVariants as event
 use Rattle.std.specs.declared.borrow.CowStr.TheVariants as text
 use Rattle.std.specs.declared.borrow.CowSlice.TheVariants as slice
 use Rattle.plist_base.specs.Events.{PlainEvent, StartArray, StartDictionary, EndCollection, ScalarEvent, event_of}
-use Rattle.plist_base.specs.Faults.{fault_of, fault_without_offset, OutOfMemory}
+use Rattle.plist_base.specs.FirstItems.{GivesFirst, StopsIf}
+use Rattle.plist_base.specs.Outcomes.{OnlyMemory}
 use Rattle.plist_base.specs.Trees.{String, trees_of, members_of}
 use Rattle.plist_base.specs.Bracketing.{bracketing, bracketing_of_items, bracketing_of_pairs}
 use Rattle.plist.specs.declared.value.Value.{Value}
@@ -49,20 +50,20 @@ BeginsWithStart (StartArray length ∷ events) = ⊤
 BeginsWithStart (StartDictionary length ∷ events) = ⊤
 BeginsWithStart events = ⊥
 
--- The first of these events is yielded, with its string or data borrowed, and the others remain.
--- Nothing is yielded only if there is no event. If an allocation fails, `OutOfMemory` is yielded in
--- place of a start, and nothing remains.
-abbrev pub GivesFirstOf : List PlainEvent → Option (Result Event Error) → Events → Type 0
-GivesFirstOf events None after = (events ≡ []) × (remaining_events after ≡ [])
-GivesFirstOf events (Some (Ok given)) after =
-    (events ≡ event_of given ∷ remaining_events after) × IsBorrowed given
-GivesFirstOf events (Some (Err error)) after =
-    (fault_of error ≡ fault_without_offset OutOfMemory) × BeginsWithStart events
-    × (remaining_events after ≡ [])
+-- The first of these events is yielded, and the others remain. Nothing is yielded only if there is no
+-- event. If an allocation fails, `OutOfMemory` is yielded in place of a start, and nothing remains.
+pub record GivesEventOf (events : List PlainEvent) (item : Option (Result Event Error))
+    (after : Events) : Type 0 where
+  pub items : GivesFirst event_of (λ _ _. ⊥) (StopsIf (λ _. BeginsWithStart events))
+      (map Ok events) item (map Ok (remaining_events after))
+  -- a string or data is borrowed
+  pub borrowed : IfSome item (λ answer. IfOk answer IsBorrowed)
+  -- an error is `OutOfMemory`, without an offset
+  pub memory : IfSome item OnlyMemory
 
 -- the first remaining event is yielded
 abbrev pub GivesEvent : Events → Option (Result Event Error) → Events → Type 0
-GivesEvent before item after = GivesFirstOf (remaining_events before) item after
+GivesEvent before item after = GivesEventOf (remaining_events before) item after
 
 -- what is next, and what remains after it
 abbrev pub ComesNext : Events → Next → Events → Type 0

@@ -1,5 +1,5 @@
 -- The value of a list of items, and of an iterator if the items that it will yield are known.
-use Rattle.std.specs.Prelude.{◌≡◌, ℕ, List, [], ◌∷◌, ◌++◌, Option, Result, Ok, Err, IfSome, map, ⊤}
+use Rattle.std.specs.Prelude.{◌≡◌, ℕ, List, [], ◌∷◌, ◌++◌, Option, None, Some, Result, Ok, Err, IfSome, map, ⊤}
 use Rattle.plist_base.specs.declared.error.Error.{Error}
 use Rattle.plist_base.specs.Events.{PlainEvent, Item}
 use Rattle.plist_base.specs.FirstItems.{GivesFirstIfKnown}
@@ -53,12 +53,20 @@ abbrev pub ReadsItems : (List ℕ → List Item) → (known : Option (List ℕ))
 ReadsItems items_of known answer =
     IfSome known (λ bytes. IsValueOf (items_of bytes) (built_tree answer))
 
+-- The item is the first of those that remained, if they are known, and the others remain. After `None`
+-- nothing is said about what remains, and after `Io` and `OutOfMemory` only that it is known.
+abbrev pub IsPredicted : {E : Type 0} → (plain : E → PlainEvent) → (before : Option (List Item))
+    → Option (Result E Error) → (after : Option (List Item)) → Type 0
+IsPredicted plain before None after = IfSome before (λ all. all ≡ [])
+IsPredicted plain before (Some answer) after =
+    GivesFirstIfKnown plain (λ _ _. ⊤) (λ _ _. ⊤) before (Some answer) after
+
 -- `coming` predicts the items of an iterator: each call returns the first item of its list
 abbrev pub PredictsItems : {E I : Type 0} → (plain : E → PlainEvent)
     → (I → Option (Result E Error) → I → Type 0) → (coming : I → Option (List Item)) → Type 0
 PredictsItems {E} {I} plain next_gives coming =
     (old : I) (item : Option (Result E Error)) (new : I) → next_gives old item new
-    → GivesFirstIfKnown plain (coming old) item (coming new)
+    → IsPredicted plain (coming old) item (coming new)
 
 -- if any function predicts the iterator's items, the result is their value
 abbrev pub AnswersAsPredicted : {E I : Type 0} → (plain : E → PlainEvent)

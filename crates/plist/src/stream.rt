@@ -10,4 +10,4 @@ pub use plist_ascii::AsciiReader;
 pub use plist_base::{Event, OwnedEvent, Seeking, Sequential, Source, Writer};
 pub use plist_binread::BinaryReader;
 pub use plist_binwrite::BinaryWriter;
-pub use plist_reader::Reader;
+pub use plist_reader::{BufferedSource, Reader};

@@ -1,15 +1,17 @@
 //! Writes the events of values to a writer.
 
-ghost use Rattle.std.specs.Prelude.{◌≡◌, IfOk};
-ghost use Rattle.plist_base.specs.Bracketing.{lengthless};
+ghost use Rattle.std.specs.Prelude.{◌≡◌, ◌++◌, map, IfOk, OnOk};
+ghost use Rattle.plist_base.specs.Bracketing.{lengthless, without_length};
 ghost use Rattle.plist_base.specs.Events.{item_of};
 ghost use Rattle.plist_base.specs.Outcomes.{OnlyMemory};
 ghost use Rattle.plist_base.specs.Writing.{answer_of};
 ghost use Rattle.plist_buffer.specs.EventTable.{plain_events};
 ghost use Rattle.plist.specs.WrittenEvents.{WritesItem, WritesValue};
+ghost use Rattle.plist.specs.Events.{remaining_events};
 ghost use Rattle.plist.specs.ValueTrees.{tree_of};
 
 use crate::Value;
+use crate::stream::Events;
 use plist_base::{Error, Event, Writer};
 use plist_binwrite::EventTable;
 use std::alloc::Global;
@@ -38,6 +40,19 @@ pub fn write_value<W: Writer>(alloc: Global, value: &Value, writer: &mut W) -> R
     Ok(())
 }
 
+// Appends the events that remain of a value to the table. This is a function of its own, so that
+// the table and the iterator aren't dropped at each exit of the loop.
+fn push_all<'a>(table: &mut EventTable<'a>, events: &mut Events<'a>) -> Result<(), Error>
+    ensures events { OnOk result (plain_events table.new
+        ≡ plain_events table.old ++ map without_length (remaining_events events.old)) }
+    ensures memory { OnlyMemory result }
+{
+    while let Some(item) = events.next() {
+        table.push(item?)?;
+    }
+    Ok(())
+}
+
 /// Returns a table of the value's events, in order, which stores each different scalar once.
 /// Strings and data of more than 30 bytes are borrowed from the value.
 ///
@@ -49,9 +64,7 @@ pub fn collect_events<'a>(alloc: Global, value: &'a Value) -> Result<EventTable<
     ensures memory { OnlyMemory result }
 {
     let mut table = EventTable::new(alloc);
-    let mut left = value.events(alloc);
-    while let Some(item) = left.next() {
-        table.push(item?)?;
-    }
+    let mut events = value.events(alloc);
+    push_all(&mut table, &mut events)?;
     Ok(table)
 }

@@ -20,7 +20,7 @@ use Rattle.plist_ascii.specs.Texts.{ends_run, quoted, bare_event, quoted_event, 
 use Rattle.plist_ascii.specs.Unread.{IfKnown, stops, unread}
 use Rattle.plist_ascii.specs.inner.Inputs.{hand_of}
 use Rattle.plist_ascii.specs.inner.Parts.{BeginWithText, IsBareFront, IsQuotedFront, LeadsToText}
-use Rattle.plist_ascii.proofs.Items.{IsFirst, going_start, going_blanks, going_event}
+use Rattle.plist_ascii.proofs.Items.{IsFirst, going_start, going_blanks, going_event, items_come, bytes_taken, Takes}
 use Rattle.plist_ascii.proofs.UnreadBytes.{ended_hand}
 use Rattle.plist_ascii.proofs.Quotes.{part_after, quote_closes}
 use Rattle.plist_ascii.proofs.Texts.{number_is_text, text_gives}
@@ -170,14 +170,19 @@ pub borrowed_gives : {R : Type 0} (known : R → Option (List ℕ)) (failed : R 
     → GivesAscii known failed old (Some (Ok event))
     (record { input = new; alloc = old.alloc; dialect = old.dialect })
 borrowed_gives known failed old new count text event is ahead going bytes place some peeked failures =
-    record {
-      items = λ xs e. (
+    let takes : Takes old.dialect (unread known old.input) (unread known new) old.input.taken
+    new.taken (Some (Ok event)) = record {
+      first = λ xs e. (
         drop count xs,
         bytes xs e,
         subst (λ (x : Item). IsFirst (stops (stop.Bare old.dialect)) xs old.input.taken x
             (drop count xs) new.taken) (ap Ok (sym is))
             (borrowed_item _ xs _ _ count text (ahead xs e) place),
       );
+    } in
+    record {
+      items = items_come refl takes;
+      takes = bytes_taken takes;
       dialect = refl;
       rises = (omega arith, omega arith);
       offset = tt;

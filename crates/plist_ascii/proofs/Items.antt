@@ -7,17 +7,20 @@ use Rattle.std.specs.Option.{option_map}
 use Rattle.plist_ascii.specs.declared.fault.TokenFault.{TokenFault}
 use Rattle.plist_ascii.specs.declared.fault.TokenFault.TheVariants as broken
 use Rattle.plist_ascii.specs.declared.input.Input.{Input}
-use Rattle.plist_ascii.specs.Unread.{RisesIfCounted}
 use Rattle.plist_ascii.specs.inner.Inputs.{CountsFailed, kind_in_bytes, fault_after}
 use Rattle.plist_base.specs.declared.event.Event.{Event}
-use Rattle.plist_base.specs.Events.{PlainEvent, Item}
+use Rattle.plist_base.specs.Events.{PlainEvent, Item, event_of}
+use Rattle.plist_base.specs.FirstItems.{GivesFirst, GivesFirstIfKnown, StopsIf}
+use Rattle.plist_base.specs.declared.error.Error.{Error}
 use Rattle.plist_ascii.specs.TokenPrefixes.{taken, run}
-use Rattle.plist_ascii.specs.Texts.{Token}
 use Rattle.plist_ascii.proofs.TokenOutcomes.{TakesFront}
 use Rattle.plist_ascii.specs.declared.token.Lead.{Lead}
 use Rattle.plist_ascii.specs.declared.token.Lead.TheVariants as lead
 use Rattle.plist_ascii.specs.Ascii.{PlacedItem, placed, is_blank, item_then, items_in, items_of_ascii, placed_items, token, token_by, lead_of, IsFaultOfBytes, IsTextToken, BeginsWithText, FirstIsQuoted}
-use Rattle.plist_ascii.specs.AsciiReader.{BeginsWithItem}
+use Rattle.plist_ascii.specs.AsciiReader.{BeginsWithItem, TakesItem}
+use Rattle.plist_ascii.specs.Unread.{IfKnown, RisesIfCounted}
+use Rattle.plist_ascii.specs.Texts.{Token, ends_bare}
+use Rattle.plist_ascii.specs.declared.dialect.Dialect.{Dialect}
 
 then_same : (l : Lead) (q : ℕ) (g : Result (Option PlainEvent) FaultKind) (xs ys : List PlacedItem)
     → xs ≡ ys → item_then l q g xs ≡ item_then l q g ys
@@ -27,6 +30,10 @@ items_nil : (stops : ℕ → Bool) (r p : ℕ) → items_in stops r [] p ≡ []
 unfolding items_in
 items_nil stops zero p = refl
 items_nil stops (suc r) p = refl
+
+-- no bytes have no items
+pub no_items : (stops : ℕ → Bool) (p : ℕ) → items_of_ascii stops [] p ≡ []
+no_items stops p = ap (map (λ i. i.item)) (items_nil stops 0 p)
 
 items_fuel : (stops : ℕ → Bool) (r s : ℕ) (xs : List ℕ) (p : ℕ) → length xs ≤ r → length xs ≤ s
     → items_in stops r xs p ≡ items_in stops s xs p
@@ -148,9 +155,11 @@ module _ {stops : ℕ → Bool} {xs : List ℕ} {p : ℕ} {ys : List ℕ} {m c :
   -- the fault is that of the first item, or memory ran out for it, or a read failed
   abbrev IsError : Fault → (rest : List ℕ) → (r : ℕ) → Type 0
   IsError fault rest r =
-      MatchFault fault.kind ⊤ ⊤ (items_of_ascii stops xs p ≡ Err fault ∷ items_of_ascii stops rest r)
-      × MatchFault fault.kind (rest ≡ []) ((rest ≡ []) × BeginsWithText (items_of_ascii stops xs p))
-      (BeginsWithItem stops xs p (Err fault) rest r)
+      let before = items_of_ascii stops xs p in
+      let after = items_of_ascii stops rest r in
+      MatchFault fault.kind (StopsIf (λ _. ⊤) before after) (StopsIf BeginsWithText before after)
+      (before ≡ Err fault ∷ after)
+      × MatchFault fault.kind (rest ≡ []) (rest ≡ []) (BeginsWithItem stops xs p (Err fault) rest r)
 
   -- an error ends the reader, or is the first item
   pub going_error : (n q r : ℕ) → r ≡ q → n ≡ m + 1 → (f : TokenFault) (fault : Fault) (E : Type 0)
@@ -161,9 +170,9 @@ module _ {stops : ℕ → Bool} {xs : List ℕ} {p : ℕ} {ys : List ℕ} {m c :
       → MatchOption (kind_in_bytes f) (E × (new ≡ Some [])) (λ _. new ≡ mid)
       → (rest : List ℕ) × (new ≡ Some rest) × IsError fault rest r
   going_error n q r same t broken.Io fault E mid new i g w ends =
-      ([], ends.1, (rw i tt, rw (same, i) refl))
+      ([], ends.1, (rw i (tt, no_items stops r), rw (same, i) refl))
   going_error n q r same t broken.OutOfMemory fault E mid new i g w ends =
-      ([], ends.1, (rw i tt, rw (same, i) (refl, going_text (w refl))))
+      ([], ends.1, (rw i (going_text (w refl), no_items stops r), rw (same, i) refl))
   going_error n q r same t broken.UnclosedString fault E mid new i g w ends =
       (_, ends ∙ g.1, rw (same, i) (going_fault t g.2 refl g.0))
   going_error n q r same t broken.IncompleteComment fault E mid new i g w ends =
@@ -207,6 +216,49 @@ pub going_none : {stops : ℕ → Bool} {xs : List ℕ} {p : ℕ} {ys : List ℕ
     → Going stops xs p ys m → ys ≡ [] → items_of_ascii stops xs p ≡ []
 going_none {stops} {xs} {p} {ys} {m} h e =
     ap (map (λ i. i.item)) (h.all ∙ ap (λ z. placed_items stops z m) e ∙ items_nil _ 0 m)
+
+-- ---- what one call yields and takes
+
+-- the item is the first of these bytes' items, and its bytes were taken
+abbrev IsYielded : (stops : ℕ → Bool) (bytes : List ℕ) (p : ℕ) → Option (Result Event Error)
+    → (rest : List ℕ) (q : ℕ) → Type 0
+IsYielded stops bytes p item rest q =
+    GivesFirst event_of (StopsIf (λ _. ⊤)) (StopsIf BeginsWithText)
+    (items_of_ascii stops bytes p) item (items_of_ascii stops rest q)
+    × TakesItem stops bytes p item rest q
+
+-- if the bytes are known, the item is the first of their items, and its bytes were taken
+pub record Takes (dialect : Dialect) (known left : Option (List ℕ)) (p q : ℕ)
+    (item : Option (Result Event Error)) : Type 0 where
+  pub first : IfKnown known (λ bytes. (rest : List ℕ) × (left ≡ Some rest)
+      × IsYielded (ends_bare dialect) bytes p item rest q)
+
+module _ {now : Dialect} {known left : Option (List ℕ)} {p q : ℕ}
+    {item : Option (Result Event Error)} where
+  pub items_come : {next : Dialect} → next ≡ now → Takes now known left p q item
+      → GivesFirstIfKnown event_of (StopsIf (λ _. ⊤)) (StopsIf BeginsWithText)
+      (option_map (λ bytes. items_of_ascii (ends_bare now) bytes p) known) item
+      (option_map (λ bytes. items_of_ascii (ends_bare next) bytes q) left)
+  items_come {next} same takes = rw same (by known takes.first)
+    where
+      by : (known : Option (List ℕ))
+          → IfKnown known (λ bytes. (rest : List ℕ) × (left ≡ Some rest)
+          × IsYielded (ends_bare now) bytes p item rest q)
+          → GivesFirstIfKnown event_of (StopsIf (λ _. ⊤)) (StopsIf BeginsWithText)
+          (option_map (λ bytes. items_of_ascii (ends_bare now) bytes p) known) item
+          (option_map (λ bytes. items_of_ascii (ends_bare now) bytes q) left)
+      by None h = tt
+      by (Some bytes) h =
+          let (rest, is, yielded) = h bytes refl in (
+            items_of_ascii (ends_bare now) rest q,
+            ap (option_map (λ b. items_of_ascii (ends_bare now) b q)) is,
+            yielded.0,
+          )
+
+  pub bytes_taken : Takes now known left p q item → IfKnown known (λ bytes. (rest : List ℕ)
+      × (left ≡ Some rest) × TakesItem (ends_bare now) bytes p item rest q)
+  bytes_taken takes bytes is =
+      let (rest, left, yielded) = takes.first bytes is in (rest, left, yielded.1)
 
 -- ---- what an error says
 

@@ -5,7 +5,7 @@ use Rattle.plist_base.specs.declared.error.Error.{Error}
 use Rattle.plist_base.specs.declared.event.Event.{Event}
 use Rattle.plist_base.specs.Faults.{MatchFault, fault_of, offset_of}
 use Rattle.plist_base.specs.Events.{Item, event_of}
-use Rattle.plist_base.specs.FirstItems.{GivesFirst, MatchItem}
+use Rattle.plist_base.specs.FirstItems.{GivesFirstIfKnown, MatchItem, StopsIf}
 use Rattle.plist_ascii.specs.declared.reader.AsciiReader.{AsciiReader}
 use Rattle.plist_ascii.specs.declared.dialect.Dialect.{Dialect}
 use Rattle.plist_ascii.specs.Texts.{ends_bare}
@@ -56,25 +56,25 @@ pub record BeginsWithItem (stops : ℕ → Bool) (bytes : List ℕ) (p : ℕ) (i
   pub ends : placed_items stops bytes p ≡ placed lead q item ∷ placed_items stops left q
   pub rest : left ≡ drop (q - p) bytes
 
--- The first item is yielded, and the bytes after it remain. After `None`, `Io` and `OutOfMemory` no
--- bytes remain, and `OutOfMemory` is yielded only in place of a string, an integer or a string's
--- fault.
-abbrev pub GivesAsciiItem : (stops : ℕ → Bool) → List ℕ → (p : ℕ) → Option (Result Event Error)
+-- The bytes of the first item were taken, and those after it remain. No bytes remain after `None`, `Io`
+-- and `OutOfMemory`.
+abbrev pub TakesItem : (stops : ℕ → Bool) → List ℕ → (p : ℕ) → Option (Result Event Error)
     → (rest : List ℕ) → (q : ℕ) → Type 0
-GivesAsciiItem stops bytes p item rest q =
-    let items = items_of_ascii stops bytes p in
-    GivesFirst event_of items item (items_of_ascii stops rest q)
-    × MatchItem item (rest ≡ []) (λ event. BeginsWithItem stops bytes p (Ok (event_of event)) rest q)
-    (rest ≡ []) ((rest ≡ []) × BeginsWithText items)
-    (λ fault. BeginsWithItem stops bytes p (Err fault) rest q)
+TakesItem stops bytes p item rest q =
+    MatchItem item (rest ≡ []) (λ event. BeginsWithItem stops bytes p (Ok (event_of event)) rest q)
+    (rest ≡ []) (rest ≡ []) (λ fault. BeginsWithItem stops bytes p (Err fault) rest q)
 
 -- what one call of `next` does: it returns the first item of the bytes not taken yet; a reader that
 -- has ended doesn't call the inner reader, and after a start, an end or a quoted string no further
 -- byte has been looked at
 pub record GivesAscii {R : Type 0} (known : R → Option (List ℕ)) (failed : R → Option ℕ)
     (old : AsciiReader R) (item : Option (Result Event Error)) (new : AsciiReader R) : Type 0 where
-  pub items : IfKnown (untaken_bytes known old) (λ bytes. (rest : List ℕ)
-      × (untaken_bytes known new ≡ Some rest) × GivesAsciiItem (ends_bare (dialect_of old)) bytes
+  -- the first item is yielded, and the others remain; none remain after `None`, `Io`, `OutOfMemory`,
+  -- which is yielded only in place of a string, an integer or a string's fault
+  pub items : GivesFirstIfKnown event_of (StopsIf (λ _. ⊤)) (StopsIf BeginsWithText)
+      (ascii_items_to_come known old) item (ascii_items_to_come known new)
+  pub takes : IfKnown (untaken_bytes known old) (λ bytes. (rest : List ℕ)
+      × (untaken_bytes known new ≡ Some rest) × TakesItem (ends_bare (dialect_of old)) bytes
       (place_of old) item rest (place_of new))
   pub dialect : dialect_of new ≡ dialect_of old
   -- at least one byte is taken for an event or a fault in the bytes, and no byte is put back

@@ -10,7 +10,9 @@ use std::io::Read;
 /// A reader from which bytes are taken one by one, or several at once if they are buffered.
 ///
 /// Every `Read` is a `ByteReader` that counts no failures and buffers nothing. A reader that counts
-/// its failures may implement this trait, too.
+/// its failures may implement this trait, too. `BufferedSource` of `plist_reader` does so. It
+/// counts the failures of its source and buffers what a read returned, so that a reader of events
+/// can hand over strings from the buffer without copying them.
 pub trait ByteReader {
     /// The remaining bytes, if they are known.
     ghost remaining: { Self → Option (List ℕ) };

@@ -3,7 +3,7 @@
 ghost use Rattle.std.specs.Prelude.{◌≡◌, ◌+◌, ◌++◌, ◌^◌, ◌<◌, ◌≤◌, ℕ, List, [], drop, length, None, Some, true, false, IfOk, IfErr, IfSome, IsSome, OnOk, ⊤};
 ghost use Rattle.plist_ascii.specs.Unread.{IfKnown, unread};
 ghost use Rattle.plist_base.specs.Faults.{UnclosedString, fault_of};
-ghost use Rattle.plist_ascii.specs.inner.Inputs.{fault_after, kind_in_bytes, CountsByte, CountsFailed, EndsInput, IfCame, Looks, TakesHand, TakesIf, TakesNext, TakesOneMore, TakesPart, hand};
+ghost use Rattle.plist_ascii.specs.inner.Inputs.{fault_after, kind_in_bytes, CountsByte, CountsFailed, EndsInput, IfCame, LooksAhead, TakesHand, TakesIf, TakesNext, TakesOneMore, TakesPart, hand};
 
 use crate::byte_reader::ByteReader;
 use crate::fault::TokenFault;
@@ -113,14 +113,7 @@ impl<R: ByteReader> Input<R> {
     #[inline(never)]
     fn read_ahead(&mut self) -> Result<Option<u8>, TokenFault>
         requires { hand R.window self.old ≡ [] }
-        // Result.
-        ensures next { IfOk result (λ byte. Looks R.remaining self.old byte self.new) }
-        // Errors.
-        ensures fault { IfErr result (λ f. f ≡ TokenFault.Io) }
-        // State afterwards.
-        ensures hand { IfCame result (λ _. 0 < length (hand R.window self.new)) }
-        ensures place { self.new.taken ≡ self.old.taken }
-        ensures failures { CountsFailed R.failures self.old result self.new }
+        ensures { LooksAhead R.remaining R.window R.failures self.old result self.new }
     {
         if self.ended {
             return Ok(None);
@@ -148,14 +141,7 @@ impl<R: ByteReader> Input<R> {
     /// can be taken without a read. The only error is `Io`.
     #[inline(always)]
     pub fn peek(&mut self) -> Result<Option<u8>, TokenFault>
-        // Result.
-        ensures next { IfOk result (λ byte. Looks R.remaining self.old byte self.new) }
-        // Errors.
-        ensures fault { IfErr result (λ f. f ≡ TokenFault.Io) }
-        // State afterwards.
-        ensures hand { IfCame result (λ _. 0 < length (hand R.window self.new)) }
-        ensures place { self.new.taken ≡ self.old.taken }
-        ensures failures { CountsFailed R.failures self.old result self.new }
+        ensures { LooksAhead R.remaining R.window R.failures self.old result self.new }
     {
         let bytes = self.at_hand();
         if bytes.is_empty() {

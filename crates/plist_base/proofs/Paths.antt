@@ -3,7 +3,7 @@ use Rattle.std.proofs.Common.{◌≡◌, ℕ, suc, ◌<◌, ◌≤◌, inl, inr,
 use Rattle.std.specs.List.{list_any, AllByRecursion, IsDistinct}
 use Rattle.std.proofs.lemmas.Map.Steps.{length-le_from_distinct_below}
 use Rattle.std.proofs.lemmas.Bool.Decides.{eqb_tells}
-use Rattle.std.proofs.lemmas.Bool.{or_parts, or_right}
+use Rattle.std.proofs.lemmas.Bool.{or_parts}
 
 -- each index is below the number of objects, and no object is open twice
 pub record IsPath (count : ℕ) (path : List ℕ) : Type 0 where
@@ -42,14 +42,6 @@ unfolding IsDistinct
 path_push {count} {path} i o h new = record {
   distinct = (none_equal i path new, o.distinct);
   below = λ q any. below_cons i count q path h o.below any;
-}
-
--- the innermost object is closed
-pub path_pop : {count : ℕ} (i : ℕ) (path : List ℕ) → IsPath count (i ∷ path) → IsPath count path
-unfolding IsDistinct
-path_pop i path o = record {
-  distinct = o.distinct.1;
-  below = λ q any. o.below q (or_right (nat_eq q i) (list_any (nat_eq q) path) any);
 }
 
 -- no more objects are open than there are

@@ -1,12 +1,11 @@
 -- The text form of data: lines of base64 (RFC 4648, section 4).
-use Rattle.std.specs.Prelude.{◌≡◌, ◌↔◌, ℕ, ◌*◌, not, List, [], length, map, take, drop, replicate, ◌++◌, ◌∷◌, Option, None, Some, Err, String, string_bytes, refl, codes, ⊤}
+use Rattle.std.specs.Prelude.{◌≡◌, ◌↔◌, ℕ, ◌*◌, not, List, length, map, take, drop, ◌++◌, Option, None, Some, Err, String, string_bytes, codes, ⊤}
 use Rattle.std.specs.declared.alloc.Global.{Global}
 use Rattle.std.specs.List.{filter, join_with_byte, range_with_len}
 use Rattle.std.specs.Char.{is_ascii_whitespace}
 use Rattle.std.specs.Int.{div_ceil}
 use Rattle.base64.specs.Engines.{standard}
 use Rattle.base64.specs.GeneralPurpose.{encode_of, decode_of, decoded_of}
-use Rattle.base64.proofs.OnLiterals.{base64_on_literals}
 use Rattle.base64.specs.declared.decode.DecodeAllocError.{DecodeAllocError}
 use Rattle.base64.specs.declared.decode.DecodeAllocError.TheVariants as decoding
 use Rattle.std.specs.Borrow.{Array, Fml, Lends, MutBor, u8}
@@ -84,17 +83,3 @@ refusal_of_decoding decoding.OutOfMemory = OutOfMemory
 abbrev pub refusal_text : InvalidXmlData → List ℕ
 refusal_text (Decode fault) = codes "Invalid XML data"
 refusal_text OutOfMemory = codes "OutOfMemory"
-
--- ---- worked examples
-
--- no line, a full line, and a second line of one byte
-written : (data_text [] ≡ []) × (data_text (replicate 51 0) ≡ replicate 68 65)
-    × (data_text (replicate 52 0) ≡ replicate 68 65 ++ 10 ∷ codes "AA==")
-unfolding base64_on_literals data_text
-written = (refl, refl, refl)
-
--- white space is ignored, and missing padding and surplus bits are rejected
-read : (data_of_text (codes "A A\n==") ≡ Some (0 ∷ [])) × (data_of_text (codes "AA=") ≡ None)
-    × (data_of_text (codes "AB==") ≡ None)
-unfolding base64_on_literals data_of_text
-read = (refl, refl, refl)

@@ -1,6 +1,5 @@
 -- The integer that a text spells: hexadecimal after `0x`, or decimal.
-use Prim.Native.String.{String}
-use Rattle.std.specs.Prelude.{map, ◌≡◌, ℕ, ◌-◌, ◌^◌, Bool, false, if◌then◌else◌, ◌&&◌, ◌==◌, nat_lt, List, [], ◌∷◌, length, ℤ, pos, negsuc, Option, None, Some, Result, refl, codes, MatchResult}
+use Rattle.std.specs.Prelude.{◌≡◌, ℕ, ◌^◌, Bool, false, if◌then◌else◌, ◌&&◌, ◌==◌, nat_lt, List, [], ◌∷◌, length, ℤ, pos, negsuc, Option, None, Some, Result, MatchResult}
 use Rattle.std.specs.List.{list_all}
 use Rattle.std.specs.Char.{is_digit}
 use Rattle.std.specs.Str.Parse.{digits_value, signed_digits_value, without_leading_plus, without_leading_sign}
@@ -55,28 +54,3 @@ abbrev pub SpellsInteger : {E : Type 0} → List ℕ → Result ℤ E → Type 0
 SpellsInteger text answer =
     MatchResult answer (λ number. integer_of_text text ≡ Some number)
     (λ _. integer_of_text text ≡ None)
-
--- ---- worked examples
-
--- each row has a text, and the integer that it spells, or `None`
-abbrev AreRead : List (String × Option ℤ) → Type 0
-AreRead rows = map (λ row. integer_of_text (codes row.0)) rows ≡ map (λ row. row.1) rows
-
--- the limits of the range, signs, leading zeros, prefixes, and texts without digits
-worked : AreRead (
-    ("18446744073709551615", Some (pos (2 ^ 64 - 1)))
-    ∷ ("18446744073709551616", None)
-    ∷ ("-9223372036854775808", Some (negsuc (2 ^ 63 - 1)))
-    ∷ ("-9223372036854775809", None)
-    ∷ ("-1", Some (negsuc 0))
-    ∷ ("-0", Some (pos 0))
-    ∷ ("+5", Some (pos 5))
-    ∷ ("007", Some (pos 7))
-    ∷ ("0x0x10", Some (pos 16))
-    ∷ ("0x0xff", Some (pos 255))
-    ∷ ("0x+fF", Some (pos 255))
-    ∷ ("-0x1", None)
-    ∷ ("0x", None)
-    ∷ ("", None) ∷ [])
-unfolding integer_of_text
-worked = refl

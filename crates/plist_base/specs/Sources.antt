@@ -1,7 +1,8 @@
 -- What the calls of a source return, and how the calls that fail are counted.
-use Rattle.std.specs.Prelude.{◌≡◌, ℕ, ◌+◌, ◌-◌, ◌^◌, ◌<◌, ◌≤◌, ◌⊎◌, List, length, take, drop, Option, None, Some, IfSome, MatchResult, MatchOption, Result, ⊤}
+use Rattle.std.specs.Prelude.{◌≡◌, ℕ, ◌+◌, ◌-◌, ◌^◌, ◌<◌, ◌≤◌, ◌⊎◌, List, length, take, drop, Option, None, Some, IfSome, MatchResult, Result, ⊤}
 use Rattle.plist_base.specs.declared.error.Error.{Error}
-use Rattle.plist_base.specs.Faults.{FaultKind, Fault, UnexpectedEof, Io, IsIo, MatchFault, kind_of, error_kind_of}
+use Rattle.plist_base.specs.Faults.{FaultKind, Fault, UnexpectedEof, Io, IsIo}
+use Rattle.plist_base.specs.FirstItems.{MatchItem}
 
 -- the count of failures rose by one, or is at its maximum
 abbrev pub Rises : ℕ → ℕ → Type 0
@@ -21,18 +22,11 @@ GivesAt bytes place count buffer =
 abbrev pub LiesAt : (bytes : List ℕ) (place : ℕ) (bytes_there : List ℕ) → Type 0
 LiesAt bytes place bytes_there = bytes_there ≡ take (length bytes_there) (drop place bytes)
 
--- the count of failures rose if the error is `Io`, and is unchanged after any other error
-abbrev pub CountsIo : Error → ℕ → ℕ → Type 0
-CountsIo error old new =
-    MatchFault (kind_of (error_kind_of error)) (Rises old new) (new ≡ old) (new ≡ old)
-
--- the count of failures rose if the call returned `Io`, and is unchanged otherwise
-abbrev pub ResultCountsIo : {A : Type 0} → Result A Error → ℕ → ℕ → Type 0
-ResultCountsIo answer old new = MatchResult answer (λ _. new ≡ old) (λ error. CountsIo error old new)
-
--- the count of failures rose if the iterator yielded `Io`, and is unchanged otherwise
-abbrev pub ItemCountsIo : {A : Type 0} → Option (Result A Error) → ℕ → ℕ → Type 0
-ItemCountsIo item old new = MatchOption item (new ≡ old) (λ answer. ResultCountsIo answer old new)
+-- the count of failures rose if the item is `Io`, and is unchanged otherwise; the item of a call that
+-- returns a result is `Some(result)`
+abbrev pub CountsIo : {A : Type 0} → Option (Result A Error) → (old new : ℕ) → Type 0
+CountsIo item old new =
+    MatchItem item (new ≡ old) (λ _. new ≡ old) (Rises old new) (new ≡ old) (λ _. new ≡ old)
 
 -- the fault is that of a read that failed or returned no byte
 abbrev pub IsReadFault : FaultKind → Type 0

@@ -1,7 +1,7 @@
 //! Sources, from which readers read bytes.
 
 ghost use Rattle.std.specs.Prelude.{◌≡◌, ℕ, ◌+◌, ◌-◌, ◌^◌, ◌<◌, ◌≤◌, List, length, drop, Some, Option, IfOk, IfSome, OnOk};
-ghost use Rattle.plist_base.specs.Sources.{CountsFailure, GivesAt, LiesAt, ResultCountsIo, FailsReading, FillsUpTo, EndsTooEarly, IsIoWithin};
+ghost use Rattle.plist_base.specs.Sources.{CountsFailure, CountsIo, GivesAt, LiesAt, FailsReading, FillsUpTo, EndsTooEarly, IsIoWithin};
 ghost use Rattle.plist_base.specs.Outcomes.{DecodesBy, IfFault, IfRead, IfRefused};
 
 use crate::{Error, ErrorKind};
@@ -49,6 +49,7 @@ pub trait Source: Drop {
 
     /// Returns the bytes from offset `place` on that are in memory, without reading. The slice may
     /// have any length, and is often empty. The default implementation returns an empty slice.
+    /// Readers call this function for nearly every object, so it should be cheap.
     fn buffered(&self, place: u64) -> &[u8]
         ensures bytes { IfSome (known self.now) (λ bytes. LiesAt bytes place result.now) }
     {
@@ -148,7 +149,7 @@ pub fn read_exact_at<S: Source>(source: &mut S, place: u64, buf: &mut [u8]) -> R
     // State afterwards.
     ensures filled { IfRefused result (S.known source.old) (FillsUpTo place buf.new) }
     ensures unchanged { S.known source.new ≡ S.known source.old }
-    ensures failures { ResultCountsIo result (S.failures source.old) (S.failures source.new) }
+    ensures failures { CountsIo (Some result) (S.failures source.old) (S.failures source.new) }
 {
     let mut done = 0;
     while done < buf.len() {

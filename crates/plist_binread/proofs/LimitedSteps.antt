@@ -1,18 +1,19 @@
 -- One step of a reader with limits that admit its event.
-use Rattle.std.proofs.Common.{◌≡◌, ℕ, ◌^◌, inl, inr, Bool, true, false, List, [], ◌∷◌, Option, None, Some, Result, Ok, Err, IfSome, MatchBool, arith, refl, ap, subst, sym, rules, ◌∙◌}
-use Rattle.std.specs.Prelude.{IfOk, ⊤}
+use Rattle.std.proofs.Common.{◌≡◌, ℕ, ◌^◌, inl, inr, Bool, true, false, List, [], ◌∷◌, Option, None, Some, Result, Ok, Err, IfSome, arith, refl, ap, subst, sym, rules, ◌∙◌}
+use Rattle.std.specs.Prelude.{IfOk, MatchOption, OnErr}
 use Rattle.std.proofs.lemmas.Option.{IfSome_then}
 use Rattle.plist_base.specs.declared.source.Source.{Ghosts}
 use Rattle.plist_base.specs.declared.limits.Limit.{Limit}
 use Rattle.plist_base.specs.declared.limits.LimitCounter.{LimitCounter}
 use Rattle.plist_base.specs.Events.{Item, PlainEvent}
 use Rattle.plist_base.specs.Faults.{Fault, FaultKind, Io, LimitReached, MatchFault, OutOfMemory, error_kind_of, fault_of, kind_of}
+use Rattle.plist_base.specs.FirstItems.{GivesFirst, StopsIf}
 use Rattle.plist_base.specs.Limits.{Admits, event_or_limit, limited_by}
 use Rattle.plist_base.specs.Visits.{Flow, PlainItem, TakesTurn, item_with}
-use Rattle.plist_binread.specs.BinaryReader.{GivesAs, Steps, Walks, has_limits, is_new, unlimited_items}
+use Rattle.plist_binread.specs.BinaryReader.{HasEndedBinary, Steps, Walks, has_limits, is_new, remaining_now, unlimited_items}
 use Rattle.plist_decode.specs.FaultOffsets.{ItemGivenWithin, MatchGiven}
 use Rattle.plist_binread.specs.Handovers.{HandsItem, TakesWithin}
-use Rattle.plist_binread.specs.Remaining.{AllocatesFirst, SomeRemain, cached_count}
+use Rattle.plist_binread.specs.Remaining.{AllocatesFirst, AllocatesNext, SomeRemain, cached_count}
 use Rattle.plist_decode.specs.Slot.{item_in}
 use Rattle.plist_decode.specs.declared.counter.DecodeCounter.{Ghosts as CounterGhosts}
 use Rattle.plist_decode.specs.declared.fault_slot.FaultSlot.{FaultSlot}
@@ -51,9 +52,7 @@ limits_want limiter (Ok event ∷ items) h = reached_wants _ event items _ h
 limits_want limiter (Err fault ∷ items) h = h
 
 memory_within : (limiter : LimitCounter) (new : Bool) (items : List Item)
-    → MatchBool new (SomeRemain items) (AllocatesFirst items)
-    → MatchBool new (SomeRemain (limited_by limiter items))
-    (AllocatesFirst (limited_by limiter items))
+    → AllocatesNext new items → AllocatesNext new (limited_by limiter items)
 memory_within limiter true items h = limits_remain limiter items h
 memory_within limiter false items h = limits_want limiter items h
 
@@ -62,26 +61,29 @@ abbrev AdmitsItem : LimitCounter → PlainItem → LimitCounter → Type 0
 AdmitsItem limits item next =
     IfSome item (λ answer. IfOk answer (λ event. Admits limits event next))
 
+-- what a reader yields, with limits or without
+abbrev Gives : (new : Bool) → List Item → PlainItem → List Item → Type 0
+Gives new = GivesFirst (λ event. event) (StopsIf SomeRemain) (StopsIf (AllocatesNext new))
+
 first_within : (limits next : LimitCounter) (new : Bool) (before after : List Item) (item : PlainItem)
-    → AdmitsItem limits item next → GivesAs (λ event. event) new before item after
-    → GivesAs (λ event. event) new (limited_by limits before) item (limited_by next after)
-first_within limits next new before after None admits (none, left) = rw (none, left) (refl, refl)
-first_within limits next new before after (Some (Ok event)) admits (is, _) =
-    (ap (limited_by limits) is ∙ admits after, tt)
-first_within limits next new before after (Some (Err error)) admits (is, left) =
-    by (kind_of (error_kind_of error)) (fault_of error) is left
+    → AdmitsItem limits item next → IfSome item (λ answer. OnErr answer (after ≡ []))
+    → Gives new before item after → Gives new (limited_by limits before) item (limited_by next after)
+first_within limits next new before after None admits over (none, left) =
+    rw (none, left) (refl, refl)
+first_within limits next new before after (Some (Ok event)) admits over is =
+    ap (limited_by limits) is ∙ admits after
+first_within limits next new before after (Some (Err error)) admits over is =
+    rw over (by (kind_of (error_kind_of error)) (fault_of error) (rw over at is))
   where
-    by : (kind : FaultKind) (fault : Fault) → MatchFault kind ⊤ ⊤ (before ≡ Err fault ∷ after)
-        → MatchFault kind ((after ≡ []) × SomeRemain before)
-        ((after ≡ []) × MatchBool new (SomeRemain before) (AllocatesFirst before)) (after ≡ [])
-        → MatchFault kind ⊤ ⊤ (limited_by limits before ≡ Err fault ∷ limited_by next after)
-        × MatchFault kind ((limited_by next after ≡ []) × SomeRemain (limited_by limits before))
-        ((limited_by next after ≡ []) × MatchBool new (SomeRemain (limited_by limits before))
-        (AllocatesFirst (limited_by limits before))) (limited_by next after ≡ [])
-    by Io fault is (none, some) = (tt, (rw none refl, limits_remain limits before some))
-    by OutOfMemory fault is (none, some) =
-        (tt, (rw none refl, memory_within limits new before some))
-    by kind fault is none = (rw none (ap (limited_by limits) is), rw none refl)
+    by : (kind : FaultKind) (fault : Fault)
+        → MatchFault kind (StopsIf SomeRemain before []) (StopsIf (AllocatesNext new) before [])
+        (before ≡ Err fault ∷ [])
+        → MatchFault kind (StopsIf SomeRemain (limited_by limits before) [])
+        (StopsIf (AllocatesNext new) (limited_by limits before) [])
+        (limited_by limits before ≡ Err fault ∷ [])
+    by Io fault (some, none) = (limits_remain limits before some, refl)
+    by OutOfMemory fault (some, none) = (memory_within limits new before some, refl)
+    by kind fault is = ap (limited_by limits) is
 
 -- ---- the errors
 
@@ -99,6 +101,16 @@ given_within limited (Some (Err error)) start end h =
 
 -- ---- the whole step
 
+-- after an error no item remains
+none_left : {R C : Type 0} {g : Ghosts R} {h : CounterGhosts C} (bytes : List ℕ)
+    (new : BinaryReader R C g h) (item : PlainItem)
+    → MatchOption item (HasEndedBinary new) (λ answer. OnErr answer (HasEndedBinary new))
+    → IfSome item (λ answer. OnErr answer (unlimited_items bytes new ≡ []))
+none_left bytes new None ends = tt
+none_left bytes new (Some (Ok event)) ends = tt
+none_left bytes new (Some (Err error)) ends =
+    ap (λ state. remaining_now bytes state new.decoder.bounds new.walk.frames) ends
+
 module _ {R C : Type 0} {g : Ghosts R} {h : CounterGhosts C} (old mid new : BinaryReader R C g h)
     (limits next : LimitCounter) (was : old.limiter ≡ Some limits) (now : new.limiter ≡ Some next)
     (source : new.source ≡ mid.source) (state : new.state ≡ mid.state)
@@ -112,7 +124,7 @@ module _ {R C : Type 0} {g : Ghosts R} {h : CounterGhosts C} (old mid new : Bina
           unchanged = rw source w.unchanged;
           items = rw (was, now, state, decoder, walk) (IfSome_then (g.known old.source) w.items
               (λ bytes. first_within limits next (is_new old) (unlimited_items bytes old)
-              (unlimited_items bytes mid) item admits));
+              (unlimited_items bytes mid) item admits (none_left bytes mid item w.ends)));
           failures = rw source w.failures;
           ended = w.ended;
           unasked = λ e. source ∙ w.unasked e;

@@ -1,10 +1,11 @@
 -- What is true of a reader after each call.
-use Rattle.std.proofs.Common.{◌≡◌, ℕ, ◌≤◌, arith, Bool, false, List, [], ◌∷◌, length, Option, None, Some, Err, IfSome, MatchBool, MatchOption, refl, sym}
+use Rattle.std.proofs.Common.{◌≡◌, ℕ, ◌≤◌, arith, Bool, false, List, [], ◌∷◌, length, Option, None, Some, Err, IfSome, MatchOption, refl, sym}
 use Rattle.std.proofs.lemmas.List.{length-reverse}
 use Rattle.plist_base.specs.declared.source.Source.{Ghosts}
 use Rattle.plist_base.specs.declared.error.Error.{Error}
 use Rattle.plist_base.specs.Events.{Item, PlainEvent}
 use Rattle.plist_base.specs.Faults.{MatchFault, error_kind_of, fault_of, kind_of}
+use Rattle.plist_base.specs.FirstItems.{GivesFirst, StopsIf}
 use Rattle.plist_base.proofs.Refusals.{MatchFault-weaker}
 use Rattle.plist_binread.specs.declared.frames.Frame.{Frame}
 use Rattle.plist_decode.specs.declared.counter.DecodeCounter.{Ghosts as CounterGhosts}
@@ -13,8 +14,8 @@ use Rattle.plist_decode.specs.declared.head.Bounds.{Bounds}
 use Rattle.plist_binread.specs.declared.walk.Walk.{Walk}
 use Rattle.plist_base.specs.Container.{head_of}
 use Rattle.plist_binread.specs.Walking.{IsBounded, IsKnownWalk, cached_in, walk_objects}
-use Rattle.plist_binread.specs.BinaryReader.{GivesAs, KeepsInvariant}
-use Rattle.plist_binread.specs.Remaining.{AllocatesFirst, AreBoundsOf, SomeRemain, objects_in_head}
+use Rattle.plist_binread.specs.BinaryReader.{KeepsInvariant}
+use Rattle.plist_binread.specs.Remaining.{AllocatesNext, AreBoundsOf, SomeRemain, objects_in_head}
 use Rattle.plist_binread.proofs.OpenObjects.{IsOpen-length}
 use Rattle.plist_decode.proofs.UnknownBytes.{IfSome-all}
 use Rattle.std.proofs.lemmas.Option.{IfSome_then}
@@ -52,15 +53,15 @@ left_behind {g = g} old new counted bounded =
 -- an error in place of the first item is yielded, and no item remains
 pub yields_error : {A : Type 0} (shown : A → PlainEvent) (new : Bool) (before : List Item)
     (error : Error) → MatchFault (kind_of (error_kind_of error)) (SomeRemain before)
-    (MatchBool new (SomeRemain before) (AllocatesFirst before)) (before ≡ Err (fault_of error) ∷ [])
-    → GivesAs shown new before (Some (Err error)) []
-yields_error shown new before error h = (
-  MatchFault-weaker (kind_of (error_kind_of error)) (λ _. tt) (λ _. tt) (λ only. only) h,
-  MatchFault-weaker (kind_of (error_kind_of error)) (λ some. (refl, some)) (λ some. (refl, some))
-      (λ _. refl) h,
-)
+    (AllocatesNext new before) (before ≡ Err (fault_of error) ∷ [])
+    → GivesFirst shown (StopsIf SomeRemain) (StopsIf (AllocatesNext new)) before
+    (Some (Err error)) []
+yields_error shown new before error h =
+    MatchFault-weaker (kind_of (error_kind_of error)) (λ some. (some, refl)) (λ some. (some, refl))
+    (λ only. only) h
 
 -- a reader that has ended yields nothing
-pub nothing_ended : (known : Option (List ℕ))
-    → IfSome known (λ bytes. GivesAs {A = PlainEvent} (λ event. event) false [] None [])
+pub nothing_ended : (known : Option (List ℕ)) → IfSome known (λ bytes.
+    GivesFirst {E = PlainEvent} (λ event. event) (StopsIf SomeRemain)
+    (StopsIf (AllocatesNext false)) [] None [])
 nothing_ended known = IfSome-all known (λ bytes. (refl, refl))

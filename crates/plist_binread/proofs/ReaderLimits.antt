@@ -8,7 +8,8 @@ use Rattle.plist_base.specs.Events.{PlainEvent, Item}
 use Rattle.plist_base.specs.Faults.{Fault, LimitReached, MatchFault, fault_of, fault_without_offset}
 use Rattle.plist_base.specs.Limits.{RefusesAny, limited_by_any}
 use Rattle.plist_base.specs.Visits.{PlainItem}
-use Rattle.plist_binread.specs.BinaryReader.{GivesAs}
+use Rattle.plist_base.specs.FirstItems.{GivesFirst, StopsIf}
+use Rattle.plist_binread.specs.Remaining.{AllocatesNext, SomeRemain}
 use Rattle.plist_decode.specs.FaultOffsets.{IsGivenWithin}
 use Rattle.std.proofs.lemmas.Option.{IfSome_then}
 
@@ -52,16 +53,16 @@ none-under (Some limiter) = refl
 module _ (new : Bool) (current : PlainEvent) (known : Option (List ℕ)) (old now : Option LimitCounter)
     (before after : List ℕ → List Item) where
   abbrev Gave : PlainItem → Type 0
-  Gave item = IfSome known (λ bytes. GivesAs (λ event. event) new (before bytes) item (after bytes))
+  Gave item = IfSome known (λ bytes. GivesFirst (λ event. event) (StopsIf SomeRemain)
+      (StopsIf (AllocatesNext new)) (before bytes) item (after bytes))
 
   abbrev GivesUnder : PlainItem → (List ℕ → List Item) → Type 0
-  GivesUnder item rest = IfSome known (λ bytes. GivesAs (λ event. event) new
-      (limited_by_any old (before bytes)) item (limited_by_any now (rest bytes)))
+  GivesUnder item rest = IfSome known (λ bytes. GivesFirst (λ event. event) (StopsIf SomeRemain)
+      (StopsIf (AllocatesNext new)) (limited_by_any old (before bytes)) item
+      (limited_by_any now (rest bytes)))
 
   pub limit-current : (error : Error) → RefusesAny old current (fault_of error)
       → Gave (Some (Ok current)) → GivesUnder (Some (Err error)) (λ bytes. [])
   limit-current error r h = IfSome_then known h (λ bytes h.
-      let by = by-limit old current (fault_of error) r in (
-        limit-fault (fault_of error) by.1 _ _ _ by.2 (cc (h.0, by.3 (after bytes), none-under now)),
-        limit-fault (fault_of error) by.1 _ _ _ by.2 (none-under now),
-      ))
+      let by = by-limit old current (fault_of error) r in
+      limit-fault (fault_of error) by.1 _ _ _ by.2 (cc (h, by.3 (after bytes), none-under now)))

@@ -18,7 +18,8 @@ use Rattle.plist_binread.specs.Step.{LightensNext, YieldsItem, YieldsNext, Yield
 use Rattle.plist_base.specs.Events.{PlainEvent}
 use Rattle.plist_base.specs.Visits.{Flow, item_with}
 use Rattle.plist_decode.specs.declared.fault_slot.StepError.{StepError}
-use Rattle.plist_decode.specs.Slot.{SlotCountsIo, ItemSlotCountsIo, result_in, item_in}
+use Rattle.plist_base.specs.Sources.{CountsIo}
+use Rattle.plist_decode.specs.Slot.{result_in, item_in}
 use Rattle.plist_base.proofs.Refusals.{MatchFault-all}
 use Rattle.plist_decode.proofs.FaultOffsets.{from_within}
 use Rattle.plist_decode.proofs.UnknownBytes.{IfSome-all, IfSome-never}
@@ -65,12 +66,13 @@ module _ {R C : Type 0} {g : Ghosts R} {h : CounterGhosts C} (old new : BinaryRe
       (λ bytes. CountsObjects bytes (result_in noted new.decoder.slot) (walk_objects new.walk))
       → OnOk noted (IsKnownWalk (g.known old.source) new.decoder.bounds new.walk)
       → OnOk noted (weight_in new.walk < walk_steps (walk_objects new.walk))
-      → SlotCountsIo g.failures noted new.decoder.slot old.source new.source
+      → CountsIo (Some (result_in noted new.decoder.slot)) (g.failures old.source)
+      (g.failures new.source)
       → Walks old (item_with (item_in (Some noted) new.decoder.slot) event) new
   first_walks (Ok value) event fresh is yields within bounded objects held falls failures = record {
     gives = record {
       unchanged = same;
-      items = simp (fresh, is) (IfSome_then (g.known old.source) yields.first (λ bytes first. (first, tt)));
+      items = simp (fresh, is) (IfSome_then (g.known old.source) yields.first (λ bytes first. first));
       failures = failures;
       ended = λ e. absurd (cc);
       unasked = λ e. absurd (cc);
@@ -120,7 +122,7 @@ module _ {R C : Type 0} {g : Ghosts R} {h : CounterGhosts C} (old new : BinaryRe
       (entries_of bytes old.decoder.bounds) (open_in old.walk)) (item_in noted new.decoder.slot)
       new.walk.tags.items)
       → LightensNext old.walk noted new.walk
-      → ItemSlotCountsIo g.failures noted new.decoder.slot old.source new.source
+      → CountsIo (item_in noted new.decoder.slot) (g.failures old.source) (g.failures new.source)
       → Walks old (item_with (item_in noted new.decoder.slot) event) new
   item_walks_at None event walking is yields within size bounded held kept falls failures = record {
     gives = record {
@@ -144,7 +146,7 @@ module _ {R C : Type 0} {g : Ghosts R} {h : CounterGhosts C} (old new : BinaryRe
   item_walks_at (Some (Ok x)) event walking is yields within size bounded held kept falls failures = record {
     gives = record {
       unchanged = same;
-      items = simp (walking, is) (IfSome_then (g.known old.source) yields (λ bytes next. (next, tt)));
+      items = simp (walking, is) (IfSome_then (g.known old.source) yields (λ bytes next. next));
       failures = failures;
       ended = λ e. absurd (cc);
       unasked = λ e. absurd (cc);
@@ -191,7 +193,7 @@ module _ {R C : Type 0} {g : Ghosts R} {h : CounterGhosts C} (old new : BinaryRe
       → IfSome (g.known old.source) (IsBounded old.walk)
       → IsKnownWalk (g.known old.source) old.decoder.bounds new.walk
       → LightensNext old.walk noted new.walk
-      → ItemSlotCountsIo g.failures noted new.decoder.slot old.source new.source
+      → CountsIo (item_in noted new.decoder.slot) (g.failures old.source) (g.failures new.source)
       → Walks old (item_with (item_in noted new.decoder.slot) event) new
   item_walks noted event walking bounds is yields within size bounded held falls failures =
       item_walks_at noted event walking is (rw bounds yields.first) within size bounded (rw bounds held)

@@ -1,13 +1,13 @@
 -- What contracts say about a reader: its remaining items, its open collections and its cache.
-use Rattle.std.specs.Prelude.{◌≡◌, ℕ, ◌+◌, ◌^◌, ◌<◌, ◌≤◌, Bool, true, false, List, [], length, reverse, Option, None, Result, MatchBool, MatchOption, OnErr, IfSome, ⊤}
+use Rattle.std.specs.Prelude.{◌≡◌, ℕ, ◌+◌, ◌^◌, ◌<◌, ◌≤◌, Bool, true, false, List, [], length, reverse, Option, None, Result, MatchOption, OnErr, IfSome}
 use Rattle.std.specs.Option.{is_some}
 use Rattle.plist_base.specs.declared.error.Error.{Error}
 use Rattle.plist_base.specs.declared.event.Event.{Event}
 use Rattle.plist_base.specs.declared.source.Source.{Ghosts}
 use Rattle.plist_base.specs.Events.{PlainEvent, Item, event_of}
-use Rattle.plist_base.specs.FirstItems.{GivesFirst, MatchItem}
+use Rattle.plist_base.specs.FirstItems.{GivesFirst, StopsIf}
 use Rattle.plist_base.specs.Limits.{limited_by_any}
-use Rattle.plist_base.specs.Sources.{ItemCountsIo}
+use Rattle.plist_base.specs.Sources.{CountsIo}
 use Rattle.plist_base.specs.Visits.{PlainItem}
 use Rattle.plist_base.specs.Container.{head_of}
 use Rattle.plist_base.specs.Unfolding.{items_of_file, until_fault}
@@ -18,18 +18,8 @@ use Rattle.plist_binread.specs.declared.reader.WalkState.{WalkState}
 use Rattle.plist_binread.specs.declared.reader.WalkState.TheVariants.{Ended, Fresh, Walking}
 use Rattle.plist_binread.specs.declared.frames.Frame.{Frame}
 use Rattle.plist_decode.specs.declared.head.Bounds.{Bounds}
-use Rattle.plist_binread.specs.Remaining.{AllocatesFirst, AreBoundsOf, CountsObjects, MarksOpenPath, SomeRemain, by_state, entries_of, is_fresh, is_walking, next_number, objects_in_head, remaining_items, walk_steps}
+use Rattle.plist_binread.specs.Remaining.{AllocatesNext, AreBoundsOf, CountsObjects, MarksOpenPath, SomeRemain, by_state, entries_of, is_fresh, is_walking, next_number, objects_in_head, remaining_items, walk_steps}
 use Rattle.plist_binread.specs.Walking.{IsCachedIfSmall, cached_in, open_in, root_with, weight_in}
-
--- The item is the first that remained, and the others remain; after `None` and any error no item
--- remains. `Io` is yielded only if an item remained, and `OutOfMemory` only if the reader is new or
--- the first item needs memory.
-abbrev pub GivesAs : {A : Type 0} → (shown : A → PlainEvent) → (new : Bool) (before : List Item)
-    → Option (Result A Error) → (after : List Item) → Type 0
-GivesAs shown new before item after =
-    GivesFirst shown before item after × MatchItem item (after ≡ []) (λ _. ⊤)
-    ((after ≡ []) × SomeRemain before)
-    ((after ≡ []) × MatchBool new (SomeRemain before) (AllocatesFirst before)) (λ _. after ≡ [])
 
 -- the items that remain in this state, without regard to limits
 abbrev pub remaining_now : List ℕ → WalkState → Bounds → List Frame → List Item
@@ -75,7 +65,7 @@ module _ {R C : Type 0} {g : Ghosts R} {h : CounterGhosts C} where
   abbrev pub is_new : BinaryReader R C g h → Bool
   is_new reader = is_fresh reader.state
 
-  -- the reader has ended, and no item remains
+  -- the reader has ended, so that no item remains
   abbrev pub HasEndedBinary : BinaryReader R C g h → Type 0
   HasEndedBinary reader = reader.state ≡ Ended
 
@@ -109,13 +99,17 @@ module _ {R C : Type 0} {g : Ghosts R} {h : CounterGhosts C} (old : BinaryReader
       (coming : List ℕ → BinaryReader R C g h → List Item) (limited : BinaryReader R C g h → Bool)
       (item : Option (Result A Error)) (new : BinaryReader R C g h) : Type 0 where
     pub unchanged : g.known (binary_source new) ≡ g.known (binary_source old)
-    pub items : IfSome (g.known (binary_source old))
-        (λ bytes. GivesAs shown (is_new old) (coming bytes old) item (coming bytes new))
-    pub failures : ItemCountsIo item (g.failures (binary_source old)) (g.failures (binary_source new))
+    -- The item is the first that remained, and the others remain. No item remains after `None`, `Io`
+    -- and `OutOfMemory`, nor, by `ends`, after any other error. `Io` is yielded only if an item
+    -- remained, and `OutOfMemory` only if the first item needs memory, or if the reader is new and an
+    -- item remained.
+    pub items : IfSome (g.known (binary_source old)) (λ bytes. GivesFirst shown (StopsIf SomeRemain)
+        (StopsIf (AllocatesNext (is_new old))) (coming bytes old) item (coming bytes new))
+    pub failures : CountsIo item (g.failures (binary_source old)) (g.failures (binary_source new))
     pub ended : HasEndedBinary old → item ≡ None
     -- a reader that has ended doesn't call its source
     pub unasked : HasEndedBinary old → binary_source new ≡ binary_source old
-    -- the reader has ended if the item is an error or `None`
+    -- the reader has ended, so that no item remains, if the item is an error or `None`
     pub ends : MatchOption item (HasEndedBinary new) (λ answer. OnErr answer (HasEndedBinary new))
     pub begun : is_new new ≡ false
     pub faults : ItemGivenWithin 0 (2 ^ 64) (limited old) item

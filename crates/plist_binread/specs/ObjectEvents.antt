@@ -1,8 +1,8 @@
 -- The event that an object yields once it is decoded, and what the walk stores of the object.
-use Rattle.std.specs.Prelude.{◌≡◌, ℕ, ◌+◌, ◌^◌, ◌<◌, ◌≤◌, Bool, true, false, List, length, take, drop, Option, None, Some, Result, IfSome, MatchResult, OnOk, ⊤}
+use Rattle.std.specs.Prelude.{◌≡◌, ℕ, ◌+◌, ◌^◌, ◌<◌, ◌≤◌, Bool, true, false, List, length, take, drop, Option, None, Some, Result, IfErr, IfSome, MatchResult, OnOk, ⊤}
 use Rattle.plist_base.specs.declared.error.Error.{Error}
 use Rattle.plist_base.specs.Events.{PlainEvent, StartArray, StartDictionary, ScalarEvent}
-use Rattle.plist_base.specs.Sources.{ResultCountsIo}
+use Rattle.plist_base.specs.Faults.{IsNotIo, kind_of, error_kind_of}
 use Rattle.plist_base.specs.Object.{Object, Scalar, Array, Dictionary, Faulty}
 use Rattle.plist_decode.specs.CountedContent.{content_means}
 use Rattle.plist_decode.specs.Decoded.{IsDecodedThere, content_size}
@@ -50,7 +50,7 @@ pub record SetsLarge {A : Type 0} (object : Object) (place : ℕ) (answer : Resu
   pub sets : SetsEvent object place (result_in answer slot) current
   pub large : OnOk answer (is_small_event current ≡ false)
   pub fault : (end : ℕ) → ErrWithin place end (result_in answer slot)
-  pub failures : (count : ℕ) → ResultCountsIo (result_in answer slot) count count
+  pub never_io : IfErr (result_in answer slot) (λ error. IsNotIo (kind_of (error_kind_of error)))
 
 -- if the content lies within known bytes, the current event is that of its object
 abbrev pub SetsContentAt : {A : Type 0} → (known : Option (List ℕ)) → (place : ℕ) → Content

@@ -146,6 +146,11 @@ AllocatesFirst (Err fault ∷ items) = IsTextOrLimitFault fault.kind
     IsTextOrLimitFault (LimitReached limit) = ⊤
     IsTextOrLimitFault kind = ⊥
 
+-- the first item needs memory; or the reader is new and an item remains, since a new reader
+-- allocates its lists before any item
+abbrev pub AllocatesNext : (new : Bool) → List Item → Type 0
+AllocatesNext new items = MatchBool new (SomeRemain items) (AllocatesFirst items)
+
 -- the error is `Io`; or `OutOfMemory`, if the first item needs memory; or the only item
 abbrev pub Explains : List Item → Error → Type 0
 Explains before error =

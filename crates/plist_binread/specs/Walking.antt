@@ -6,6 +6,7 @@ use Rattle.plist_base.specs.Faults.{Fault}
 use Rattle.plist_base.specs.Container.{Head}
 use Rattle.plist_base.specs.Unfolding.{unfolding_of}
 use Rattle.plist_decode.specs.Packed.{is_small_event, unmarked}
+use Rattle.plist_decode.specs.declared.decoder.Decoder.{Decoder}
 use Rattle.plist_decode.specs.declared.head.Bounds.{Bounds}
 use Rattle.plist_binread.specs.declared.frames.Frame.{Frame}
 use Rattle.plist_binread.specs.declared.walk.Walk.{Walk}
@@ -75,3 +76,14 @@ abbrev pub IsCachedIfSmall : {A : Type 0} → (shown : A → PlainEvent) → Opt
     → Option (Result A Error) → (tags : List ℕ) → Type 0
 IsCachedIfSmall shown number item tags = IfSome item (λ answer. IfOk answer (λ value. IfSome number
     (λ number. is_small_event (shown value) ≡ true → 0 < unmarked (slice_index tags number))))
+
+-- What a step keeps of the source, the decoder and the walk. The number of objects, the bounds and
+-- the known bytes are unchanged, and the walk is still one over the file. If decodings are counted,
+-- as many are counted as objects are cached.
+pub record KeepsWalk {S C : Type 0} (known : S → Option (List ℕ)) (counts : Type 0)
+    (count : C → ℕ) (old new : S × Decoder C × Walk) : Type 0 where
+  pub size : walk_objects new.2 ≡ walk_objects old.2
+  pub known_walk : IsKnownWalk (known old.0) old.1.bounds new.2
+  pub bounds : new.1.bounds ≡ old.1.bounds
+  pub counted : counts → count new.1.counter ≡ cached_in new.2
+  pub unchanged : known new.0 ≡ known old.0

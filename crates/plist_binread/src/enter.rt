@@ -1,16 +1,17 @@
 //! Enters an object: decodes it and hands its first event to a visitor.
 
-ghost use Rattle.std.specs.Prelude.{◌≡◌, ◌+◌, ◌<◌, slice_index, true, false, Some, IfOk, IfErr, OnOk, IfSome, ⊤};
-ghost use Rattle.plist_base.specs.Faults.{MatchFault, ObjectReferenceTooLarge, RecursiveObject, error_kind_of, fault_at, fault_of, kind_of};
+ghost use Rattle.std.specs.Prelude.{◌≡◌, ◌+◌, ◌<◌, slice_index, true, false, Some, IfOk, IfErr, OnOk, IfSome};
+ghost use Rattle.plist_base.specs.Faults.{IsNotIo, ObjectReferenceTooLarge, RecursiveObject, error_kind_of, fault_at, fault_of, kind_of};
 ghost use Rattle.plist_decode.specs.Packed.{is_marked, unmarked};
-ghost use Rattle.plist_binread.specs.Walking.{IsCachedIfSmall, IsKnownWalk, cached_in, remaining_entering, remaining_in, walk_objects};
+ghost use Rattle.plist_binread.specs.Walking.{IsCachedIfSmall, IsKnownWalk, KeepsWalk, cached_in, remaining_entering, remaining_in, walk_objects};
 ghost use Rattle.plist_binread.specs.Step.{YieldsResult, IsFound, IsLighterEntered, IsUnchanged, IsCollectionStart, OpensObject, RefusesEntering};
 ghost use Rattle.plist_decode.specs.FaultOffsets.{ErrWithin};
 ghost use Rattle.plist_decode.specs.Decoded.{small_count};
 ghost use Rattle.plist_binread.specs.ObjectEvents.{FitsWalk};
 ghost use Rattle.plist_binread.specs.Handovers.{HandsItem};
 ghost use Rattle.plist_decode.specs.declared.decoded.Decoded.TheVariants.{Collection as OpenCollection};
-ghost use Rattle.plist_decode.specs.Slot.{SlotCountsIo, result_in};
+ghost use Rattle.plist_base.specs.Sources.{CountsIo};
+ghost use Rattle.plist_decode.specs.Slot.{result_in};
 
 use crate::hand::{hand_bytes, hand_decoded, hand_small};
 use crate::references::Reference;
@@ -62,7 +63,7 @@ fn look_up(walk: &Walk, slot: &mut FaultSlot, at: u64, number: u64) -> Result<Kn
         (slice_index walk.now.contents.items number)) }
     // Errors.
     ensures refused { IfErr result (RefusesEntering walk.now at number slot.new) }
-    ensures kinds { IfErr result (λ _. MatchFault (kind_of (error_kind_of slot.new.fault)) ⊥ ⊤ ⊤) }
+    ensures never_io { IfErr result (λ _. IsNotIo (kind_of (error_kind_of slot.new.fault))) }
     ensures fault { ErrWithin 0 0 (result_in result slot.new) }
     // State afterwards.
     ensures below { IfOk result (λ _. number < walk_objects walk.now) }
@@ -165,13 +166,11 @@ pub fn enter<S: Source, C: DecodeCounter, V: EventVisitor>(
     // Errors.
     ensures fault { ErrWithin 0 decoder.old.bounds.trailer (result_in result decoder.new.slot) }
     // State afterwards.
-    ensures size { walk_objects walk.new ≡ walk_objects walk.old }
-    ensures known { IsKnownWalk (S.known source.old) decoder.old.bounds walk.new }
-    ensures bounds { decoder.new.bounds ≡ decoder.old.bounds }
-    ensures counted { C.counts → C.count decoder.new.counter ≡ cached_in walk.new }
+    ensures kept { KeepsWalk S.known C.counts C.count (source.old, decoder.old, walk.old)
+        (source.new, decoder.new, walk.new) }
     ensures falls { OnOk result (IsLighterEntered walk.old walk.new) }
-    ensures unchanged { S.known source.new ≡ S.known source.old }
-    ensures failures { SlotCountsIo S.failures result decoder.new.slot source.old source.new }
+    ensures failures { CountsIo (Some (result_in result decoder.new.slot)) (S.failures source.old)
+        (S.failures source.new) }
 {
     let place = match look_up(walk, &mut decoder.slot, reference.at, reference.number)? {
         Known::Small(kind, content) => {

@@ -10,7 +10,8 @@ ghost use Rattle.plist_decode.specs.FaultOffsets.{ErrWithin};
 ghost use Rattle.plist_base.specs.Events.{ScalarEvent};
 ghost use Rattle.plist_binread.specs.Handovers.{HandsItem, HandsRead};
 ghost use Rattle.plist_decode.specs.Packed.{content_bytes, is_packed, is_small_event, unpacked};
-ghost use Rattle.plist_decode.specs.Slot.{SlotCountsIo, result_in};
+ghost use Rattle.plist_base.specs.Sources.{CountsIo};
+ghost use Rattle.plist_decode.specs.Slot.{result_in};
 ghost use Rattle.plist_decode.specs.declared.decoded.ContentKind.TheVariants.{Text as KindText};
 
 use plist_base::{Date, Error, EventVisitor, Integer, OwnedEvent, RealBits, Source, Uid};
@@ -195,7 +196,8 @@ fn hand_far<S: Source, V: EventVisitor>(
     ensures fault { FailsInContent place content (result_in result slot.new) }
     // State afterwards.
     ensures unchanged { S.known source.new ≡ S.known source.old }
-    ensures failures { SlotCountsIo S.failures result slot.new source.old source.new }
+    ensures failures { CountsIo (Some (result_in result slot.new)) (S.failures source.old)
+        (S.failures source.new) }
 {
     let read = read_long(slot.alloc, source, place, content);
     hand_read(read, slot, visitor)
@@ -235,7 +237,8 @@ pub fn hand_decoded<S: Source, C: DecodeCounter, V: EventVisitor>(
     ensures unchanged { S.known source.new ≡ S.known source.old }
     ensures bounds { decoder.new.bounds ≡ decoder.old.bounds }
     ensures counter { decoder.new.counter ≡ decoder.old.counter }
-    ensures failures { SlotCountsIo S.failures result decoder.new.slot source.old source.new }
+    ensures failures { CountsIo (Some (result_in result decoder.new.slot)) (S.failures source.old)
+        (S.failures source.new) }
 {
     match decoded {
         Decoded::Small(kind, content) => Ok(hand_small(kind, content, visitor)),

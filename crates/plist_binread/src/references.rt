@@ -1,11 +1,11 @@
 //! Reads the references of collections to their children, from copies of a few bytes.
 
-ghost use Rattle.std.specs.Prelude.{◌≤◌, ◌≡◌, ◌+◌, ◌^◌, ◌<◌};
+ghost use Rattle.std.specs.Prelude.{◌≤◌, ◌≡◌, ◌+◌, ◌^◌, ◌<◌, Some};
 ghost use Rattle.plist_base.specs.Outcomes.{DecodesBy, IfRefused};
-ghost use Rattle.plist_base.specs.Sources.{IsIoWithin};
 ghost use Rattle.plist_base.specs.Container.{number_at};
 ghost use Rattle.plist_decode.specs.FaultOffsets.{ErrWithin};
-ghost use Rattle.plist_decode.specs.Slot.{SlotCountsIo, result_in};
+ghost use Rattle.plist_base.specs.Sources.{CountsIo, IsIoWithin};
+ghost use Rattle.plist_decode.specs.Slot.{result_in};
 
 use crate::frames::Frame;
 use crate::prefetch::Prefetcher;
@@ -207,7 +207,8 @@ fn read_reference<S: Source>(
     ensures fault { ErrWithin place (place + width) (result_in result slot.new) }
     // State afterwards.
     ensures unchanged { S.known source.new ≡ S.known source.old }
-    ensures failures { SlotCountsIo S.failures result slot.new source.old source.new }
+    ensures failures { CountsIo (Some (result_in result slot.new)) (S.failures source.old)
+        (S.failures source.new) }
 {
     slot.keep_error(read_number(source, place, width))
 }
@@ -228,12 +229,13 @@ pub struct ReferenceReader {
 }
 
 impl ReferenceReader {
-    ghost use Rattle.std.specs.Prelude.{◌≡◌, ◌<◌, ◌≤◌, Option, List, ℕ};
+    ghost use Rattle.std.specs.Prelude.{◌≡◌, ◌<◌, ◌≤◌, Option, Some, List, ℕ};
     ghost use Rattle.plist_decode.specs.FaultOffsets.{ErrWithin};
     ghost use Rattle.plist_binread.specs.References.{AreReferencesOf, AreRunsOf, IsNumberAt, ReadsChildAt};
     ghost use Rattle.plist_binread.specs.Step.{stored_references};
     ghost use Rattle.plist_binread.specs.Walking.{walk_objects};
-    ghost use Rattle.plist_decode.specs.Slot.{SlotCountsIo, result_in};
+    ghost use Rattle.plist_base.specs.Sources.{CountsIo};
+    ghost use Rattle.plist_decode.specs.Slot.{result_in};
 
     /// Creates a reader that hasn't read any references yet.
     pub fn new() -> Self
@@ -306,7 +308,8 @@ impl ReferenceReader {
         ensures bounds { decoder.new.bounds ≡ decoder.old.bounds }
         ensures counter { decoder.new.counter ≡ decoder.old.counter }
         ensures unchanged { S.known source.new ≡ S.known source.old }
-        ensures failures { SlotCountsIo S.failures result decoder.new.slot source.old source.new }
+        ensures failures { CountsIo (Some (result_in result decoder.new.slot))
+            (S.failures source.old) (S.failures source.new) }
     {
         let width = decoder.bounds.reference_width;
         let references = walk.references(frame);

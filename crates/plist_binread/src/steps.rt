@@ -5,8 +5,9 @@ ghost use Rattle.plist_base.specs.Outcomes.{OnlyMemory};
 ghost use Rattle.plist_binread.specs.Remaining.{CountsObjects, walk_steps};
 ghost use Rattle.plist_decode.specs.FaultOffsets.{ErrWithin, ItemWithin};
 ghost use Rattle.plist_binread.specs.Handovers.{HandsItem};
-ghost use Rattle.plist_decode.specs.Slot.{SlotCountsIo, result_in, ItemSlotCountsIo, item_in};
-ghost use Rattle.plist_binread.specs.Walking.{IsBounded, IsEmptyWalk, IsKnownWalk, cached_in, walk_objects, weight_in};
+ghost use Rattle.plist_base.specs.Sources.{CountsIo};
+ghost use Rattle.plist_decode.specs.Slot.{result_in, item_in};
+ghost use Rattle.plist_binread.specs.Walking.{IsBounded, IsEmptyWalk, IsKnownWalk, KeepsWalk, cached_in, walk_objects, weight_in};
 ghost use Rattle.plist_binread.specs.Step.{LightensNext, YieldsItem, YieldsRoot};
 ghost use Rattle.plist_binread.specs.References.{AreRunsOf};
 
@@ -57,7 +58,8 @@ pub fn begin<S: Source, C: DecodeCounter, V: EventVisitor>(
     ensures known { OnOk result (IsKnownWalk (S.known source.old) decoder.new.bounds walk.new) }
     ensures falls { OnOk result (weight_in walk.new < walk_steps (walk_objects walk.new)) }
     ensures unchanged { S.known source.new ≡ S.known source.old }
-    ensures failures { SlotCountsIo S.failures result decoder.new.slot source.old source.new }
+    ensures failures { CountsIo (Some (result_in result decoder.new.slot)) (S.failures source.old)
+        (S.failures source.new) }
 {
     let alloc = decoder.slot.alloc;
     let head = decoder.slot.keep_error(Head::read(alloc, source))?;
@@ -103,14 +105,12 @@ pub fn advance<S: Source, C: DecodeCounter, V: EventVisitor>(
     // Errors.
     ensures fault { ItemWithin 0 decoder.old.bounds.trailer (item_in result decoder.new.slot) }
     // State afterwards.
-    ensures size { walk_objects walk.new ≡ walk_objects walk.old }
-    ensures known { IsKnownWalk (S.known source.old) decoder.old.bounds walk.new }
-    ensures bounds { decoder.new.bounds ≡ decoder.old.bounds }
-    ensures counted { C.counts → C.count decoder.new.counter ≡ cached_in walk.new }
+    ensures kept { KeepsWalk S.known C.counts C.count (source.old, decoder.old, walk.old)
+        (source.new, decoder.new, walk.new) }
     ensures references { AreRunsOf (S.known source.old) references.new }
     ensures falls { LightensNext walk.old result walk.new }
-    ensures unchanged { S.known source.new ≡ S.known source.old }
-    ensures failures { ItemSlotCountsIo S.failures result decoder.new.slot source.old source.new }
+    ensures failures { CountsIo (item_in result decoder.new.slot) (S.failures source.old)
+        (S.failures source.new) }
 {
     match walk.next_child() {
         NextChild::Nothing => None,

@@ -3,24 +3,26 @@ use Rattle.std.proofs.Common.{◌≡◌, ℕ, zero, suc, ◌+◌, ◌*◌, ◌^�
 use Rattle.std.specs.Int.{byte_at, bytes_high_first}
 use Rattle.std.proofs.lemmas.Bool.{lt-ltb, le-ltb}
 use native.Mathlib.Nat.{div-eq_of_lt}
-use Rattle.plist_binwrite.specs.Forms.{doublings, least_width, unsigned_form, length_form}
+use Rattle.plist_base.specs.Object.{byte_of, high_half}
+use Rattle.plist_base.specs.declared.marker.CountedKind.{CountedKind}
+use Rattle.plist_binwrite.specs.Forms.{integer_marker, least_width, unsigned_form, length_form}
 
-pub length_short : (high count : ℕ) → count < 15 → length_form high count ≡ (high * 16 + count) ∷ []
+pub length_short : (kind : CountedKind) (count : ℕ) → count < 15 → length_form kind count ≡ (high_half kind * 16 + count) ∷ []
 unfolding length_form
-length_short high count h = rw (lt-ltb _ 15 h) refl
+length_short kind count h = rw (lt-ltb _ 15 h) refl
 
-pub length_long : (high count : ℕ) → 15 ≤ count
-    → length_form high count ≡ (high * 16 + 15) ∷ unsigned_form count
+pub length_long : (kind : CountedKind) (count : ℕ) → 15 ≤ count
+    → length_form kind count ≡ (high_half kind * 16 + 15) ∷ unsigned_form count
 unfolding length_form
-length_long high count h = rw (le-ltb _ 15 h) refl
+length_long kind count h = rw (le-ltb _ 15 h) refl
 
 -- these are the bytes of a length that follows its marker
-pub length_told : (high count width marker : ℕ) → 15 ≤ count → width ≡ least_width count
-    → marker ≡ 0x10 + doublings width
-    → (high * 16 + 15) ∷ marker ∷ bytes_high_first width count ≡ length_form high count
-length_told high count width marker long least number =
+pub length_told : (kind : CountedKind) (count width marker : ℕ) → 15 ≤ count → width ≡ least_width count
+    → marker ≡ byte_of (integer_marker width)
+    → (high_half kind * 16 + 15) ∷ marker ∷ bytes_high_first width count ≡ length_form kind count
+length_told kind count width marker long least number =
     let given : marker ∷ bytes_high_first width count ≡ unsigned_form count = cc in
-    cc (length_long high count long)
+    cc (length_long kind count long)
 
 high_zero : (k n : ℕ) → n < 256 ^ k → byte_at k n ≡ 0
 high_zero zero n h = omega arith

@@ -6,6 +6,7 @@ use Rattle.std.proofs.lemmas.Bool.{lt-ltb, le-ltb, cases_lt, le-leb, lt-leb, and
 use Rattle.std.proofs.lemmas.Grind.{flat_map-append}
 use Rattle.std.proofs.lemmas.Str.{chars_past_char, chars-nil, length-encode, is_utf8-from_IsUtf8, chars-encodes, utf16_chars-nil, utf16_chars_lone, utf16_chars_pair}
 use Rattle.std.proofs.lemmas.List.{nil_from_length}
+use Rattle.plist_base.specs.declared.marker.CountedKind.TheVariants as kind
 use Rattle.plist_binwrite.specs.Forms.{units_of, is_ascii_text, length_form, scalar_form, table_form, form, key_numbers, value_numbers, IsWritableScalar, AllFit, IsWritable}
 use Rattle.std.specs.Int.{bytes_high_first}
 use Rattle.std.specs.List.{zip, list_any}
@@ -140,13 +141,13 @@ pub text_read : (width : ℕ) (t rest : List ℕ) → IsWritableScalar (trees.St
     → object_in width (scalar_form (trees.String t) ++ rest) ≡ Scalar (trees.String t)
 text_read width t rest is =
     elim (is_ascii_text t) as (λ b. object_in width
-    (cond b (length_form 0x5 (length t) ++ t)
-    (length_form 0x6 (length (units_of t)) ++ table_form 2 (units_of t)) ++ rest)
+    (cond b (length_form kind.Text (length t) ++ t)
+    (length_form kind.WideText (length (units_of t)) ++ table_form 2 (units_of t)) ++ rest)
     ≡ Scalar (trees.String t)) [
-      | true ↦ counted width 0x5 (length t) t rest (layout-text width) is.1 (omega arith)
+      | true ↦ counted width kind.Text (length t) t rest (layout-text width) is.1 (omega arith)
           ∙ rw (is_utf8-from_IsUtf8 t is.0) refl
       | false ↦
-          counted width 0x6 (length (units_of t)) (flat_map (bytes_high_first 2) (units_of t)) rest
+          counted width kind.WideText (length (units_of t)) (flat_map (bytes_high_first 2) (units_of t)) rest
           (layout-wide_text width) few (length-table 2 (units_of t))
           ∙ ap text_of_units (numbers_back 2 (units_of t) (omega arith)
           (rw units (units_fit is.0.0 is.0.1.0))
@@ -170,7 +171,7 @@ scalar_read width (trees.Boolean true) rest is = front 0
 scalar_read width (trees.Boolean false) rest is = front 0
     (λ _. Scalar (trees.Boolean false)) [] rest refl
 scalar_read width (trees.Data v) rest is =
-    counted width 0x4 (length v) v rest (layout-data width) is (omega arith)
+    counted width kind.Data (length v) v rest (layout-data width) is (omega arith)
 scalar_read width (trees.Date v) rest is = front 8 date v rest is.1 ∙ ap date_if_any is.0
 scalar_read width (trees.Integer v) rest is = integer_read width v rest is
 scalar_read width (trees.Real (Four v)) rest is =
@@ -206,14 +207,14 @@ pub form_read : (w : ℕ) → 0 < w → (o : Object) (rest : List ℕ) → IsWri
     → object_in w (form w o ++ rest) ≡ o
 form_read w positive (Scalar x) rest is = scalar_read w x rest is
 form_read w positive (Array items) rest is =
-    counted w 0xa (length items) (flat_map (bytes_high_first w) items) rest (layout-array w) is.0
+    counted w kind.Array (length items) (flat_map (bytes_high_first w) items) rest (layout-array w) is.0
     (length-table w items)
     ∙ ap Array (numbers_back w items positive is.1)
 form_read w positive (Dictionary ps) rest is =
     let many : length (key_numbers ps ++ value_numbers ps) * w ≡ length ps * (2 * w) =
     simp (length-append, length-keys_of, length-values_of) (grind arith) in
     rw (← flat_map-append (bytes_high_first w) (key_numbers ps) (value_numbers ps))
-    (counted w 0xd (length ps) (flat_map (bytes_high_first w) (key_numbers ps ++ value_numbers ps)) rest
+    (counted w kind.Dictionary (length ps) (flat_map (bytes_high_first w) (key_numbers ps ++ value_numbers ps)) rest
     (layout-dictionary w) is.0 (length-table w (key_numbers ps ++ value_numbers ps) ∙ many)
     ∙ ap (dictionary (length ps)) (numbers_back w (key_numbers ps ++ value_numbers ps) positive
     (all_both _ (key_numbers ps) (value_numbers ps) is.1 is.2))

@@ -9,8 +9,10 @@ use Rattle.std.proofs.Math.Seq.{take-append_seam, drop-append_seam}
 use Rattle.std.proofs.Math.Nat.{mul-div_cancel}
 use Rattle.plist_base.specs.Trees as trees
 use Rattle.plist_base.specs.Container.{number_of, number_at, numbers_spelled, magic, trailer_in, is_width, head_with, head_of}
-use Rattle.plist_base.specs.Object.{Object, Scalar, Counted, layout_of, length_that_follows, meaning_of_front, object_in, signed, integer_in_range}
-use Rattle.plist_binwrite.specs.Forms.{doublings, unsigned_form, length_form, scalar_form, IsWritableScalar, AllFit, least_width, table_form, reference_width}
+use Rattle.plist_base.specs.Object.{Object, Scalar, Counted, byte_of, high_half, layout_of, length_that_follows, meaning_of_front, object_in, signed, integer_in_range}
+use Rattle.plist_base.specs.declared.marker.CountedKind.{CountedKind}
+use Rattle.plist_base.specs.declared.marker.Marker.TheVariants as mark
+use Rattle.plist_binwrite.specs.Forms.{integer_marker, unsigned_form, length_form, scalar_form, IsWritableScalar, AllFit, least_width, table_form, reference_width}
 use Rattle.std.specs.Int.{bytes_high_first}
 use Rattle.plist_binwrite.proofs.NumberForms.{length_short, length_long}
 use Rattle.plist_binwrite.proofs.LeastWidths.{at_width, length-big_endian, number_back}
@@ -54,7 +56,7 @@ natural_read : (width n : ℕ) (rest : List ℕ) → n < 2 ^ 63
 unfolding object_in
 natural_read width n rest h =
     let low = number_front (λ k. Scalar (trees.Integer (pos k))) in
-    at_width n (λ w. object_in width ((0x10 + doublings w) ∷ bytes_high_first w n ++ rest)
+    at_width n (λ w. object_in width (byte_of (integer_marker w) ∷ bytes_high_first w n ++ rest)
     ≡ Scalar (trees.Integer (pos n)))
     (low 1 n rest) (low 2 n rest) (low 4 n rest)
     (number_front (λ k. Scalar (trees.Integer (signed 64 k))) 8 n rest (omega (arith, h))
@@ -83,7 +85,7 @@ pub uid_read : (width n : ℕ) (rest : List ℕ) → n < 2 ^ 64
 unfolding object_in
 uid_read width n rest h =
     let back = number_front (λ k. Scalar (trees.Uid k)) in
-    at_width n (λ w. object_in width ((0x7f + w) ∷ bytes_high_first w n ++ rest)
+    at_width n (λ w. object_in width (byte_of (mark.Uid w) ∷ bytes_high_first w n ++ rest)
     ≡ Scalar (trees.Uid n))
     (back 1 n rest) (back 2 n rest) (back 4 n rest) (back 8 n rest (omega (arith, h)))
 
@@ -93,7 +95,7 @@ uid_read width n rest h =
 follows : (n : ℕ) (rest : List ℕ) → n < 2 ^ 64
     → length_that_follows (unsigned_form n ++ rest) ≡ Some (n, rest)
 follows n rest h =
-    at_width n (λ w. length_that_follows ((0x10 + doublings w) ∷ bytes_high_first w n ++ rest)
+    at_width n (λ w. length_that_follows (byte_of (integer_marker w) ∷ bytes_high_first w n ++ rest)
     ≡ Some (n, rest))
     (taken 1) (taken 2) (taken 4) (taken 8 (omega (arith, h)))
   where
@@ -106,30 +108,30 @@ follows n rest h =
         ∙ ap (λ k. Some (k, rest)) (number_back w n small)
 
 -- an object with this many elements is read back
-pub counted : {size : ℕ} {meaning : ℕ → List ℕ → Object} (width high count : ℕ)
+pub counted : {size : ℕ} {meaning : ℕ → List ℕ → Object} (width : ℕ) (kind : CountedKind) (count : ℕ)
     (content rest : List ℕ)
-    → ((m : ℕ) → high * 16 ≤ m → m ≤ high * 16 + 15 → layout_of width m ≡ Counted size meaning)
+    → ((m : ℕ) → high_half kind * 16 ≤ m → m ≤ high_half kind * 16 + 15 → layout_of width m ≡ Counted size meaning)
     → count < 2 ^ 64 → length content ≡ count * size
-    → object_in width ((length_form high count ++ content) ++ rest) ≡ meaning count content
+    → object_in width ((length_form kind count ++ content) ++ rest) ≡ meaning count content
 unfolding object_in
-counted {size} {meaning} width high count content rest layout small len =
+counted {size} {meaning} width kind count content rest layout small len =
     let read = front (count * size) (meaning count) content rest len in
     elim (cases_lt count 15) [
       | inl short ↦
-          let m : (high * 16 + count) % 16 ≡ count = omega arith in
+          let m : (high_half kind * 16 + count) % 16 ≡ count = omega arith in
           rw (
-            length_short high count short,
-            layout (high * 16 + count) (omega arith) (omega arith),
+            length_short kind count short,
+            layout (high_half kind * 16 + count) (omega arith) (omega arith),
             m,
             lt-ltb count 15 short,
           ) read
       | inr long ↦
-          let m : (high * 16 + 15) % 16 ≡ 15 = omega arith in
+          let m : (high_half kind * 16 + 15) % 16 ≡ 15 = omega arith in
           let following = ap length_that_follows (append_assoc (unsigned_form count) content rest)
           ∙ follows count (content ++ rest) small in
           rw (
-            length_long high count long,
-            layout (high * 16 + 15) (omega arith) (omega arith),
+            length_long kind count long,
+            layout (high_half kind * 16 + 15) (omega arith) (omega arith),
             m,
             following,
           ) read

@@ -1,6 +1,7 @@
 -- The objects of trees by their indices: their forms, their sizes, and that they can be written.
 use Rattle.std.proofs.Common.{◌≡◌, ◌⊎◌, inl, inr, ℕ, ◌+◌, ◌*◌, ◌^◌, ◌<◌, ◌≤◌, false, List, ◌∷◌, length, flat_map, map, refl, ap, subst, ◌∙◌, arith, length-append}
 use Rattle.std.proofs.lemmas.List.{length-map}
+use Rattle.plist_base.specs.declared.marker.CountedKind.TheVariants as kind
 use Rattle.plist_base.specs.Events.{PlainEvent, ScalarEvent, shape_of}
 use Rattle.plist_base.specs.Trees.{number_of_trees, number_of_members, Scalar, String, Tree, Leaf, Array, Dictionary, Trees, NoTrees, TreeAnd, Members, NoMembers, MemberAnd}
 use Rattle.plist_base.specs.declared.event.EventShape.{EventShape}
@@ -14,7 +15,6 @@ use Rattle.plist_binwrite.specs.Sizes.{object_size}
 use Rattle.plist_binwrite.specs.inner.Numbering.{IsCapped}
 use Rattle.plist_buffer.specs.Children.{half_of}
 use Rattle.plist_buffer.specs.declared.children.Half.TheVariants.{Values}
-use Rattle.plist_base.specs.declared.marker.CountedKind.TheVariants as counted
 use Rattle.plist_binwrite.specs.EventClasses.{events_in}
 use Rattle.plist_binwrite.specs.declared.plan.FilePlan.{FilePlan}
 use Rattle.plist_binwrite.specs.inner.Layout.{collection_form, number_of_event}
@@ -161,7 +161,7 @@ module _ (plan : FilePlan) where
   tree_form tree index = form plan.width (object_of num tree index)
 
   pub array_is : {p : ℕ} {ts : Trees} → OccursAt es (Array ts) p
-      → collection_form plan counted.Array p ≡ tree_form (Array ts) p
+      → collection_form plan kind.Array p ≡ tree_form (Array ts) p
   array_is {p} {ts} s =
       rw (
         keys_are_in es (Array ts) p s,
@@ -170,7 +170,7 @@ module _ (plan : FilePlan) where
       ) refl
 
   pub dictionary_is : {p : ℕ} {ms : Members} → OccursAt es (Dictionary ms) p
-      → collection_form plan counted.Dictionary p ≡ tree_form (Dictionary ms) p
+      → collection_form plan kind.Dictionary p ≡ tree_form (Dictionary ms) p
   dictionary_is {p} {ms} s =
       rw (
         keys_are_in es (Dictionary ms) p s,
@@ -194,10 +194,10 @@ form_size w num (Dictionary ms) p =
     simp (length-append, length-table, length-keys_of, length-values_of, length-pairs) (grind arith)
 
 pub wide_length : (text : List ℕ) → is_ascii_text text ≡ false
-    → length (length_form 0x6 (length (units_of text))) + length (units_of text) * 2
+    → length (length_form kind.WideText (length (units_of text))) + length (units_of text) * 2
     ≡ length (scalar_form (String text))
 wide_length text wide =
-    let head = length-append (length_form 0x6 (length (units_of text)))
+    let head = length-append (length_form kind.WideText (length (units_of text)))
     (flat_map (bytes_high_first 2) (units_of text)) in
     rw (wide) (omega (arith, head, length-table 2 (units_of text)))
 

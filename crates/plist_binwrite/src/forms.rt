@@ -6,13 +6,12 @@
 //!
 //! For the plan of a file, the lengths of scalars are computed before any byte is put.
 
-ghost use Rattle.std.specs.Prelude.{◌≡◌, ◌≤◌, ◌<◌, ◌+◌, ℕ, Ok, length, true, false};
+ghost use Rattle.std.specs.Prelude.{◌≡◌, ◌≤◌, ◌<◌, ◌+◌, Ok, length, true, false};
 ghost use Rattle.plist_base.specs.Trees as trees;
 ghost use Rattle.plist_binwrite.specs.Forms.{IsWritableScalar, unsigned_form, length_form, scalar_form, table_form};
 ghost use Rattle.plist_binwrite.specs.inner.Numbering.{IsCapped};
 ghost use Rattle.std.specs.Int.{bytes_high_first};
 ghost use Rattle.plist_buffer.specs.StoredScalars.{scalar_of_ref};
-ghost use Rattle.plist_base.specs.Object.{high_half};
 ghost use Rattle.plist_base.specs.Sinks.{Puts, PutsBytes, PutsNothing, room};
 ghost use Rattle.plist_binwrite.specs.Written.{table_and_trailer, trailer_of};
 
@@ -66,7 +65,7 @@ pub fn put_length<W: Write>(
     kind: CountedKind,
     count: u64,
 ) -> Result<(), Error>
-    ensures { Puts W.contents sink.old (length_form (high_half kind) count) result sink.new }
+    ensures { Puts W.contents sink.old (length_form kind count) result sink.new }
 {
     sink.make_room(MAX_FIXED_OBJECT)?;
     push_length(sink.buffer, kind, count);
@@ -188,7 +187,7 @@ fn length_of_unsigned(number: u64) -> u64
 
 /// Returns the length in bytes of a marker with this count, which is in the marker or follows it.
 pub(crate) fn length_of_count(count: u64) -> u64
-    ensures value { (high : ℕ) → result ≡ length (length_form high count) }
+    ensures value { (kind : CountedKind) → result ≡ length (length_form kind count) }
     ensures small { result ≤ 10 }
 {
     match LowHalf::of_length(count) {
@@ -200,7 +199,8 @@ pub(crate) fn length_of_count(count: u64) -> u64
 // Returns the length of a marker with this count and of the `count` bytes that follow it, or
 // 2^64 - 1 if it is greater: no file is that long, so it isn't mistaken for a length.
 fn length_of_bytes(count: u64) -> u64
-    ensures value { (high : ℕ) → IsCapped result (length (length_form high count) + count) }
+    ensures value { (kind : CountedKind)
+        → IsCapped result (length (length_form kind count) + count) }
 {
     count.saturating_add(length_of_count(count))
 }

@@ -5,10 +5,10 @@
 ghost use Rattle.std.specs.Prelude.{◌≡◌, ◌+◌, ◌++◌, ◌∷◌, ◌≤◌, length, true, false};
 ghost use Rattle.plist_base.specs.Sinks.{buffered, room};
 ghost use Rattle.plist_base.specs.Trees as trees;
-ghost use Rattle.plist_binwrite.specs.Forms.{doublings, is_ascii_text, unsigned_form, length_form, scalar_form};
+ghost use Rattle.plist_binwrite.specs.Forms.{integer_marker, is_ascii_text, unsigned_form, length_form, scalar_form};
 ghost use Rattle.std.specs.Int.{bytes_high_first};
 ghost use Rattle.plist_buffer.specs.StoredScalars.{scalar_of_ref};
-ghost use Rattle.plist_base.specs.Object.{byte_of, high_half};
+ghost use Rattle.plist_base.specs.Object.{byte_of};
 
 use crate::text::{count_units, is_ascii_text, push_units};
 use crate::widths::least_width;
@@ -19,7 +19,7 @@ use plist_buffer::stored_scalar::ScalarRef;
 // Returns the marker of a number of this width.
 #[inline(always)]
 fn number_marker(width: usize) -> Marker
-    ensures { byte_of result ≡ 0x10 + doublings width }
+    ensures { result ≡ integer_marker width }
 {
     match width {
         1 => Marker::Integer1,
@@ -81,7 +81,7 @@ fn push_unsigned(buffer: &mut FixedBuffer, number: u64)
 pub fn push_length(buffer: &mut FixedBuffer, kind: CountedKind, count: u64)
     requires { 10 ≤ room buffer.old }
     ensures pushed { buffered buffer.new ≡ buffered buffer.old
-        ++ length_form (high_half kind) count }
+        ++ length_form kind count }
     ensures room { room buffer.old ≤ room buffer.new + 10 }
 {
     if let Some(low) = LowHalf::of_length(count) {
@@ -140,7 +140,7 @@ pub fn push_uid(buffer: &mut FixedBuffer, uid: Uid)
 fn push_wide_integer(buffer: &mut FixedBuffer, number: u64)
     requires { 17 ≤ room buffer.old }
     ensures pushed { buffered buffer.new ≡ buffered buffer.old
-        ++ 0x14 ∷ bytes_high_first 16 number }
+        ++ byte_of Marker.Integer16 ∷ bytes_high_first 16 number }
 {
     push_marked_number(buffer, Marker::Integer16, 8, 0);
     buffer.push(&number.to_be_bytes());

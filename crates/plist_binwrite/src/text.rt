@@ -120,8 +120,8 @@ pub fn is_ascii_text(text: &str) -> bool
 
 // Puts a string whose bytes are all ASCII.
 fn put_ascii<W: Write>(sink: &mut Sink<'_, W>, text: &str) -> Result<(), Error>
-    ensures { Puts W.contents sink.old (length_form 0x5 (length text.now) ++ text.now) result
-        sink.new }
+    ensures { Puts W.contents sink.old
+        (length_form CountedKind.Text (length text.now) ++ text.now) result sink.new }
 {
     let count = text.len();
     put_length(sink, CountedKind::Text, count as u64)?;
@@ -130,7 +130,8 @@ fn put_ascii<W: Write>(sink: &mut Sink<'_, W>, text: &str) -> Result<(), Error>
 
 // Puts a string in UTF-16.
 fn put_wide<W: Write>(sink: &mut Sink<'_, W>, text: &str) -> Result<(), Error>
-    ensures { Puts W.contents sink.old (length_form 0x6 (length (units_of text.now))
+    ensures { Puts W.contents sink.old
+        (length_form CountedKind.WideText (length (units_of text.now))
         ++ table_form 2 (units_of text.now)) result sink.new }
 {
     let count = count_units(text);

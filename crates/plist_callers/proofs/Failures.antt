@@ -1,5 +1,5 @@
 -- Reading the value of a slice never fails because of a failed read.
-use Rattle.std.proofs.Common.{◌≡◌, ℕ, inl, inr, List, [], ◌∷◌, ◌++◌, Option, Some, None, Result, Ok, Err, IfSome, map, refl, sym, subst, arith, ap, ◌∙◌}
+use Rattle.std.proofs.Common.{◌≡◌, ℕ, inl, inr, List, [], ◌∷◌, ◌++◌, Option, Some, None, Result, Ok, Err, IfSome, map, refl, sym, subst, arith, ap}
 use Rattle.std.specs.Iterator.{Yields}
 use Rattle.plist_base.specs.declared.error.Error.{Error}
 use Rattle.plist_base.specs.declared.event.Event.{Event}
@@ -9,18 +9,16 @@ use Rattle.plist_buffer.specs.declared.expects.Transition.TheVariants.{Refused}
 use Rattle.plist_buffer.specs.declared.expects.Expect.TheVariants.{OneValue}
 use Rattle.plist_base.specs.Events.{PlainEvent, event_of}
 use Rattle.plist_buffer.specs.Expects.{transition_of}
-use Rattle.plist_base.specs.Faults.{FaultKind, Fault, Io, MatchFault, error_kind_of, fault_of, kind_of}
+use Rattle.plist_base.specs.Faults.{FaultKind, Fault, IsNotIo, MatchFault, error_kind_of, fault_of, kind_of}
 use Rattle.plist_base.specs.Sources.{Rises}
+use Rattle.plist_base.proofs.Refusals.{MatchFault-weaker}
 use Rattle.plist_reader.specs.declared.reader.Reader.{Reader}
 use Rattle.plist_reader.specs.declared.reader.State.{State}
 use Rattle.plist_reader.specs.declared.reader.State.TheVariants as state
-use Rattle.plist_reader.specs.Reader.{Gives, HoldsSource, StateGives, source_in}
+use Rattle.plist_reader.specs.Reader.{Gives, StateGives, source_in}
+use Rattle.plist_reader.proofs.ReaderItems.{HoldsSource}
 use Rattle.plist.specs.Building.{Unfinished, NotBegun, Within, Complete, expected_within, if_refused, refusal_at}
 use Rattle.plist.specs.Collecting.{Collects, IsRefusal, item_by}
-
--- the fault isn't that a read failed
-abbrev pub IsNotIo : FaultKind → Type 0
-IsNotIo kind = kind ≡ Io → ⊥
 
 -- ---- an event that can't come next
 
@@ -30,16 +28,17 @@ if-refused Refused kind h = h
 if-refused change kind h = tt
 
 refused-event : (held : Unfinished) (event : PlainEvent) → IfSome (refusal_at held event) IsNotIo
-refused-event NotBegun event = if-refused (transition_of OneValue event) _ (λ e. cc e)
+refused-event NotBegun event = if-refused (transition_of OneValue event) _ tt
 refused-event (Within collection outer) event =
-    if-refused (transition_of (expected_within collection) event) _ (λ e. cc e)
-refused-event (Complete tree) event = λ e. cc e
+    if-refused (transition_of (expected_within collection) event) _ tt
+refused-event (Complete tree) event = tt
 
 of-refusal : (refusal : Option FaultKind) (fault : Fault) → IfSome refusal IsNotIo
     → IsRefusal refusal fault → IsNotIo fault.kind
-of-refusal None fault events is = λ e. let k = ap (λ (f : Fault). f.kind) is in cc (k, e)
+of-refusal None fault events is =
+    subst IsNotIo (sym (ap (λ (f : Fault). f.kind) is)) tt
 of-refusal (Some kind) fault events is =
-    λ e. events (sym (ap (λ (f : Fault). f.kind) is) ∙ e)
+    subst IsNotIo (sym (ap (λ (f : Fault). f.kind) is)) events
 
 -- ---- an item that is an error
 
@@ -69,7 +68,7 @@ module _ {I : Type 0} (gives : I → Option (Result Event Error) → I → Type 
       of-refusal (refusal_at held event) fault (refused-event held event) why
   never-collects iter fault
       (after, (taken, left, yields, (events, held, nested, alike, inr (inr (is, ends, why, none))))) =
-      λ e. let k = ap (λ (f : Fault). f.kind) why in cc (k, e)
+      subst IsNotIo (sym (ap (λ (f : Fault). f.kind) why)) tt
 
 -- ---- a source of which no read fails
 
@@ -79,8 +78,7 @@ never-rises (inr full) = omega (arith, full.0)
 
 never-io : (kind : FaultKind) (same : Type 0) → MatchFault kind (Rises 0 0) same same
     → IsNotIo kind
-never-io kind same rises e =
-    never-rises (subst (λ k. MatchFault k (Rises 0 0) same same) e rises)
+never-io kind same rises = MatchFault-weaker kind never-rises (λ _. tt) (λ _. tt) rises
 
 module _ {R : Type 0} where
   never-in : (old new : Option R) (error : Error) → (old ≡ None → ⊥)

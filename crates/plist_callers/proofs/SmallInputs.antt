@@ -1,5 +1,5 @@
 -- The items of the small files and of the text.
-use Rattle.std.proofs.Common.{◌≡◌, ℕ, Bool, List, [], ◌∷◌, Option, Result, Ok, None, Some, take, refl}
+use Rattle.std.proofs.Common.{◌≡◌, ℕ, Bool, List, [], ◌∷◌, Option, Result, Ok, None, Some, take, refl, ap, map}
 use Rattle.std.specs.Prelude.{◌-◌, ◌^◌, negsuc, pos, true}
 use Rattle.std.specs.Str.{is_utf8, chars}
 use lib.Utf8.{encode}
@@ -15,7 +15,7 @@ use Rattle.plist_base.specs.Trees.{Boolean, Integer, Real}
 use Rattle.plist_base.specs.declared.real.RealBits.TheVariants.{Four}
 use Rattle.plist_base.proofs.WorkedFiles.Files.{array, close, dictionary, refused, scalar, worked_files}
 use Rattle.plist_base.specs.Unfolding.{items_of_file}
-use Rattle.plist_ascii.specs.AsciiReader.{GivesAsciiItem}
+use Rattle.plist_ascii.specs.AsciiReader.{TakesItem}
 use Rattle.plist_ascii.specs.Ascii.{items_in, items_of_ascii, token}
 use Rattle.plist_ascii.specs.Escapes.{escape, octal_char}
 use Rattle.plist_ascii.specs.Texts.{quoted_in, bare_event, lax_stops, quoted_event}
@@ -67,6 +67,6 @@ of_comment_and_array = refl
 pub no_string_first : (stops : ℕ → Bool) (bytes rest : List ℕ) (p q : ℕ)
     (item : Option (Result Event Error)) (text : CowStr Global) → item ≡ Some (Ok (String text))
     → stops ≡ lax_stops → bytes ≡ take (2 ^ 64 - 1) comment_and_array → p ≡ 0
-    → GivesAsciiItem stops bytes p item rest q → ⊥
-no_string_first stops bytes rest p q item text is lax known start gives =
-    let first = rw is at gives in cc (first.0, of_comment_and_array)
+    → TakesItem stops bytes p item rest q → ⊥
+no_string_first stops bytes rest p q item text is lax known start takes =
+    let first = rw is at takes in cc (ap (map (λ i. i.item)) first.ends, of_comment_and_array)

@@ -1,12 +1,15 @@
-//! Proved callers of the reader: it returns its inner reader, looks at no byte after a bracket, and
-//! ends a comment at `*/`.
+//! Proved callers of the reader: it returns its inner reader, counts the failures of a buffered
+//! source, looks at no byte after a bracket, and ends a comment at `*/`.
 
 ghost use Rattle.std.specs.Prelude.{◌≡◌, None, false, true};
 ghost use Rattle.plist_ascii.specs.AsciiReader.{HasEndedAscii, device_of, peeked_byte};
+ghost use Rattle.plist_base.specs.Sources.{CountsIo};
+ghost use Rattle.plist_reader.specs.Reader.{buffered_source};
 ghost use Rattle.plist_callers.specs.SmallInputs.{comment_and_array};
 
 use plist_ascii::{AsciiReader, ByteReader};
-use plist_base::Event;
+use plist_base::{Error, Event, OwnedEvent, Source};
+use plist_reader::BufferedSource;
 use std::alloc::Global;
 
 /// Returns the inner reader of a reader that hasn't been called.
@@ -24,6 +27,17 @@ pub fn device_after_end<R: ByteReader + Drop>(reader: AsciiReader<R>) -> R
     let mut reader = reader;
     let _item = reader.next();
     reader.into_inner()
+}
+
+/// Returns the next item of a reader over a buffered source. The source's count of failures rises
+/// if the item is `Io`, and otherwise is unchanged.
+pub fn item_and_failures<S: Source>(
+    reader: &mut AsciiReader<BufferedSource<S>>,
+) -> Option<Result<OwnedEvent, Error>>
+    ensures { CountsIo result (S.failures (buffered_source (device_of reader.old)))
+        (S.failures (buffered_source (device_of reader.new))) }
+{
+    reader.next()
 }
 
 /// Returns whether the next item is the start or the end of a collection. If it is, no byte after

@@ -3,7 +3,9 @@ use Rattle.std.proofs.Common.{◌≡◌, ◌↔◌, ℕ, Bool, true, false, List
 use Rattle.std.specs.Option.{option_map}
 use Rattle.plist_base.specs.Bracketing.{bracketing, without_length, AreAlike, AreTreeEvents, CanContinue}
 use Rattle.plist_base.specs.Events.{PlainEvent, Item}
-use Rattle.plist_base.specs.FirstItems.{GivesFirst, GivesFirstIfKnown}
+use Rattle.plist_base.specs.FirstItems.{GivesFirst}
+use Rattle.plist_print.proofs.SourceItems.{Comes}
+use Rattle.std.specs.Bool.{⊤}
 use Rattle.plist_base.specs.Visits.{PlainItem}
 use Rattle.plist_base.specs.declared.error.Error.{Error}
 use Rattle.plist_base.specs.Faults.{fault_of}
@@ -53,11 +55,11 @@ abbrev pub Came : (items now : Option (List Item)) (held : List PlainEvent) (ite
     → Type 0
 Came items now held item = IfSome items (λ all.
     (left : List Item) × (next : List Item) × TookOf all left held × (now ≡ Some next)
-    × GivesFirst (λ event. event) left item next)
+    × GivesFirst (λ event. event) (λ _ _. ⊤) (λ _ _. ⊤) left item next)
 
 pub came_next : (items before now : Option (List Item)) (held : List PlainEvent)
     (item : PlainItem) → HasTaken items before held
-    → GivesFirstIfKnown (λ event. event) before item now
+    → Comes before item now
     → Came items now held item
 came_next None before now held item taken_before comes = tt
 came_next (Some all) before now held item (left, is, took) comes =
@@ -107,7 +109,7 @@ module _ (all before : List Item) (held : List PlainEvent) (took : TookOf all be
 
   -- the reader yielded an error
   pub took_fault : (after : List Item) (error : Error)
-      → GivesFirst (λ event. event) before (Some (Err error)) after
+      → GivesFirst (λ event. event) (λ _ _. ⊤) (λ _ _. ⊤) before (Some (Err error)) after
       → IsValueOf all (Err (fault_of error))
   took_fault after error b =
       let (events, u, is, ok, alike, like) = took in

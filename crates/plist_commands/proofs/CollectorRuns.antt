@@ -9,7 +9,7 @@ use Rattle.plist_base.specs.declared.visitor.Visited.{Visited}
 use Rattle.plist_base.specs.declared.visitor.Visited.TheVariants.{Ended, Stopped}
 use Rattle.plist_base.specs.Events.{PlainEvent, Item}
 use Rattle.plist_base.specs.Faults.{Fault, OutOfMemory, error_kind_of, fault_without_offset, fault_of, kind_of}
-use Rattle.plist_base.specs.Sources.{ItemCountsIo}
+use Rattle.plist_base.specs.Sources.{CountsIo}
 use Rattle.plist_base.specs.Visits.{Flow, PlainItem, Visits}
 use Rattle.plist_base.proofs.Refusals.{MatchFault-at}
 use Rattle.plist_base.proofs.Visits.{kept_all}
@@ -24,9 +24,8 @@ use Rattle.plist_commands.specs.declared.collector.Collector.{Collector}
 use Rattle.plist_commands.specs.declared.collector.StopReason.{StopReason}
 use Rattle.plist_commands.specs.declared.collector.StopReason.TheVariants.{Failed, Misplaced, Paused}
 use Rattle.plist_commands.specs.CollectorSteps.{AnswersVisit, HasPaused, HoldsMore, IsEmpty, MatchStop, MayPause, CollectsEvent, collected, is_complete}
-use Rattle.plist_base.specs.FirstItems.{GivesFirstIfKnown}
 use Rattle.plist_print.specs.Printing.{CountsReads}
-use Rattle.plist_print.proofs.SourceItems.{binary_comes}
+use Rattle.plist_print.proofs.SourceItems.{Comes, binary_comes}
 use Rattle.plist_print.proofs.PendingBytes.{fault_counts, memory_own, own_counts}
 use Rattle.plist_commands.proofs.BufferedRuns.{HasHeld, held_faulted, held_more, held_none, held_refused, held_stopped, held_whole}
 use Rattle.plist_commands.proofs.BufferedItems.{HasTaken, came_next, goes_on, held_at_end, taken_none, tells_next, tells_none, took_event, took_fault, whole_at_end}
@@ -49,9 +48,9 @@ module _ {I : Type 0} (gives : I → PlainItem → I → Type 0) (coming : I →
 
 module _ {I : Type 0} (gives : I → PlainItem → I → Type 0) (coming : I → Option (List Item))
     (comes : (old : I) (item : PlainItem) (new : I) → gives old item new
-    → GivesFirstIfKnown (λ event. event) (coming old) item (coming new)) (failures : I → ℕ) (is_open : I → Type 0)
+    → Comes (coming old) item (coming new)) (failures : I → ℕ) (is_open : I → Type 0)
     (counts : (old : I) (item : PlainItem) (new : I) → is_open old → gives old item new
-    → ItemCountsIo item (failures old) (failures new) × is_open new) where
+    → CountsIo item (failures old) (failures new) × is_open new) where
   -- the events that were yielded so far are buffered
   pub record Held (first : I) (now : I × Collector) : Type 0 where
     pub ran : HasHeld gives first now.0 (collected now.1)
@@ -61,7 +60,7 @@ module _ {I : Type 0} (gives : I → PlainItem → I → Type 0) (coming : I →
     pub open_still : is_open now.0
 
   pub held_first : (old : I × Collector) → is_open old.0
-      → IsEmpty (is_complete old.1) (collected old.1) → Held old.0 old
+      → IsEmpty old.1 → Held old.0 old
   held_first old open_first empty = record {
     ran = held_none gives old.0 (collected old.1) empty.0;
     so_far = taken_none (coming old.0) (coming old.0) (collected old.1) refl empty.0;
@@ -149,14 +148,14 @@ module _ {I : Type 0} (gives : I → PlainItem → I → Type 0) (coming : I →
           held = λ e. let whole = (rw e at held.tested).0 in (
             whole,
             IfSome_then (coming first) came
-                (λ all (before, next, took, to, is). held_at_end all before _ took is whole),
+                (λ all (before, next, took, to, is). held_at_end all before _ took is.0 whole),
           );
           none = λ e. IfSome_then (coming first) came (λ all (before, next, took, to, is) tree of.
-              (rw e at held.tested) (whole_at_end all before _ took is tree of));
+              (rw e at held.tested) (whole_at_end all before _ took is.0 tree of));
           refused = tt;
         };
         ran = held_whole gives first left.0 new (collected left.1) (is_complete left.1) held.ran last;
-        counted = (counts left.0 None new held.open_still last).0 ∙ held.counted;
+        counted = inl ((counts left.0 None new held.open_still last).0 ∙ held.counted);
       }
 
   -- an event was yielded that can't follow the buffered ones, or an allocation for it failed
@@ -185,7 +184,7 @@ module _ {I : Type 0} (gives : I → PlainItem → I → Type 0) (coming : I →
         };
         ran = held_refused gives first left.0 new.0 event (collected left.1) (collected new.1)
             held.ran last;
-        counted = (counts left.0 (Some (Ok event)) new.0 held.open_still last).0 ∙ held.counted;
+        counted = inl ((counts left.0 (Some (Ok event)) new.0 held.open_still last).0 ∙ held.counted);
       })
   stops_there first left new event (Failed error) answer held last not_paused memory is =
       rw is (record {
@@ -258,7 +257,7 @@ may_pause old mid new event (Break stop) pauses holds (may, paused, same) =
 
 module _ {S : Type 0} {g : Ghosts S} (old : BinaryReaderOf S g) (before : Collector) (first : Result Visited Error)
     (mid : BinaryReaderOf S g) (taken : Collector)
-    (empty : IsEmpty (is_complete before) (collected before))
+    (empty : IsEmpty before)
     (visit : Visits Steps CollectsEvent (old, before) first (mid, taken)) where
   -- what is true after a visit of a binary reader
   abbrev pub BinaryConcludes : Result Bool Error → BinaryReaderOf S g × Collector → Type 0

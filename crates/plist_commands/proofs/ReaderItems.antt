@@ -1,20 +1,21 @@
 -- The items of a reader and of a value, which are yielded one by one.
-use Rattle.std.proofs.Common.{◌≡◌, ℕ, true, List, Option, None, Some, Result, Ok, Err, map, refl, ap}
+use Rattle.std.proofs.Common.{◌≡◌, ℕ, true, List, Option, None, Some, Result, Ok, Err, map, refl}
 use Rattle.std.specs.Prelude.{is_some, ⊤}
 use Rattle.std.specs.Option.{option_map_or}
 use Rattle.plist_base.specs.declared.error.Error.{Error}
 use Rattle.plist_base.specs.declared.event.Event.{Event}
 use Rattle.plist_base.specs.declared.source.Source.{Ghosts}
 use Rattle.plist_base.specs.Events.{Item}
-use Rattle.plist_base.specs.Faults.{Fault, OutOfMemory, error_kind_of, kind_of}
-use Rattle.plist_base.specs.Sources.{ItemCountsIo}
+use Rattle.plist_base.specs.Sources.{CountsIo}
 use Rattle.plist_base.specs.Visits.{YieldsPlain, PlainItem, plain_item}
-use Rattle.plist_base.proofs.Refusals.{MatchFault-at}
-use Rattle.plist_reader.specs.Reader.{Gives, HoldsSource, reader_items, source_in}
+use Rattle.plist_reader.specs.Reader.{Gives, reader_items, source_in}
+use Rattle.plist_reader.proofs.ReaderItems.{HoldsSource}
 use Rattle.plist_reader.specs.declared.reader.Reader.{Reader}
-use Rattle.plist.specs.Events.{GivesEvent, remaining_events}
+use Rattle.plist.specs.Events.{BeginsWithStart, GivesEvent, remaining_events}
 use Rattle.plist.specs.declared.stream.events.Events.{Events}
-use Rattle.plist_base.specs.FirstItems.{GivesFirst, GivesFirstIfKnown}
+use Rattle.plist_base.specs.FirstItems.{StopsIf}
+use Rattle.plist_binread.specs.Remaining.{SomeRemain}
+use Rattle.plist_print.proofs.SourceItems.{Comes, comes_first}
 use Rattle.plist_base.proofs.FirstItems.{plain_first}
 use Rattle.plist_commands.specs.Converting.{failures_in}
 
@@ -22,9 +23,11 @@ use Rattle.plist_commands.specs.Converting.{failures_in}
 
 pub reader_comes : {S : Type 0} {g : Ghosts S} (known : S → Option (List ℕ)) (failed : S → ℕ)
     (old : Reader S g) (item : PlainItem) (new : Reader S g) → YieldsPlain (Gives known failed) old item new
-    → GivesFirstIfKnown (λ event. event) (reader_items known old) item (reader_items known new)
+    → Comes (reader_items known old) item (reader_items known new)
 reader_comes known failed old item new (given, yields, is) =
-    rw is (plain_first (reader_items known old) (reader_items known new) given yields.items)
+    rw is (comes_first (StopsIf (λ _. ⊤)) (StopsIf SomeRemain) (reader_items known old)
+    (plain_item given) (reader_items known new) (plain_first (StopsIf (λ _. ⊤)) (StopsIf SomeRemain)
+    (reader_items known old) (reader_items known new) given yields.items))
 
 -- the reader has a source
 abbrev pub IsOpen : {S : Type 0} {g : Ghosts S} → Reader S g → Type 0
@@ -32,7 +35,7 @@ IsOpen reader = is_some (source_in reader.state) ≡ true
 
 source_counts : {S : Type 0} (failures : S → ℕ) (old new : Option S)
     (given : Option (Result Event Error)) → is_some old ≡ true → HoldsSource failures old given new
-    → ItemCountsIo (plain_item given) (option_map_or failures old 0)
+    → CountsIo (plain_item given) (option_map_or failures old 0)
     (option_map_or failures new 0) × (is_some new ≡ true)
 source_counts failures None new given some h = absurd (cc)
 source_counts failures (Some source) None given some h = absurd h
@@ -43,7 +46,7 @@ source_counts failures (Some source) (Some kept) (Some (Err error)) some h = (h,
 pub reader_counts : {S : Type 0} {g : Ghosts S} (known : S → Option (List ℕ)) (failed : S → ℕ)
     (old : Reader S g) (item : PlainItem) (new : Reader S g) → IsOpen old
     → YieldsPlain (Gives known failed) old item new
-    → ItemCountsIo item (failures_in failed old) (failures_in failed new) × IsOpen new
+    → CountsIo item (failures_in failed old) (failures_in failed new) × IsOpen new
 reader_counts known failed old item new some (given, yields, is) =
     rw is (source_counts failed (source_in old.state) (source_in new.state) given some yields.failures)
 
@@ -53,18 +56,12 @@ reader_counts known failed old item new some (given, yields, is) =
 abbrev pub items_of_events : Events → Option (List Item)
 items_of_events events = Some (map Ok (remaining_events events))
 
-events_given : (old : Events) (given : Option (Result Event Error)) (new : Events)
-    → GivesEvent old given new
-    → GivesFirst (λ event. event) (map Ok (remaining_events old)) (plain_item given)
-    (map Ok (remaining_events new))
-events_given old None new h = ap (map Ok) h.0
-events_given old (Some (Ok event)) new h = ap (map Ok) h.0
-events_given old (Some (Err error)) new h =
-    MatchFault-at (kind_of (error_kind_of error)) OutOfMemory ⊤ ⊤ _
-    (ap (λ (f : Fault). f.kind) h.0) tt
-
 pub events_come : (old : Events) (item : PlainItem) (new : Events)
     → YieldsPlain GivesEvent old item new
-    → GivesFirstIfKnown (λ event. event) (items_of_events old) item (items_of_events new)
+    → Comes (items_of_events old) item (items_of_events new)
 events_come old item new (given, yields, is) =
-    (map Ok (remaining_events new), refl, rw is (events_given old given new yields))
+    let starts = λ (before after : List Item). StopsIf (λ _. BeginsWithStart (remaining_events old))
+    before after in
+    rw is (comes_first (λ _ _. ⊥) starts (items_of_events old) (plain_item given)
+    (items_of_events new) (plain_first (λ _ _. ⊥) starts (items_of_events old)
+    (items_of_events new) given (map Ok (remaining_events new), refl, yields.items)))

@@ -21,10 +21,6 @@ HoldsMore whole before event after =
     CanContinue before event × (after ≡ before ++ without_length event ∷ [])
     × TestsWhole whole (before ++ event ∷ [])
 
--- no event is buffered
-abbrev pub IsEmpty : (whole : Bool) → (held : List PlainEvent) → Type 0
-IsEmpty whole held = (held ≡ []) × (whole ≡ false)
-
 -- the events that a collector has buffered
 abbrev pub collected : Collector → List PlainEvent
 collected collector = buffered_events collector.pending
@@ -32,6 +28,10 @@ collected collector = buffered_events collector.pending
 -- whether these events are those of a whole property list
 abbrev pub is_complete : Collector → Bool
 is_complete collector = is_whole collector.pending
+
+-- no event is buffered
+abbrev pub IsEmpty : Collector → Type 0
+IsEmpty collector = (collected collector ≡ []) × (is_complete collector ≡ false)
 
 -- the collector wants more events, or pauses
 abbrev pub MayPause : (old : Collector) → Flow → (new : Collector) → Type 0

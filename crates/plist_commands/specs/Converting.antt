@@ -15,7 +15,7 @@ use Rattle.plist_decode.specs.FaultOffsets.{HasOffset}
 use Rattle.plist_binread.specs.BinaryReader.{Steps, is_new, binary_source}
 use Rattle.plist_reader.specs.declared.reader.Reader.{Reader}
 use Rattle.plist_reader.specs.Reader.{reader_source, Gives, BinaryReaderOf, IsNewReader, items_of_input}
-use Rattle.plist_print.specs.Printing.{CountsReads, CountsReadsOf}
+use Rattle.plist_print.specs.Printing.{CountsReads}
 use Rattle.plist.specs.ValueOfItems.{AreItemsOfTree, IsReadIfKnown}
 use Rattle.plist.specs.LastWins.{last_wins}
 use Rattle.plist.specs.SendingValues.{SendsTree}
@@ -70,6 +70,13 @@ pub record CollectsItems (items : Option (List Item)) (answer : Result Bool Erro
   pub none : IfOkIs answer false (IfSome items (λ all. (tree : Tree) → AreItemsOfTree all tree → ⊥))
   pub refused : IfErr answer (λ error. IsReadIfKnown items (Err (fault_of error)))
 
+-- what collecting the events of a source does; `reads` says how the source was read
+pub record CollectsSource {S : Type 0} (known : S → Option (List ℕ)) (source : S)
+    (reads : Result Bool Error → (held : List PlainEvent) → Type 0) (answer : Result Bool Error)
+    (held : List PlainEvent) : Type 0 where
+  pub collects : CollectsItems (option_map items_of_input (known source)) answer held
+  pub answers : reads answer held
+
 module _ {I : Type 0} (gives : I → PlainItem → I → Type 0) where
   -- The source yielded events, and then nothing, or one that isn't buffered. If the result is
   -- `true`, nothing followed them, and they are buffered. Or the source yielded the error that is
@@ -96,7 +103,7 @@ module _ {S : Type 0} (known : S → Option (List ℕ)) (failed : S → ℕ) whe
       × (left : BinaryReaderOf S (record { known = known; failures = failed }))
       × (binary_source reader ≡ source) × (is_new reader ≡ true)
       × BuffersRun Steps reader answer left held
-      × CountsReadsOf failed reader answer left
+      × CountsReads answer (failed (binary_source reader)) (failed (binary_source left))
 
   -- the events of a new reader of this source, of any format, were buffered
   abbrev pub HoldsOther : (source : S) → Result Bool Error → (held : List PlainEvent) → Type 0

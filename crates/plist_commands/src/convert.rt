@@ -9,8 +9,8 @@ ghost use Rattle.plist_binwrite.specs.SendingAs.{SendsAs};
 ghost use Rattle.plist_buffer.specs.EventBuffers.{buffered_events};
 ghost use Rattle.plist_decode.specs.Formats.{format_of};
 ghost use Rattle.plist_reader.specs.Reader.{items_of_input};
-ghost use Rattle.plist_commands.specs.Converting.{CollectsItems, Converts, ConvertsSource, HoldsBinary, HoldsOther, HoldsTree, IfOkIs, ReadsSource};
-ghost use Rattle.plist_commands.specs.CollectorSteps.{IsEmpty, collected, is_complete};
+ghost use Rattle.plist_commands.specs.Converting.{CollectsSource, Converts, ConvertsSource, HoldsBinary, HoldsOther, HoldsTree, IfOkIs, ReadsSource};
+ghost use Rattle.plist_commands.specs.CollectorSteps.{IsEmpty, collected};
 ghost use Rattle.plist_commands.specs.declared.convert.FastPath.TheVariants.{Sent};
 
 use crate::collector::Collector;
@@ -44,11 +44,10 @@ fn collect_binary<S: Source>(
     source: S,
     collector: &mut Collector,
 ) -> Result<bool, Error>
-    requires empty { IsEmpty (is_complete collector.old) (collected collector.old) }
+    requires empty { IsEmpty collector.old }
     requires binary { IfSome (S.known source) (λ bytes. Format.Binary ≡ format_of bytes) }
-    ensures collects { CollectsItems (option_map items_of_input (S.known source)) result
+    ensures { CollectsSource S.known source (HoldsBinary S.known S.failures source) result
         (collected collector.new) }
-    ensures answers { HoldsBinary S.known S.failures source result (collected collector.new) }
 {
     let mut reader = BinaryReader::new(alloc, source);
     collector.pauses = true;
@@ -69,10 +68,9 @@ fn collect_other<S: Source>(
     source: S,
     collector: &mut Collector,
 ) -> Result<bool, Error>
-    requires empty { IsEmpty (is_complete collector.old) (collected collector.old) }
-    ensures collects { CollectsItems (option_map items_of_input (S.known source)) result
+    requires empty { IsEmpty collector.old }
+    ensures { CollectsSource S.known source (HoldsOther S.known S.failures source) result
         (collected collector.new) }
-    ensures answers { HoldsOther S.known S.failures source result (collected collector.new) }
 {
     let mut reader = Reader::new(alloc, source);
     collector.pauses = false;
@@ -87,10 +85,9 @@ fn collect_source<S: Source>(
     source: S,
     collector: &mut Collector,
 ) -> Result<bool, Error>
-    requires empty { IsEmpty (is_complete collector.old) (collected collector.old) }
-    ensures collects { CollectsItems (option_map items_of_input (S.known source)) result
+    requires empty { IsEmpty collector.old }
+    ensures { CollectsSource S.known source (ReadsSource S.known S.failures source) result
         (collected collector.new) }
-    ensures answers { ReadsSource S.known S.failures source result (collected collector.new) }
 {
     let mut source = source;
     match format_of(&mut source)? {
@@ -141,10 +138,12 @@ pub fn convert_binary<S: Source, W: Write>(
         (λ held. SendsAs least_files W.contents held (Ok tt) writer.old writer.new) }
 {
     let mut collector = Collector::new(alloc);
-    if !collect_source(alloc, source, &mut collector)? {
-        return Ok(FastPath::NotApplicable);
+    // The collector is dropped in one place, after the match.
+    match collect_source(alloc, source, &mut collector) {
+        Ok(true) => send_events(alloc, &collector.pending, writer),
+        Ok(false) => Ok(FastPath::NotApplicable),
+        Err(error) => Err(error),
     }
-    send_events(alloc, &collector.pending, writer)
 }
 
 // Like `convert_binary`, but writes to the file of this name, and has the system store it.

@@ -15,8 +15,8 @@ use Rattle.std.proofs.Math.Seq.{take-add}
 use Rattle.std.specs.Prelude.{⊤, IfErr, if◌then◌else◌}
 use Rattle.plist_base.specs.declared.error.Error.{Error}
 use Rattle.plist_base.specs.declared.event.Event.{Event}
-use Rattle.plist_base.specs.Sources.{ResultCountsIo}
-use Rattle.plist_base.specs.Faults.{FaultKind, Fault, IntegerOutOfRange, InvalidUtf8String, InvalidUtf16String, MatchFault, kind_of, error_kind_of, offset_of, fault_of, fault_at}
+use Rattle.plist_base.specs.Sources.{CountsIo}
+use Rattle.plist_base.specs.Faults.{FaultKind, Fault, IsNotIo, IntegerOutOfRange, InvalidUtf8String, InvalidUtf16String, MatchFault, kind_of, error_kind_of, offset_of, fault_of, fault_at}
 use Rattle.plist_base.specs.Trees.{Integer, String}
 use Rattle.plist_base.proofs.Refusals.{MatchFault-at, MatchFault-weaker}
 use Rattle.plist_base.specs.Container.{number_of}
@@ -163,8 +163,8 @@ content_refused known kind place start size error refused =
 
 -- an error other than `Io` leaves the count of failures unchanged
 pub counts_answer : {A : Type 0} (answer : Result A Error) (old new : ℕ)
-    → IfErr answer (λ error. MatchFault (kind_of (error_kind_of error)) ⊥ ⊤ ⊤) → new ≡ old
-    → ResultCountsIo answer old new
+    → IfErr answer (λ error. IsNotIo (kind_of (error_kind_of error))) → new ≡ old
+    → CountsIo (Some answer) old new
 counts_answer (Ok value) old new other same = same
 counts_answer (Err error) old new other same =
     MatchFault-weaker (kind_of (error_kind_of error)) (λ none. absurd none) (λ _. same) (λ _. same)

@@ -1,5 +1,5 @@
 -- What is decoded from an object, and how an object can be faulty.
-use Rattle.std.proofs.Common.{◌≡◌, ℕ, suc, inl, inr, ◌+◌, ◌-◌, ◌*◌, ◌<◌, ◌≤◌, false, List, ◌∷◌, ◌++◌, length, take, drop, replicate, Option, Some, refl, ap, sym, subst, ◌∙◌, arith}
+use Rattle.std.proofs.Common.{◌≡◌, ℕ, suc, inl, inr, ◌+◌, ◌-◌, ◌*◌, ◌<◌, ◌≤◌, false, List, ◌∷◌, ◌++◌, length, take, drop, replicate, Option, Some, ap, sym, subst, ◌∙◌, arith}
 use Rattle.std.specs.Prelude.{⊤}
 use Rattle.std.proofs.lemmas.Bool.{cases_lt, le-leb}
 use Rattle.std.proofs.lemmas.List.{length-append, length-drop, length-take-le, drop-append-le}
@@ -9,13 +9,12 @@ use Rattle.std.specs.Str.{encode_utf8_all}
 use Rattle.std.proofs.Math.ListN.{length-replicate}
 use Rattle.std.proofs.Math.Seq.{take-length}
 use Rattle.plist_base.specs.declared.error.Error.{Error}
-use Rattle.plist_base.specs.Faults.{FaultKind, MatchFault, fault_at, fault_of}
+use Rattle.plist_base.specs.Faults.{FaultKind, IsNotIo, MatchFault, error_kind_of, fault_at, fault_of, kind_of}
 use Rattle.plist_base.specs.Faults as faults
-use Rattle.plist_base.specs.Sources.{CountsIo}
 use Rattle.plist_base.specs.Trees as trees
 use Rattle.plist_base.specs.Object.{Object, Scalar, Faulty, length_in, object_in, text_of_units}
 use Rattle.plist_decode.specs.CountedContent.{content_means, counted_with, unit_size}
-use Rattle.plist_decode.specs.Decoded.{DecodesAfter, DecodesAt, DecodesSeen, FitsBefore, IsDecodedAs, IsObjectFault, MeansDecoded, IsLongCount, kind_of_object_fault}
+use Rattle.plist_decode.specs.Decoded.{DecodesAt, DecodesSeen, FitsBefore, IsDecodedAs, IsObjectFault, MeansDecoded, IsLongCount, kind_of_object_fault}
 use Rattle.plist_decode.specs.Decoding.{IsRefusedAs}
 use Rattle.plist_decode.specs.FaultOffsets.{FailsWithin, MatchReader}
 use Rattle.plist_decode.specs.Front.{IsFrontAt}
@@ -31,7 +30,7 @@ use Rattle.plist_decode.specs.declared.head.Bounds.{Bounds}
 use Rattle.plist_decode.specs.declared.packed.PackedKind.TheVariants as kind
 use Rattle.plist_decode.proofs.Contents.{refused_as}
 use Rattle.plist_decode.proofs.Lengths.{content_seen}
-use Rattle.plist_decode.proofs.FaultOffsets.{counts_at, from_fault}
+use Rattle.plist_decode.proofs.FaultOffsets.{from_fault, other_kind}
 use Rattle.plist_decode.proofs.ObjectFronts.{known_front, object_front}
 
 -- ---- faults
@@ -39,19 +38,19 @@ use Rattle.plist_decode.proofs.ObjectFronts.{known_front, object_front}
 by_kind : (kind : FaultKind) (place : ℕ) (e : Error) → fault_of e ≡ fault_at kind place
     → MatchFault kind ⊥ ⊥ ⊤ → MatchReader kind ⊥ ⊥ ⊤
     → ((object : Object) → object ≡ Faulty kind → IsRefusedAs object place e)
-    × ((end : ℕ) → FailsWithin place end (fault_of e)) × ((count : ℕ) → CountsIo e count count)
+    × ((end : ℕ) → FailsWithin place end (fault_of e)) × IsNotIo (kind_of (error_kind_of e))
 by_kind kind place e is inside reader = (
   λ object h. refused_as object place e kind is inside h,
   λ end. from_fault _ kind place place end is reader,
-  λ count. counts_at e kind place count count is inside refl,
+  other_kind e kind place is inside,
 )
 
--- the error that reports an object's fault is the error of the object, with an offset, and leaves
--- the count of failures unchanged
+-- the error that reports an object's fault is the error of the object, with an offset, and isn't an
+-- I/O error
 pub fault_there : (f : ObjectFault) (kind : FaultKind) (place : ℕ) (e : Error)
     → kind ≡ kind_of_object_fault f → fault_of e ≡ fault_at kind place
     → ((object : Object) → IsObjectFault object f → IsRefusedAs object place e)
-    × ((end : ℕ) → FailsWithin place end (fault_of e)) × ((count : ℕ) → CountsIo e count count)
+    × ((end : ℕ) → FailsWithin place end (fault_of e)) × IsNotIo (kind_of (error_kind_of e))
 fault_there fault.Overrun kind place e same is =
     by_kind faults.ObjectOffsetTooLarge place e (is ∙ ap (λ k. fault_at k place) same) tt tt
 fault_there fault.Null kind place e same is =
@@ -144,8 +143,9 @@ units_text units bytes paired is = rw paired (ap (λ xs. Scalar (trees.String xs
 -- ---- the bytes that were read of an object
 
 -- the bytes that were read are a marker and the bytes after it
-pub seen_after : (w m to_trailer : ℕ) (seen rest : List ℕ) (answer : Decoded)
-    → seen ≡ m ∷ rest → DecodesAfter (to_trailer - 1) w (object_with w m) rest answer
+pub seen_after : (w m to_trailer : ℕ) (seen rest : List ℕ) (answer : Decoded) → seen ≡ m ∷ rest
+    → ((first : ℕ) (more : List ℕ) → length (rest ++ more) ≡ to_trailer - 1
+    → IsDecodedAs w (first ∷ (rest ++ more)) (object_with w m (rest ++ more)) answer)
     → DecodesSeen to_trailer w seen answer
 seen_after w m to_trailer seen rest answer is means = λ more whole.
     let e : seen ++ more ≡ m ∷ (rest ++ more) = ap (λ xs. xs ++ more) is in

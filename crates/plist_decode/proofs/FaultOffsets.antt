@@ -2,7 +2,7 @@
 use Rattle.std.proofs.Common.{◌≡◌, ℕ, ◌+◌, ◌≤◌, Option, None, Some, Result, Ok, Err, arith, ap}
 use Rattle.std.specs.Prelude.{⊤, IsErrAnd}
 use Rattle.plist_base.specs.declared.error.Error.{Error}
-use Rattle.plist_base.specs.Faults.{FaultKind, Fault, LimitReached, MatchFault, UnexpectedEof, Io, OutOfMemory, error_kind_of, fault_at, fault_of, kind_of}
+use Rattle.plist_base.specs.Faults.{FaultKind, Fault, IsNotIo, LimitReached, MatchFault, UnexpectedEof, Io, OutOfMemory, error_kind_of, fault_at, fault_of, kind_of}
 use Rattle.plist_base.specs.Sources.{CountsIo, FailsReading, IsOffsetWithin, IsReadFault}
 use Rattle.plist_base.proofs.Refusals.{MatchFault-at, MatchFault-weaker}
 use Rattle.plist_decode.specs.FaultOffsets.{MatchGiven, MatchReader, FailsWithin, ErrWithin}
@@ -54,18 +54,19 @@ from_fault fault kind place s e is other = rw is (record { placed = by kind _ _ 
     by kind A B D h = h
 
 -- an error that is neither `Io` nor `OutOfMemory` leaves the count of failures unchanged
-pub counts_fault : (error : Error) (old new : ℕ)
-    → MatchFault (kind_of (error_kind_of error)) ⊥ ⊥ ⊤ → new ≡ old → CountsIo error old new
-counts_fault error old new other same =
+pub counts_fault : (A : Type 0) (error : Error) (old new : ℕ)
+    → MatchFault (kind_of (error_kind_of error)) ⊥ ⊥ ⊤ → new ≡ old
+    → CountsIo {A = A} (Some (Err error)) old new
+counts_fault A error old new other same =
     MatchFault-weaker (kind_of (error_kind_of error)) (λ none. absurd none) (λ none. absurd none)
     (λ _. same) other
 
-pub counts_at : (error : Error) (kind : FaultKind) (place old new : ℕ)
-    → fault_of error ≡ fault_at kind place → MatchFault kind ⊥ ⊥ ⊤ → new ≡ old
-    → CountsIo error old new
-counts_at error kind place old new is other same =
-    counts_fault error old new
-    (MatchFault-at _ kind _ _ _ (ap (λ (f : Fault). f.kind) is) other) same
+-- an error in the bytes isn't an I/O error
+pub other_kind : (error : Error) (kind : FaultKind) (place : ℕ) → fault_of error ≡ fault_at kind place
+    → MatchFault kind ⊥ ⊥ ⊤ → IsNotIo (kind_of (error_kind_of error))
+other_kind error kind place is other =
+    MatchFault-at _ kind _ _ _ (ap (λ (f : Fault). f.kind) is)
+    (MatchFault-weaker kind (λ none. none) (λ none. absurd none) (λ _. tt) other)
 
 -- ---- results
 

@@ -16,6 +16,7 @@ use Rattle.plist_decode.specs.declared.decoded.Decoded.{Decoded}
 use Rattle.plist_decode.specs.declared.decoded.Decoded.TheVariants as decoded
 use Rattle.plist_decode.specs.declared.decoded.ObjectFault.{ObjectFault}
 use Rattle.plist_decode.specs.declared.decoded.ObjectFault.TheVariants as fault
+use Rattle.plist_decode.specs.declared.after_marker.AfterMarker.{AfterMarker}
 use Rattle.plist_decode.specs.declared.head.Bounds.{Bounds}
 
 -- ---- faults of an object
@@ -76,22 +77,18 @@ DecodesSeen to_trailer width seen decoded = (more : List ℕ) → length (seen +
     → IsDecodedAs width (seen ++ more) (object_in width (seen ++ more)) decoded
 
 -- like `DecodesSeen`, for an object whose first byte precedes `rest`
-abbrev pub DecodesAfter : (to_trailer width : ℕ) → (List ℕ → Object) → (rest : List ℕ)
-    → Decoded → Type 0
-DecodesAfter to_trailer width object rest decoded = (first : ℕ) (more : List ℕ)
-    → length (rest ++ more) ≡ to_trailer
-    → IsDecodedAs width (first ∷ (rest ++ more)) (object (rest ++ more)) decoded
+abbrev pub DecodesAfter : (width : ℕ) → (List ℕ → Object) → (rest : AfterMarker) → Decoded → Type 0
+DecodesAfter width object rest decoded = (first : ℕ) (more : List ℕ)
+    → length (rest.bytes.now ++ more) ≡ rest.to_trailer
+    → IsDecodedAs width (first ∷ (rest.bytes.now ++ more)) (object (rest.bytes.now ++ more)) decoded
 
 -- like `DecodesAfter`, for an object that has no references
-abbrev pub DecodesScalar : (to_trailer : ℕ) → (List ℕ → Object) → (rest : List ℕ) → Decoded → Type 0
-DecodesScalar to_trailer object rest decoded =
-    (width : ℕ) → DecodesAfter to_trailer width object rest decoded
+abbrev pub DecodesScalar : (List ℕ → Object) → (rest : AfterMarker) → Decoded → Type 0
+DecodesScalar object rest decoded = (width : ℕ) → DecodesAfter width object rest decoded
 
 -- like `DecodesScalar`, for an object of a fixed size
-abbrev pub DecodesFixed : (to_trailer size : ℕ) → (List ℕ → Object) → (rest : List ℕ)
-    → Decoded → Type 0
-DecodesFixed to_trailer size meaning rest decoded =
-    DecodesScalar to_trailer (meaning_of_front size meaning) rest decoded
+abbrev pub DecodesFixed : (size : ℕ) → (List ℕ → Object) → (rest : AfterMarker) → Decoded → Type 0
+DecodesFixed size meaning rest decoded = DecodesScalar (meaning_of_front size meaning) rest decoded
 
 -- the object, whatever its bytes are, was decoded as this
 abbrev pub MeansDecoded : Object → Decoded → Type 0

@@ -1,11 +1,12 @@
 -- What an object consists of, where its references lie, and what its decoding returns.
-use Rattle.std.specs.Prelude.{◌≡◌, ℕ, ◌+◌, ◌*◌, ◌/◌, ◌%◌, ◌<◌, ◌≤◌, List, [], length, false, if◌then◌else◌, slice_index, nat_eq, Result, Option, None, Some, IfOk, MatchResult, ⊤}
+use Rattle.std.specs.Prelude.{◌≡◌, ℕ, ◌+◌, ◌*◌, ◌/◌, ◌%◌, ◌<◌, ◌≤◌, List, [], length, false, if◌then◌else◌, slice_index, nat_eq, Result, Option, None, Some, IfErr, IfOk, MatchResult, ⊤}
 use Rattle.plist_base.specs.declared.error.Error.{Error}
-use Rattle.plist_base.specs.Faults.{InvalidUtf8String, InvalidUtf16String, MatchFault, kind_of, error_kind_of, offset_of}
+use Rattle.plist_base.specs.Faults.{InvalidUtf8String, InvalidUtf16String, IsNotIo, MatchFault, kind_of, error_kind_of, offset_of}
 use Rattle.plist_base.specs.Events.{PlainEvent, StartArray, StartDictionary, event_of}
 use Rattle.plist_base.specs.Trees as trees
 use Rattle.plist_base.specs.Trees.{Data, String}
 use Rattle.plist_base.specs.declared.event.Event.{Event}
+use Rattle.plist_decode.specs.FaultOffsets.{ErrWithin}
 use Rattle.plist_decode.specs.Packed.{is_small_event, scalar_event}
 use Rattle.plist_base.specs.Container.{number_at}
 use Rattle.plist_base.specs.Object.{Object, Scalar, Array, Dictionary, Faulty, children_of}
@@ -96,3 +97,10 @@ abbrev pub Decodes : Object → (place : ℕ) → Result Event Error → Type 0
 Decodes object place answer =
     MatchResult answer (λ event. scalar_event_in object ≡ Some (event_of event))
     (λ e. IsRefusedAs object place e)
+
+-- the event of the object, which isn't small, or an error as in `Decodes`, which isn't an I/O error
+pub record DecodesLarge (object : Object) (place : ℕ) (answer : Result Event Error) : Type 0 where
+  pub decoded : Decodes object place answer
+  pub large : IsLarge answer
+  pub never_io : IfErr answer (λ error. IsNotIo (kind_of (error_kind_of error)))
+  pub fault : ErrWithin place place answer

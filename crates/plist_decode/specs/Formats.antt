@@ -1,10 +1,25 @@
 -- The format that the first bytes of an input indicate.
-use Rattle.std.specs.Prelude.{ℕ, ◌+◌, ◌-◌, ◌^◌, Bool, if◌then◌else◌, ◌==◌, nat_eq, List, [], ◌∷◌, take, drop, slice_index, Option, None, Some}
+use Rattle.std.specs.Prelude.{◌≡◌, ℕ, ◌+◌, ◌-◌, ◌^◌, Bool, if◌then◌else◌, ◌==◌, nat_eq, List, [], ◌∷◌, take, drop, slice_index, Option, None, Some, Result, IfErr}
 use Rattle.std.specs.Option.{option_map_or}
 use Rattle.std.specs.List.{list_any, prefix_len, starts_with}
+use Rattle.plist_base.specs.declared.error.Error.{Error}
 use Rattle.plist_base.specs.Container.{magic}
+use Rattle.plist_base.specs.Faults.{IsIo, kind_of, error_kind_of, offset_of}
+use Rattle.plist_base.specs.Outcomes.{DecodesBy}
+use Rattle.plist_base.specs.Sources.{CountsIo}
+use Rattle.plist_decode.specs.FaultOffsets.{HasOffset}
 use Rattle.plist_decode.specs.declared.format.Format.{Format}
 use Rattle.plist_decode.specs.declared.format.Format.TheVariants.{Binary, Xml, Ascii}
+
+-- The meaning of a source's bytes was returned, or the I/O error of the read that failed, which has an
+-- offset. The bytes are unchanged.
+pub record ReadsMeaning {S A : Type 0} (known : S → Option (List ℕ)) (failed : S → ℕ)
+    (meaning : List ℕ → A) (old : S) (answer : Result A Error) (new : S) : Type 0 where
+  pub value : DecodesBy answer (known old) meaning
+  pub refused : IfErr answer (λ error. IsIo (kind_of (error_kind_of error)))
+  pub offset : IfErr answer (λ error. HasOffset (offset_of error))
+  pub unchanged : known new ≡ known old
+  pub failures : CountsIo (Some answer) (failed old) (failed new)
 
 -- the bytes that can be read, which are at most the first 2^64 - 1
 abbrev pub input_front : List ℕ → List ℕ

@@ -17,10 +17,6 @@ abbrev pub IsContent : (size : ℕ) (rest content : List ℕ) → Type 0
 IsContent size rest content = (more : List ℕ) (meaning : List ℕ → Object) →
     meaning_of_front size meaning (rest ++ more) ≡ meaning content
 
--- the bytes after the marker reach up to the trailer, or there are at least 25
-abbrev pub ShowsContent : (to_trailer : ℕ) (rest : List ℕ) → Type 0
-ShowsContent to_trailer rest = length rest < 25 → to_trailer ≤ length rest
-
 -- these bytes lie between an object's offset and the trailer, and reach up to the trailer or are at
 -- least 26
 pub record IsFront (bounds : Bounds) (place : ℕ) (seen : List ℕ) : Type 0 where

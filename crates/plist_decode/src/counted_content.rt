@@ -1,18 +1,17 @@
 //! Decodes objects that have a length: strings, data, arrays and dictionaries.
 //!
-//! Each function reads the bytes that follow the marker. These reach up to the trailer, or there
-//! are at least 25 of them, which is enough for any object except a long string or long data.
+//! Each function reads the bytes that follow the marker.
 
 ghost use Rattle.std.specs.Prelude.{◌≡◌, ◌+◌, ◌-◌, ◌*◌, ◌%◌, ◌^◌, ◌<◌, ◌≤◌, length, IfNone, IfSome};
 ghost use Rattle.plist_base.specs.Trees.{String};
 ghost use Rattle.plist_base.specs.Object.{Scalar, text, wide_text};
 ghost use Rattle.plist_decode.specs.CountedContent.{EndsBefore, IsCount, IsLength, IsLengthCut, LiesAfter, RefusesCounted, counted_with};
 ghost use Rattle.plist_decode.specs.Decoded.{DecodesAfter, DecodesScalar, MeansDecoded};
-ghost use Rattle.plist_decode.specs.Front.{ShowsContent};
 ghost use Rattle.plist_decode.specs.Reading.{counted_kind, object_counted};
 ghost use Rattle.plist_decode.specs.declared.decoded.ContentKind.TheVariants.{Data as KindData, Text as KindText, WideText as KindWideText};
 ghost use Rattle.plist_decode.specs.declared.decoded.Decoded.TheVariants.{Long as LongContent};
 
+use crate::after_marker::AfterMarker;
 use crate::decoded::{CollectionKind, ContentKind, Decoded, ObjectFault};
 use crate::numbers::number_from;
 use crate::packed::{PackedKind, content_from};
@@ -51,22 +50,20 @@ fn split_length(low: LowHalf, rest: &[u8]) -> Option<(u64, &[u8])>
 }
 
 // Returns the number of elements of an object and the bytes after its length, or `None` if the
-// object doesn't end before the trailer. An element has `size` bytes, and `rest` begins
-// `to_trailer` bytes before the trailer.
+// object doesn't end before the trailer. An element has `size` bytes.
 #[inline(always)]
-fn split_count(low: LowHalf, rest: &[u8], to_trailer: u64, size: u64) -> Option<(u64, &[u8])>
-    requires to_trailer { length rest.now ≤ to_trailer }
-    requires shown { ShowsContent to_trailer rest.now }
-    ensures count { IfSome result (IsCount low size to_trailer rest.now) }
-    ensures small { IfSome result (λ found. found.0 * size ≤ to_trailer) }
-    ensures within { IfSome result (EndsBefore size to_trailer rest.now) }
-    ensures short { IfSome result (λ found. length found.1.now ≤ length rest.now) }
-    ensures near { IfSome result (λ found. length rest.now ≤ length found.1.now + 9) }
-    ensures after { IfSome result (LiesAfter rest.now) }
-    ensures refused { IfNone result (RefusesCounted low size to_trailer rest.now) }
+fn split_count<'a>(low: LowHalf, rest: AfterMarker<'a>, size: u64) -> Option<(u64, &'a [u8])>
+    ensures count { IfSome result (IsCount low size rest.entry.to_trailer rest.entry.bytes.now) }
+    ensures small { IfSome result (λ found. found.0 * size ≤ rest.entry.to_trailer) }
+    ensures within { IfSome result (EndsBefore size rest.entry.to_trailer rest.entry.bytes.now) }
+    ensures short { IfSome result (λ found. length found.1.now ≤ length rest.entry.bytes.now) }
+    ensures near { IfSome result (λ found. length rest.entry.bytes.now ≤ length found.1.now + 9) }
+    ensures after { IfSome result (LiesAfter rest.entry.bytes.now) }
+    ensures refused { IfNone result
+        (RefusesCounted low size rest.entry.to_trailer rest.entry.bytes.now) }
 {
-    let (count, following) = split_length(low, rest)?;
-    let left = to_trailer - (rest.len() - following.len()) as u64;
+    let (count, following) = split_length(low, rest.bytes)?;
+    let left = rest.to_trailer - (rest.bytes.len() - following.len()) as u64;
     match count.checked_mul(size) {
         Some(all) if all <= left => Some((count, following)),
         _ => None,
@@ -86,16 +83,14 @@ fn long_content(kind: ContentKind, rest: &[u8], following: &[u8], count: u64) ->
 
 /// Decodes data.
 #[inline(always)]
-pub fn decode_data(low: LowHalf, rest: &[u8], to_trailer: u64) -> Decoded
-    requires to_trailer { length rest.now ≤ to_trailer }
-    requires shown { ShowsContent to_trailer rest.now }
-    ensures { DecodesScalar to_trailer (counted_with KindData low) rest.now result }
+pub fn decode_data(low: LowHalf, rest: AfterMarker<'_>) -> Decoded
+    ensures { DecodesScalar (counted_with KindData low) rest.entry result }
 {
-    let Some((count, following)) = split_count(low, rest, to_trailer, 1) else {
+    let Some((count, following)) = split_count(low, rest, 1) else {
         return Decoded::Faulty(ObjectFault::Overrun);
     };
     if count > 8 {
-        return long_content(ContentKind::Data, rest, following, count);
+        return long_content(ContentKind::Data, rest.bytes, following, count);
     }
     let bytes = &following[..count as usize];
     Decoded::Small(PackedKind::Data(count as u8), content_from(bytes))
@@ -127,16 +122,14 @@ fn short_text(bytes: &[u8]) -> Decoded
 
 /// Decodes a string in UTF-8.
 #[inline(always)]
-pub fn decode_text(low: LowHalf, rest: &[u8], to_trailer: u64) -> Decoded
-    requires to_trailer { length rest.now ≤ to_trailer }
-    requires shown { ShowsContent to_trailer rest.now }
-    ensures { DecodesScalar to_trailer (counted_with KindText low) rest.now result }
+pub fn decode_text(low: LowHalf, rest: AfterMarker<'_>) -> Decoded
+    ensures { DecodesScalar (counted_with KindText low) rest.entry result }
 {
-    let Some((count, following)) = split_count(low, rest, to_trailer, 1) else {
+    let Some((count, following)) = split_count(low, rest, 1) else {
         return Decoded::Faulty(ObjectFault::Overrun);
     };
     if count > 8 {
-        return long_content(ContentKind::Text, rest, following, count);
+        return long_content(ContentKind::Text, rest.bytes, following, count);
     }
     short_text(&following[..count as usize])
 }
@@ -157,15 +150,13 @@ fn short_wide_text(bytes: &[u8]) -> Option<Decoded>
 
 /// Decodes a string in UTF-16.
 #[inline(always)]
-pub fn decode_wide_text(low: LowHalf, rest: &[u8], to_trailer: u64) -> Decoded
-    requires to_trailer { length rest.now ≤ to_trailer }
-    requires shown { ShowsContent to_trailer rest.now }
-    ensures { DecodesScalar to_trailer (counted_with KindWideText low) rest.now result }
+pub fn decode_wide_text(low: LowHalf, rest: AfterMarker<'_>) -> Decoded
+    ensures { DecodesScalar (counted_with KindWideText low) rest.entry result }
 {
-    let Some((count, following)) = split_count(low, rest, to_trailer, 2) else {
+    let Some((count, following)) = split_count(low, rest, 2) else {
         return Decoded::Faulty(ObjectFault::Overrun);
     };
-    let long = long_content(ContentKind::WideText, rest, following, count);
+    let long = long_content(ContentKind::WideText, rest.bytes, following, count);
     if count > 8 {
         return long;
     }
@@ -181,19 +172,15 @@ pub fn decode_wide_text(low: LowHalf, rest: &[u8], to_trailer: u64) -> Decoded
 pub fn decode_collection(
     kind: CollectionKind,
     low: LowHalf,
-    rest: &[u8],
-    to_trailer: u64,
+    rest: AfterMarker<'_>,
     width: usize,
 ) -> Decoded
-    requires to_trailer { length rest.now ≤ to_trailer }
-    requires shown { ShowsContent to_trailer rest.now }
-    requires width { (0 < width) × (width ≤ 8) }
-    ensures { DecodesAfter to_trailer width (object_counted width (counted_kind kind) low) rest.now
-        result }
+    requires { (0 < width) × (width ≤ 8) }
+    ensures { DecodesAfter width (object_counted width (counted_kind kind) low) rest.entry result }
 {
-    match split_count(low, rest, to_trailer, kind.children(width as u64)) {
+    match split_count(low, rest, kind.children(width as u64)) {
         Some((count, following)) => {
-            Decoded::Collection(kind, 1 + (rest.len() - following.len()) as u8, count)
+            Decoded::Collection(kind, 1 + (rest.bytes.len() - following.len()) as u8, count)
         }
         None => Decoded::Faulty(ObjectFault::Overrun),
     }

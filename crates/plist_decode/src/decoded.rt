@@ -1,8 +1,7 @@
 //! Defines what an object's first bytes decode to, and how an object can be faulty.
 
 ghost use Rattle.std.specs.Prelude.{ℕ, ◌≡◌, ◌<◌, ◌≤◌};
-ghost use Rattle.plist_base.specs.Faults.{fault_of, kind_of};
-ghost use Rattle.plist_base.specs.Sources.{CountsIo};
+ghost use Rattle.plist_base.specs.Faults.{IsNotIo, error_kind_of, fault_of, kind_of};
 ghost use Rattle.plist_base.specs.Object.{Object};
 ghost use Rattle.plist_decode.specs.Decoded.{IsObjectFault, kind_of_object_fault};
 ghost use Rattle.plist_decode.specs.Decoding.{IsRefusedAs};
@@ -171,7 +170,7 @@ impl ObjectFault {
         ensures refused { (object : Object) → IsObjectFault object self
             → IsRefusedAs object place result }
         ensures fault { (end : ℕ) → FailsWithin place end (fault_of result) }
-        ensures failures { (count : ℕ) → CountsIo result count count }
+        ensures never_io { IsNotIo (kind_of (error_kind_of result)) }
     {
         self.kind().with_byte_offset(place)
     }

@@ -1,8 +1,7 @@
 //! Stores the error of a step outside the step's result, so that the result stays small.
 
 ghost use Rattle.std.specs.Prelude.{◌≡◌, ℕ};
-ghost use Rattle.plist_base.specs.Faults.{ObjectOffsetTooLarge, OutOfMemory, fault_at, fault_without_offset, fault_of};
-ghost use Rattle.plist_base.specs.Sources.{CountsIo};
+ghost use Rattle.plist_base.specs.Faults.{IsNotIo, ObjectOffsetTooLarge, OutOfMemory, error_kind_of, fault_at, fault_without_offset, fault_of, kind_of};
 ghost use Rattle.plist_base.specs.Object.{Object};
 ghost use Rattle.plist_decode.specs.FaultOffsets.{FailsWithin};
 ghost use Rattle.plist_decode.specs.Decoding.{IsRefusedAs};
@@ -82,7 +81,7 @@ impl FaultSlot {
         ensures refused { (object : Object) → IsObjectFault object fault
             → IsRefusedAs object place self.new.fault }
         ensures fault { (end : ℕ) → FailsWithin place end (fault_of self.new.fault) }
-        ensures failures { (count : ℕ) → CountsIo self.new.fault count count }
+        ensures never_io { IsNotIo (kind_of (error_kind_of self.new.fault)) }
     {
         self.refuse(fault.at(place))
     }

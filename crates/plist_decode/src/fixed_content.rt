@@ -1,15 +1,16 @@
 //! Decodes objects of a fixed size: integers, reals, dates and Uids.
 //!
-//! Each function reads the bytes that follow the marker. These reach up to the trailer, or there
-//! are at least 25 of them, which is enough for any of these objects.
+//! Each function reads the bytes that follow the marker. If the object ends before the trailer, they
+//! contain all of it.
 
 ghost use Rattle.std.specs.Prelude.{◌^◌, ◌<◌, ◌≤◌, length, IfNone, IfSome};
 ghost use Rattle.plist_base.specs.Object.{Scalar, date, signed, signed_integer, unsigned_integer, wide_integer};
 ghost use Rattle.plist_decode.specs.Decoded.{DecodesFixed, MeansDecoded};
 ghost use Rattle.plist_base.specs.Trees.{Integer};
-ghost use Rattle.plist_decode.specs.Front.{IsContent, IsNumber, ShowsContent};
+ghost use Rattle.plist_decode.specs.Front.{IsContent, IsNumber};
 ghost use Rattle.plist_decode.specs.Reading.{short_real, long_real, uid_of_content};
 
+use crate::after_marker::AfterMarker;
 use crate::decoded::{Decoded, ObjectFault};
 use crate::numbers::number_from;
 use crate::packed::{PackedKind, content_from, content_of};
@@ -42,12 +43,11 @@ fn front_content<const N: usize>(rest: &[u8]) -> Option<[u8; N]>
 
 /// Decodes an unsigned integer.
 #[inline(always)]
-pub fn decode_unsigned(rest: &[u8], to_trailer: u64, width: usize) -> Decoded
-    requires width { width ≤ 8 }
-    requires shown { ShowsContent to_trailer rest.now }
-    ensures { DecodesFixed to_trailer width unsigned_integer rest.now result }
+pub fn decode_unsigned(rest: AfterMarker<'_>, width: usize) -> Decoded
+    requires { width ≤ 8 }
+    ensures { DecodesFixed width unsigned_integer rest.entry result }
 {
-    match front_number(rest, width) {
+    match front_number(rest.bytes, width) {
         Some(number) => Decoded::Small(PackedKind::Unsigned, number),
         None => Decoded::Faulty(ObjectFault::Overrun),
     }
@@ -66,11 +66,10 @@ fn signed_number(bits: u64) -> Decoded
 
 /// Decodes a signed integer of eight bytes.
 #[inline(always)]
-pub fn decode_signed(rest: &[u8], to_trailer: u64) -> Decoded
-    requires { ShowsContent to_trailer rest.now }
-    ensures { DecodesFixed to_trailer 8 signed_integer rest.now result }
+pub fn decode_signed(rest: AfterMarker<'_>) -> Decoded
+    ensures { DecodesFixed 8 signed_integer rest.entry result }
 {
-    match front_number(rest, 8) {
+    match front_number(rest.bytes, 8) {
         Some(number) => signed_number(number),
         None => Decoded::Faulty(ObjectFault::Overrun),
     }
@@ -79,15 +78,15 @@ pub fn decode_signed(rest: &[u8], to_trailer: u64) -> Decoded
 /// Decodes an integer of sixteen bytes. The first eight bytes have to be zero, because no other
 /// integer fits into a `u64`.
 #[inline(always)]
-pub fn decode_wide_integer(rest: &[u8], to_trailer: u64) -> Decoded
-    requires { ShowsContent to_trailer rest.now }
-    ensures { DecodesFixed to_trailer 16 wide_integer rest.now result }
+pub fn decode_wide_integer(rest: AfterMarker<'_>) -> Decoded
+    ensures { DecodesFixed 16 wide_integer rest.entry result }
 {
-    if rest.len() < 16 {
+    let bytes = rest.bytes;
+    if bytes.len() < 16 {
         return Decoded::Faulty(ObjectFault::Overrun);
     }
-    let high = number_from(&rest[..8]);
-    let low = number_from(&rest[8..16]);
+    let high = number_from(&bytes[..8]);
+    let low = number_from(&bytes[8..16]);
     if high != 0 {
         return Decoded::Faulty(ObjectFault::OutOfRange);
     }
@@ -96,44 +95,40 @@ pub fn decode_wide_integer(rest: &[u8], to_trailer: u64) -> Decoded
 
 /// Decodes a Uid.
 #[inline(always)]
-pub fn decode_uid(rest: &[u8], to_trailer: u64, width: UidWidth) -> Decoded
-    requires { ShowsContent to_trailer rest.now }
-    ensures { DecodesFixed to_trailer width uid_of_content rest.now result }
+pub fn decode_uid(rest: AfterMarker<'_>, width: UidWidth) -> Decoded
+    ensures { DecodesFixed width uid_of_content rest.entry result }
 {
-    match front_number(rest, width.get()) {
+    match front_number(rest.bytes, width.get()) {
         Some(number) => Decoded::Small(PackedKind::Uid, number),
         None => Decoded::Faulty(ObjectFault::Overrun),
     }
 }
 
 /// Decodes a real of eight bytes.
-pub fn decode_real(rest: &[u8], to_trailer: u64) -> Decoded
-    requires { ShowsContent to_trailer rest.now }
-    ensures { DecodesFixed to_trailer 8 long_real rest.now result }
+pub fn decode_real(rest: AfterMarker<'_>) -> Decoded
+    ensures { DecodesFixed 8 long_real rest.entry result }
 {
-    match front_content(rest) {
+    match front_content(rest.bytes) {
         Some(bytes) => Decoded::Small(PackedKind::Real, content_of(bytes)),
         None => Decoded::Faulty(ObjectFault::Overrun),
     }
 }
 
 /// Decodes a real of four bytes.
-pub fn decode_short_real(rest: &[u8], to_trailer: u64) -> Decoded
-    requires { ShowsContent to_trailer rest.now }
-    ensures { DecodesFixed to_trailer 4 short_real rest.now result }
+pub fn decode_short_real(rest: AfterMarker<'_>) -> Decoded
+    ensures { DecodesFixed 4 short_real rest.entry result }
 {
-    match front_content::<4>(rest) {
+    match front_content::<4>(rest.bytes) {
         Some(bytes) => Decoded::Small(PackedKind::ShortReal, content_from(&bytes)),
         None => Decoded::Faulty(ObjectFault::Overrun),
     }
 }
 
 /// Decodes the bytes of a date, and leaves the check of its range to the caller.
-pub fn decode_date(rest: &[u8], to_trailer: u64) -> Decoded
-    requires { ShowsContent to_trailer rest.now }
-    ensures { DecodesFixed to_trailer 8 date rest.now result }
+pub fn decode_date(rest: AfterMarker<'_>) -> Decoded
+    ensures { DecodesFixed 8 date rest.entry result }
 {
-    match front_content(rest) {
+    match front_content(rest.bytes) {
         Some(bytes) => Decoded::Date(content_of(bytes)),
         None => Decoded::Faulty(ObjectFault::Overrun),
     }

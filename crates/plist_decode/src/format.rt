@@ -1,12 +1,11 @@
 //! The format that the first bytes of an input indicate.
 
-ghost use Rattle.std.specs.Prelude.{◌≡◌, ◌+◌, ◌-◌, ◌<◌, nat_eq, slice_get, IfErr};
+ghost use Rattle.std.specs.Prelude.{◌≡◌, ◌+◌, ◌-◌, ◌<◌, nat_eq, slice_get, Some};
 ghost use Rattle.std.specs.List.{starts_with};
-ghost use Rattle.plist_base.specs.Faults.{IsIo, Io, fault_at, kind_of, error_kind_of, offset_of};
+ghost use Rattle.plist_base.specs.Faults.{Io, fault_at};
 ghost use Rattle.plist_base.specs.Outcomes.{OnlyFault, DecodesBy};
-ghost use Rattle.plist_base.specs.Sources.{ResultCountsIo};
-ghost use Rattle.plist_decode.specs.FaultOffsets.{HasOffset};
-ghost use Rattle.plist_decode.specs.Formats.{is_white, byte_order_mark_length, input_front, xml_place, format_of};
+ghost use Rattle.plist_base.specs.Sources.{CountsIo};
+ghost use Rattle.plist_decode.specs.Formats.{ReadsMeaning, is_white, byte_order_mark_length, input_front, xml_place, format_of};
 
 use plist_base::marker::MAGIC;
 use plist_base::{Error, ErrorKind, Source, read_exact_at};
@@ -27,14 +26,8 @@ pub enum Format {
 
 // Returns whether the source begins with these bytes.
 fn begins_with<S: Source, const N: usize>(source: &mut S, front: &[u8; N]) -> Result<bool, Error>
-    // Result.
-    ensures value { DecodesBy result (S.known source.old) (λ b. starts_with nat_eq b front.now) }
-    // Errors.
-    ensures refused { IfErr result (λ error. IsIo (kind_of (error_kind_of error))) }
-    ensures offset { IfErr result (λ error. HasOffset (offset_of error)) }
-    // State afterwards.
-    ensures unchanged { S.known source.new ≡ S.known source.old }
-    ensures failures { ResultCountsIo result (S.failures source.old) (S.failures source.new) }
+    ensures { ReadsMeaning S.known S.failures (λ b. starts_with nat_eq b front.now) source.old
+        result source.new }
 {
     let mut found = [0; N];
     match read_exact_at(source, 0, &mut found) {
@@ -50,14 +43,8 @@ fn begins_with<S: Source, const N: usize>(source: &mut S, front: &[u8; N]) -> Re
 
 // Returns the number of bytes in the byte order mark, or 0 if the source begins with none.
 fn byte_order_mark_length<S: Source>(source: &mut S) -> Result<u64, Error>
-    // Result.
-    ensures length { DecodesBy result (S.known source.old) byte_order_mark_length }
-    // Errors.
-    ensures refused { IfErr result (λ error. IsIo (kind_of (error_kind_of error))) }
-    ensures offset { IfErr result (λ error. HasOffset (offset_of error)) }
-    // State afterwards.
-    ensures unchanged { S.known source.new ≡ S.known source.old }
-    ensures failures { ResultCountsIo result (S.failures source.old) (S.failures source.new) }
+    ensures { ReadsMeaning S.known S.failures byte_order_mark_length source.old
+        result source.new }
 {
     let marked = begins_with(source, MARK)?;
     Ok(if marked { 3 } else { 0 })
@@ -69,7 +56,7 @@ fn byte_at<S: Source>(source: &mut S, place: u64) -> Result<Option<u8>, Error>
     ensures byte { DecodesBy result (S.known source.old) (λ bytes. slice_get bytes place) }
     ensures refused { OnlyFault result (fault_at Io place) }
     ensures unchanged { S.known source.new ≡ S.known source.old }
-    ensures failures { ResultCountsIo result (S.failures source.old) (S.failures source.new) }
+    ensures failures { CountsIo (Some result) (S.failures source.old) (S.failures source.new) }
 {
     let mut buffer = [0u8; 1];
     match source.read_at(place, &mut buffer) {
@@ -88,14 +75,8 @@ fn is_white(byte: u8) -> bool
 
 // Returns the offset of the first byte from `start` on that isn't white space, if it is `<`.
 fn xml_place<S: Source>(source: &mut S, start: u64) -> Result<Option<u64>, Error>
-    // Result.
-    ensures value { DecodesBy result (S.known source.old) (λ b. xml_place start (input_front b)) }
-    // Errors.
-    ensures refused { IfErr result (λ error. IsIo (kind_of (error_kind_of error))) }
-    ensures offset { IfErr result (λ error. HasOffset (offset_of error)) }
-    // State afterwards.
-    ensures unchanged { S.known source.new ≡ S.known source.old }
-    ensures failures { ResultCountsIo result (S.failures source.old) (S.failures source.new) }
+    ensures { ReadsMeaning S.known S.failures (λ b. xml_place start (input_front b)) source.old
+        result source.new }
 {
     let mut place = start;
     'white: while place < u64::MAX {
@@ -116,14 +97,8 @@ fn xml_place<S: Source>(source: &mut S, start: u64) -> Result<Option<u64>, Error
 ///
 /// `Io`, with the offset of the failed read.
 pub fn format_of<S: Source>(source: &mut S) -> Result<Format, Error>
-    // Result.
-    ensures format { DecodesBy result (S.known source.old) format_of }
-    // Errors.
-    ensures refused { IfErr result (λ error. IsIo (kind_of (error_kind_of error))) }
-    ensures offset { IfErr result (λ error. HasOffset (offset_of error)) }
-    // State afterwards.
-    ensures unchanged { S.known source.new ≡ S.known source.old }
-    ensures failures { ResultCountsIo result (S.failures source.old) (S.failures source.new) }
+    ensures { ReadsMeaning S.known S.failures format_of source.old
+        result source.new }
 {
     if begins_with(source, MAGIC)? {
         return Ok(Format::Binary);

@@ -1,9 +1,9 @@
 //! Reads the head of a file, which says where the objects are and how to read them.
 
-ghost use Rattle.std.specs.Prelude.{◌≡◌, ◌^◌, ◌<◌, ◌≤◌, length};
+ghost use Rattle.std.specs.Prelude.{◌≡◌, ◌^◌, ◌<◌, ◌≤◌, length, Some};
 ghost use Rattle.plist_base.specs.Outcomes.{OnlyFault, DecodesBy};
 ghost use Rattle.plist_base.specs.Faults.{Io, fault_at};
-ghost use Rattle.plist_base.specs.Sources.{ResultCountsIo};
+ghost use Rattle.plist_base.specs.Sources.{CountsIo};
 
 use crate::numbers::read_numbers;
 use crate::trailer::{check_trailer, has_magic, read_trailer};
@@ -58,7 +58,7 @@ fn read_size<S: Source>(source: &mut S) -> Result<u64, Error>
     ensures length { DecodesBy result (S.known source.old) (λ bytes. length bytes) }
     ensures refused { OnlyFault result (fault_at Io 0) }
     ensures unchanged { S.known source.new ≡ S.known source.old }
-    ensures failures { ResultCountsIo result (S.failures source.old) (S.failures source.new) }
+    ensures failures { CountsIo (Some result) (S.failures source.old) (S.failures source.new) }
 {
     match source.size() {
         Ok(size) => Ok(size),
@@ -68,7 +68,7 @@ fn read_size<S: Source>(source: &mut S) -> Result<u64, Error>
 
 impl Head {
     ghost use Rattle.std.specs.Prelude.{◌≡◌, ◌+◌, ◌^◌, ◌<◌, IfOk};
-    ghost use Rattle.plist_base.specs.Sources.{ResultCountsIo};
+    ghost use Rattle.plist_base.specs.Sources.{CountsIo};
     ghost use Rattle.plist_base.specs.Outcomes.{IfRead, IfRefused};
     ghost use Rattle.plist_decode.specs.FaultOffsets.{ErrWithin};
     ghost use Rattle.plist_decode.specs.inner.Heads.{IsHeadOf, LiesWithin, IsFaultOfHead, IsHeadBefore, IsFaultBefore};
@@ -91,7 +91,7 @@ impl Head {
         ensures fault { ErrWithin 0 (2 ^ 64) result }
         // State afterwards.
         ensures unchanged { S.known source.new ≡ S.known source.old }
-        ensures failures { ResultCountsIo result (S.failures source.old) (S.failures source.new) }
+        ensures failures { CountsIo (Some result) (S.failures source.old) (S.failures source.new) }
     {
         let size = read_size(source)?;
         if size < MAGIC_SIZE {
@@ -117,7 +117,7 @@ impl Head {
         ensures fault { ErrWithin 0 (trailer + 32) result }
         // State afterwards.
         ensures unchanged { S.known source.new ≡ S.known source.old }
-        ensures failures { ResultCountsIo result (S.failures source.old) (S.failures source.new) }
+        ensures failures { CountsIo (Some result) (S.failures source.old) (S.failures source.new) }
     {
         let t = read_trailer(source, trailer)?;
         check_trailer(trailer, &t)?;

@@ -6,6 +6,7 @@
 //! its first fault.
 #![tactic(auto)]
 
+mod after_marker;
 mod counted_content;
 pub mod counter;
 pub mod decoded;

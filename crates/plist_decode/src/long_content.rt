@@ -1,14 +1,12 @@
 //! Reads strings and data that aren't decoded together with the first bytes of their object.
 
-ghost use Rattle.std.specs.Prelude.{◌≡◌, IfErr, IfOk, ⊤};
+ghost use Rattle.std.specs.Prelude.{◌≡◌, IfOk, Some};
 ghost use Rattle.plist_base.specs.Outcomes.{OnlyMemory};
-ghost use Rattle.plist_base.specs.Faults.{MatchFault, kind_of, error_kind_of};
-ghost use Rattle.plist_base.specs.Sources.{ResultCountsIo};
+ghost use Rattle.plist_base.specs.Sources.{CountsIo};
 ghost use Rattle.plist_base.specs.Container.{numbers_spelled};
 ghost use Rattle.plist_base.specs.Object.{text, text_of_units, wide_text};
-ghost use Rattle.plist_decode.specs.Decoding.{Decodes, IsLarge};
+ghost use Rattle.plist_decode.specs.Decoding.{DecodesLarge, IsLarge};
 ghost use Rattle.plist_decode.specs.Decoded.{EndsIn64Bits, FailsInContent, IsLong, IsLongBytes, ReadsContent};
-ghost use Rattle.plist_decode.specs.FaultOffsets.{ErrWithin};
 ghost use Rattle.plist_decode.specs.CountedContent.{AreUnits, content_means, unit_size};
 ghost use Rattle.plist_decode.specs.declared.decoded.ContentKind.TheVariants.{Text as KindText};
 
@@ -21,10 +19,7 @@ use std::borrow::{CowSlice, CowStr};
 // Returns the string in these bytes, or an error with the object's offset if they aren't UTF-8.
 fn text_event(bytes: Vec<u8>, place: u64) -> Result<OwnedEvent, Error>
     requires { IsLongBytes KindText bytes.items }
-    ensures decoded { Decodes (text bytes.items) place result }
-    ensures large { IsLarge result }
-    ensures kinds { IfErr result (λ error. MatchFault (kind_of (error_kind_of error)) ⊥ ⊤ ⊤) }
-    ensures fault { ErrWithin place place result }
+    ensures { DecodesLarge (text bytes.items) place result }
 {
     match String::from_utf8(bytes) {
         Ok(string) => Ok(Event::String(CowStr::Owned(string))),
@@ -38,10 +33,7 @@ fn text_event(bytes: Vec<u8>, place: u64) -> Result<OwnedEvent, Error>
 // So there can be one here only if the source returned other bytes before. The error is
 // `OutOfMemory` then.
 fn text_of_units_event(alloc: Global, units: &[u16], place: u64) -> Result<OwnedEvent, Error>
-    ensures decoded { Decodes (text_of_units units.now) place result }
-    ensures large { IsLarge result }
-    ensures kinds { IfErr result (λ error. MatchFault (kind_of (error_kind_of error)) ⊥ ⊤ ⊤) }
-    ensures fault { ErrWithin place place result }
+    ensures { DecodesLarge (text_of_units units.now) place result }
 {
     match String::from_utf16(alloc, units)? {
         Ok(string) => {
@@ -74,10 +66,7 @@ fn units_in(alloc: Global, bytes: &[u8]) -> Result<Vec<u16>, Error>
 ///   bytes in UTF-8: it is a small object then, which is decoded elsewhere.
 pub fn wide_text_event(alloc: Global, bytes: &[u8], place: u64) -> Result<OwnedEvent, Error>
     requires { AreUnits 2 bytes.now }
-    ensures decoded { Decodes (wide_text bytes.now) place result }
-    ensures large { IsLarge result }
-    ensures kinds { IfErr result (λ error. MatchFault (kind_of (error_kind_of error)) ⊥ ⊤ ⊤) }
-    ensures fault { ErrWithin place place result }
+    ensures { DecodesLarge (wide_text bytes.now) place result }
 {
     let units = units_in(alloc, bytes)?;
     text_of_units_event(alloc, &units, place)
@@ -94,10 +83,7 @@ fn content_event(
 ) -> Result<OwnedEvent, Error>
     requires units { AreUnits (unit_size kind) bytes.items }
     requires long { IsLongBytes kind bytes.items }
-    ensures decoded { Decodes (content_means kind bytes.items) place result }
-    ensures large { IsLarge result }
-    ensures kinds { IfErr result (λ error. MatchFault (kind_of (error_kind_of error)) ⊥ ⊤ ⊤) }
-    ensures fault { ErrWithin place place result }
+    ensures { DecodesLarge (content_means kind bytes.items) place result }
 {
     match kind {
         ContentKind::Data => Ok(Event::Data(CowSlice::Owned(bytes))),
@@ -134,7 +120,7 @@ pub fn read_long<S: Source>(
     ensures fault { FailsInContent place content result }
     // State afterwards.
     ensures unchanged { S.known source.new ≡ S.known source.old }
-    ensures failures { ResultCountsIo result (S.failures source.old) (S.failures source.new) }
+    ensures failures { CountsIo (Some result) (S.failures source.old) (S.failures source.new) }
 {
     let start = place + u64::from(content.start);
     let size = content.count * content.kind.unit_size();

@@ -1,7 +1,7 @@
 //! Reads big-endian numbers and bytes at an offset.
 
-ghost use Rattle.std.specs.Prelude.{◌≡◌, ◌+◌, ◌-◌, ◌*◌, ◌^◌, ◌<◌, ◌≤◌, length, IfOk, vec_len, vec_capacity};
-ghost use Rattle.plist_base.specs.Sources.{ResultCountsIo, FailsReading, IsIoWithin};
+ghost use Rattle.std.specs.Prelude.{◌≡◌, ◌+◌, ◌-◌, ◌*◌, ◌^◌, ◌<◌, ◌≤◌, length, IfOk, vec_len, vec_capacity, Some};
+ghost use Rattle.plist_base.specs.Sources.{CountsIo, FailsReading, IsIoWithin};
 ghost use Rattle.plist_base.specs.Container.{number_of, number_at, numbers_spelled};
 ghost use Rattle.plist_decode.specs.FaultOffsets.{ErrWithin};
 ghost use Rattle.plist_decode.specs.Reading.{AreFirstNumbers, AreBytesAt, AreNumbersAt, IsIoOrMemoryAt};
@@ -66,7 +66,7 @@ pub fn read_number<S: Source>(source: &mut S, place: u64, width: usize) -> Resul
     ensures fault { IfFault result (FailsReading place width) }
     // State afterwards.
     ensures unchanged { S.known source.new ≡ S.known source.old }
-    ensures failures { ResultCountsIo result (S.failures source.old) (S.failures source.new) }
+    ensures failures { CountsIo (Some result) (S.failures source.old) (S.failures source.new) }
 {
     let mut bytes = [0; 8];
     let digits = &mut bytes[..width];
@@ -126,7 +126,7 @@ pub fn read_numbers<S: Source>(
     ensures fault { ErrWithin place (place + count * width) result }
     // State afterwards.
     ensures unchanged { S.known source.new ≡ S.known source.old }
-    ensures failures { ResultCountsIo result (S.failures source.old) (S.failures source.new) }
+    ensures failures { CountsIo (Some result) (S.failures source.old) (S.failures source.new) }
 {
     let mut numbers = Vec::with_capacity(alloc, count)?;
     while numbers.len() < count {
@@ -159,7 +159,7 @@ pub fn read_bytes<S: Source>(
     ensures fault { ErrWithin place (place + size) result }
     // State afterwards.
     ensures unchanged { S.known source.new ≡ S.known source.old }
-    ensures failures { ResultCountsIo result (S.failures source.old) (S.failures source.new) }
+    ensures failures { CountsIo (Some result) (S.failures source.old) (S.failures source.new) }
 {
     let mut found = vec![in alloc; 0u8; size]?;
     read_exact_at(source, place, &mut found)?;

@@ -6,13 +6,15 @@
 //! If an object has several faults, the first of the following is reported: the marker is invalid,
 //! the object doesn't end before the trailer, or the content is invalid.
 
-ghost use Rattle.std.specs.Prelude.{◌≡◌, ◌-◌, ◌<◌, ◌≤◌, if◌then◌else◌, length, IfErr, IfOk, IfSome};
+ghost use Rattle.std.specs.Prelude.{◌≡◌, ◌-◌, ◌<◌, ◌≤◌, if◌then◌else◌, IfErr, IfOk, IfSome, Some};
 ghost use Rattle.plist_decode.specs.Decoded.{CountsSmall, DecodesAfter, DecodesSeen, small_count, CountsSmallRead, DecodesAt, FitsBefore, RefusesObjectAt};
-ghost use Rattle.plist_decode.specs.Front.{IsFront, ShowsContent, IsFrontAt};
+ghost use Rattle.plist_decode.specs.Front.{IsFront, IsFrontAt};
 ghost use Rattle.plist_decode.specs.Reading.{object_with};
 ghost use Rattle.plist_decode.specs.FaultOffsets.{ErrWithin};
-ghost use Rattle.plist_decode.specs.Slot.{SlotCountsIo, result_in};
+ghost use Rattle.plist_base.specs.Sources.{CountsIo};
+ghost use Rattle.plist_decode.specs.Slot.{result_in};
 
+use crate::after_marker::AfterMarker;
 use crate::counted_content::{decode_collection, decode_data, decode_text, decode_wide_text};
 use crate::counter::DecodeCounter;
 use crate::decoded::{CollectionKind, Decoded, ObjectFault};
@@ -29,36 +31,32 @@ use plist_base::{Source, read_exact_at};
 
 // Decodes an object from its marker and the bytes that follow the marker.
 #[inline(always)]
-fn decode_after_marker(marker: u8, rest: &[u8], to_trailer: u64, width: usize) -> Decoded
-    requires to_trailer { length rest.now ≤ to_trailer }
-    requires shown { ShowsContent to_trailer rest.now }
-    requires width { (0 < width) × (width ≤ 8) }
-    ensures { DecodesAfter to_trailer width (object_with width marker) rest.now result }
+fn decode_after_marker(marker: u8, rest: AfterMarker<'_>, width: usize) -> Decoded
+    requires { (0 < width) × (width ≤ 8) }
+    ensures { DecodesAfter width (object_with width marker) rest.entry result }
 {
     match Marker::decode(marker) {
         Marker::Null => Decoded::Faulty(ObjectFault::Null),
         Marker::Boolean(value) => Decoded::Small(PackedKind::Boolean(value), 0),
         Marker::Fill => Decoded::Faulty(ObjectFault::Fill),
-        Marker::Integer1 => decode_unsigned(rest, to_trailer, 1),
-        Marker::Integer2 => decode_unsigned(rest, to_trailer, 2),
-        Marker::Integer4 => decode_unsigned(rest, to_trailer, 4),
-        Marker::Integer8 => decode_signed(rest, to_trailer),
-        Marker::Integer16 => decode_wide_integer(rest, to_trailer),
-        Marker::Real4 => decode_short_real(rest, to_trailer),
-        Marker::Real8 => decode_real(rest, to_trailer),
-        Marker::Date => decode_date(rest, to_trailer),
+        Marker::Integer1 => decode_unsigned(rest, 1),
+        Marker::Integer2 => decode_unsigned(rest, 2),
+        Marker::Integer4 => decode_unsigned(rest, 4),
+        Marker::Integer8 => decode_signed(rest),
+        Marker::Integer16 => decode_wide_integer(rest),
+        Marker::Real4 => decode_short_real(rest),
+        Marker::Real8 => decode_real(rest),
+        Marker::Date => decode_date(rest),
         Marker::Counted(kind, low) => match kind {
-            CountedKind::Data => decode_data(low, rest, to_trailer),
-            CountedKind::Text => decode_text(low, rest, to_trailer),
-            CountedKind::WideText => decode_wide_text(low, rest, to_trailer),
-            CountedKind::Array => {
-                decode_collection(CollectionKind::Array, low, rest, to_trailer, width)
-            }
+            CountedKind::Data => decode_data(low, rest),
+            CountedKind::Text => decode_text(low, rest),
+            CountedKind::WideText => decode_wide_text(low, rest),
+            CountedKind::Array => { decode_collection(CollectionKind::Array, low, rest, width) }
             CountedKind::Dictionary => {
-                decode_collection(CollectionKind::Dictionary, low, rest, to_trailer, width)
+                decode_collection(CollectionKind::Dictionary, low, rest, width)
             }
         },
-        Marker::Uid(size) => decode_uid(rest, to_trailer, size),
+        Marker::Uid(size) => decode_uid(rest, size),
         Marker::Unknown(byte) => Decoded::Faulty(ObjectFault::Unknown(byte)),
     }
 }
@@ -102,7 +100,11 @@ pub fn decode_front<C: DecodeCounter>(decoder: &mut Decoder<C>, place: u64, seen
     let width = decoder.bounds.reference_width;
     match seen.split_first() {
         Some((marker, rest)) => {
-            let decoded = decode_after_marker(*marker, rest, to_trailer - 1, width);
+            let rest = AfterMarker {
+                bytes: rest,
+                to_trailer: to_trailer - 1,
+            };
+            let decoded = decode_after_marker(*marker, rest, width);
             count_small(decoded, &mut decoder.counter);
             decoded
         }
@@ -154,7 +156,8 @@ pub fn read_object<S: Source, C: DecodeCounter>(
         result }
     ensures bounds { decoder.new.bounds ≡ decoder.old.bounds }
     ensures unchanged { S.known source.new ≡ S.known source.old }
-    ensures failures { SlotCountsIo S.failures result decoder.new.slot source.old source.new }
+    ensures failures { CountsIo (Some (result_in result decoder.new.slot)) (S.failures source.old)
+        (S.failures source.new) }
 {
     if place >= decoder.bounds.trailer {
         return Err(decoder.slot.refuse_overrun(place));

@@ -1,8 +1,8 @@
 //! Reads the magic, and reads and checks the trailer.
 
-ghost use Rattle.std.specs.Prelude.{◌≡◌, ◌+◌, ◌-◌, ◌^◌, ◌<◌, ◌≤◌, length, Ok, Err, IfOk, IfErr, MatchOption, ⊤};
+ghost use Rattle.std.specs.Prelude.{◌≡◌, ◌+◌, ◌-◌, ◌^◌, ◌<◌, ◌≤◌, length, Ok, Err, IfOk, IfErr, MatchOption, ⊤, Some};
 ghost use Rattle.plist_base.specs.Faults.{MatchFault, kind_of, error_kind_of};
-ghost use Rattle.plist_base.specs.Sources.{ResultCountsIo, FailsReading, IsIoWithin};
+ghost use Rattle.plist_base.specs.Sources.{CountsIo, FailsReading, IsIoWithin};
 ghost use Rattle.plist_base.specs.Container.{is_width, trailer_in};
 ghost use Rattle.plist_decode.specs.inner.Heads.{trailer_seen, has_magic, IsTrailerAt, end_of_table, IsNumberWidth, HasHead, HasNoHead};
 ghost use Rattle.plist_decode.specs.FaultOffsets.{ErrWithin};
@@ -36,7 +36,7 @@ pub fn has_magic<S: Source>(source: &mut S) -> Result<bool, Error>
     ensures fault { IfFault result (FailsReading 0 8) }
     // State afterwards.
     ensures unchanged { S.known source.new ≡ S.known source.old }
-    ensures failures { ResultCountsIo result (S.failures source.old) (S.failures source.new) }
+    ensures failures { CountsIo (Some result) (S.failures source.old) (S.failures source.new) }
 {
     let mut found = [0; 8];
     read_exact_at(source, 0, &mut found)?;
@@ -67,7 +67,7 @@ pub fn read_trailer<S: Source>(source: &mut S, trailer: u64) -> Result<Trailer, 
     ensures fault { IfFault result (FailsReading trailer 32) }
     // State afterwards.
     ensures unchanged { S.known source.new ≡ S.known source.old }
-    ensures failures { ResultCountsIo result (S.failures source.old) (S.failures source.new) }
+    ensures failures { CountsIo (Some result) (S.failures source.old) (S.failures source.new) }
 {
     let mut last = [0; 32];
     read_exact_at(source, trailer, &mut last)?;

@@ -8,11 +8,15 @@ use Rattle.std.proofs.lemmas.List.{length-append, length-map}
 use Rattle.std.proofs.lemmas.List.Concat.{flat_map-append}
 use Rattle.std.proofs.lemmas.Option.{same_Some, slice_get_within}
 use Rattle.plist_base.specs.Bracketing.{bracketing}
-use Rattle.plist_base.specs.Events.{PlainEvent, StartArray, StartDictionary, EndCollection, ScalarEvent}
+use Rattle.plist_base.specs.declared.error.Error.{Error}
+use Rattle.plist_base.specs.declared.event.Event.{Event}
+use Rattle.plist_base.specs.Events.{PlainEvent, StartArray, StartDictionary, EndCollection, ScalarEvent, event_of}
+use Rattle.plist_base.specs.Faults.{OutOfMemory, fault_of, fault_without_offset}
 use Rattle.plist_base.specs.Trees.{Tree, Leaf, Array, Dictionary}
 use Rattle.plist.specs.declared.stream.events.Events.{Events}
 use Rattle.plist.specs.declared.value.Value.{Value}
-use Rattle.plist.specs.Events.{BeginsWithStart, remaining_events}
+use Rattle.plist.specs.Events.{BeginsWithStart, GivesEvent, remaining_events}
+use Rattle.plist.proofs.GivenEvents.{event_comes, memory_comes}
 use Rattle.plist.specs.ValueTrees.{tree_of}
 use Rattle.plist_keyed.specs.declared.state.ArchiveWalk.{ArchiveWalk}
 use Rattle.plist_keyed.specs.inner.Walks.{AreAllSettled, AreSettled, IsIn, IsWalk, NameOnly, end_in, events_at, events_left, events_in_levels, objects_in, replaced_events, settled_in, uid_of_event}
@@ -130,6 +134,20 @@ left-at-first walk uid none =
     ∙ append-nil (events_at (objects_in walk) uid)
 
 -- ---- one step
+
+-- an iterator over a value's events yields an event, or `OutOfMemory`
+pub event_left : (before after : Events) (item : Result Event Error) (event : Event)
+    → GivesEvent before (Some item) after → item ≡ Ok event
+    → remaining_events before ≡ event_of event ∷ remaining_events after
+event_left before after item event gives is =
+    event_comes (subst (λ i. GivesEvent before (Some i) after) is gives)
+
+pub memory_left : (before after : Events) (item : Result Event Error) (error : Error)
+    → GivesEvent before (Some item) after → item ≡ Err error
+    → (fault_of error ≡ fault_without_offset OutOfMemory)
+    × BeginsWithStart (remaining_events before) × (remaining_events after ≡ [])
+memory_left before after item error gives is =
+    memory_comes (subst (λ i. GivesEvent before (Some i) after) is gives)
 
 named-rest : (before after : List PlainEvent) (uids : List ℕ) → NameOnly (before ++ after) uids
     → NameOnly after uids

@@ -1,11 +1,11 @@
 -- What was written and how failures are counted after an error.
-use Rattle.std.proofs.Common.{◌≡◌, ℕ, List, ◌⊎◌, inl, inr, Option, None, Some, IfSome, Err, option_map, ap, subst, sym}
+use Rattle.std.proofs.Common.{◌≡◌, ℕ, List, ◌⊎◌, inl, inr, Option, None, Some, IfSome, Err, option_map, ap, subst}
 use Rattle.std.specs.Prelude.{⊤}
 use Rattle.plist_base.specs.declared.error.Error.{Error}
 use Rattle.plist_base.specs.Events.{Item}
-use Rattle.plist_base.specs.Faults.{Fault, FaultKind, Io, MatchFault, OutOfMemory, error_kind_of, fault_without_offset, fault_of, kind_of, offset_of}
+use Rattle.plist_base.specs.Faults.{Fault, FaultKind, Io, MatchFault, OutOfMemory, error_kind_of, fault_without_offset, fault_of, kind_of}
 use Rattle.plist_base.specs.Sources.{CountsIo, Rises}
-use Rattle.plist_base.proofs.Refusals.{MatchFault-all, MatchFault-at, MatchFault-weaker}
+use Rattle.plist_base.proofs.Refusals.{MatchFault-at, MatchFault-weaker}
 use Rattle.plist_print.specs.Printing.{CountsReads, IsWriterError, PrintsUntil}
 
 -- ---- a failed write or allocation
@@ -34,8 +34,7 @@ own_ends (Some all) error old new own =
 -- a failed write or allocation leaves the source's count of failures unchanged
 pub own_counts : (error : Error) (old new : ℕ) → IsWriterError error → new ≡ old
     → CountsReads {A = Unit {0}} (Err error) old new
-own_counts error old new own same =
-    MatchFault-all (kind_of (error_kind_of error)) (inl (own.0, same)) same same
+own_counts error old new own same = inr (own.0, same)
 
 one_of : (kind : FaultKind) (A : Type 0) → MatchFault kind A A A → A
 one_of Io A h = h
@@ -45,21 +44,21 @@ one_of kind A h = h
 -- the source's count of failures is correct after its own error, and after a failed write that
 -- followed the error
 pub fault_counts : {A : Type 0} (error answer : Error) (old before new : ℕ) → before ≡ old
-    → CountsIo error before new → ((answer ≡ error) × A) ⊎ (fault_of answer ≡ fault_without_offset Io)
+    → CountsIo {A = Unit {0}} (Some (Err error)) before new
+    → ((answer ≡ error) × A) ⊎ (fault_of answer ≡ fault_without_offset Io)
     → CountsReads {A = Unit {0}} (Err answer) old new
 fault_counts error answer old before new is counts (inl (same, rest)) =
-    subst (λ e. CountsReads {A = Unit {0}} (Err e) old new) (sym same)
-    (MatchFault-weaker (kind_of (error_kind_of error)) (λ rises. inr rises) (λ e. e) (λ e. e)
-    (subst (λ n. CountsIo error n new) is counts))
+    inl (rw (same, ← is) counts)
 fault_counts error answer old before new is counts (inr own) =
-    MatchFault-at (kind_of (error_kind_of answer)) Io _ _ _ (ap (λ (f : Fault). f.kind) own)
-    (one_of (kind_of (error_kind_of error))
-    (((offset_of answer ≡ None) × (new ≡ old)) ⊎ Rises old new)
-    (MatchFault-weaker (kind_of (error_kind_of error)) (λ rises. inr rises) stayed stayed
-    (subst (λ n. CountsIo error n new) is counts)))
+    one_of (kind_of (error_kind_of error)) (CountsReads {A = Unit {0}} (Err answer) old new)
+    (MatchFault-weaker (kind_of (error_kind_of error)) rose stayed stayed (rw is at counts))
   where
-    stayed : new ≡ old → ((offset_of answer ≡ None) × (new ≡ old)) ⊎ Rises old new
-    stayed e = inl (ap (λ (f : Fault). f.offset) own, e)
+    rose : Rises old new → CountsReads {A = Unit {0}} (Err answer) old new
+    rose rises = inl (MatchFault-at (kind_of (error_kind_of answer)) Io _ _ _
+        (ap (λ (f : Fault). f.kind) own) rises)
+
+    stayed : new ≡ old → CountsReads {A = Unit {0}} (Err answer) old new
+    stayed same = inr (ap (λ (f : Fault). f.offset) own, same)
 
 -- ---- a whole file
 

@@ -6,13 +6,15 @@ use Rattle.plist_base.specs.declared.source.Source.{Ghosts}
 use Rattle.plist_base.specs.Events.{PlainEvent, Item}
 use Rattle.plist_base.specs.Faults.{Io, error_kind_of, fault_without_offset, fault_of, kind_of}
 use Rattle.plist_base.specs.Prefixes.{AppendsPrefix}
-use Rattle.plist_base.specs.Sources.{ItemCountsIo}
+use Rattle.plist_base.specs.Sources.{CountsIo}
 use Rattle.plist_base.specs.Visits.{YieldsAll, PlainItem}
 use Rattle.plist_base.proofs.WriterBytes.{Appends-at}
 use Rattle.plist_base.proofs.Refusals.{MatchFault-weaker}
-use Rattle.plist_base.specs.FirstItems.{GivesFirst, GivesFirstIfKnown}
-use Rattle.plist_base.proofs.FirstItems.{first_of_known}
-use Rattle.plist_binread.specs.BinaryReader.{Steps, binary_source, items_to_come}
+use Rattle.plist_base.specs.FirstItems.{GivesFirst, GivesFirstIfKnown, StopsIf}
+use Rattle.plist_base.proofs.FirstItems.{first_of_known, first_weaker_if_known}
+use Rattle.plist_binread.specs.BinaryReader.{Steps, binary_source, is_new, items_to_come}
+use Rattle.plist_binread.specs.Remaining.{AllocatesNext, SomeRemain}
+use Rattle.std.specs.Bool.{⊤}
 use Rattle.plist_reader.specs.Reader.{BinaryReaderOf}
 use Rattle.plist_print.specs.Printing.{items_left}
 use Rattle.plist_print.specs.EscapedLines.{first_fault, lines_of, lines_of_events}
@@ -21,15 +23,29 @@ use Rattle.plist_print.specs.PrintRuns.{IsAskedOnce, PrintsRun, StopsPrinting}
 use Rattle.plist_base.proofs.SinkSteps.{prefix_more}
 use Rattle.plist_print.proofs.PendingBytes.{device_own, fault_counts, memory_own, own_counts, own_ends}
 
+-- the first of the remaining items is yielded; `Io` and `OutOfMemory` are always possible
+abbrev pub Comes : (before : Option (List Item)) → PlainItem → (after : Option (List Item)) → Type 0
+Comes = GivesFirstIfKnown (λ event. event) (λ _ _. ⊤) (λ _ _. ⊤)
+
+-- what says more about `Io` and `OutOfMemory` implies `Comes`
+pub comes_first : (io memory : (before after : List Item) → Type 0) (before : Option (List Item))
+    (item : PlainItem) (after : Option (List Item))
+    → GivesFirstIfKnown (λ event. event) io memory before item after → Comes before item after
+comes_first io memory before item after =
+    first_weaker_if_known (λ event. event) io memory (λ _ _. ⊤) (λ _ _. ⊤) (λ _ _ _. tt)
+    (λ _ _ _. tt) before after item
+
 -- the first of a binary reader's remaining items is yielded
 pub binary_comes : {S : Type 0} {g : Ghosts S} (old : BinaryReaderOf S g) (item : PlainItem)
     (new : BinaryReaderOf S g) → Steps old item new
-    → GivesFirstIfKnown (λ event. event) (items_left g.known old) item (items_left g.known new)
+    → Comes (items_left g.known old) item (items_left g.known new)
 binary_comes {g = g} old item new step =
-    first_of_known (λ event. event) (g.known (binary_source old)) (g.known (binary_source new))
+    comes_first (StopsIf SomeRemain) (StopsIf (AllocatesNext (is_new old))) (items_left g.known old)
+    item (items_left g.known new)
+    (first_of_known (λ event. event) (StopsIf SomeRemain) (StopsIf (AllocatesNext (is_new old)))
+    (g.known (binary_source old)) (g.known (binary_source new))
     (λ bytes. items_to_come bytes old) (λ bytes. items_to_come bytes new) item
-    step.gives.unchanged
-    (IfSome_then (g.known (binary_source old)) step.gives.items (λ bytes gives. gives.0))
+    step.gives.unchanged step.gives.items)
 
 -- ---- all items
 
@@ -73,7 +89,7 @@ prints_all (Some all) answer before after printed refused prefix =
 
 module _ {I : Type 0} (yields : I → PlainItem → I → Type 0) (coming : I → Option (List Item))
     (comes : (old : I) (item : PlainItem) (new : I) → yields old item new
-    → GivesFirstIfKnown (λ event. event) (coming old) item (coming new)) where
+    → Comes (coming old) item (coming new)) where
   pub all_came : (old new : I) (events : List PlainEvent) → YieldsAll yields old events new
       → IfSome (coming old) (λ all. (left : List Item) × (coming new ≡ Some left)
       × (all ≡ map Ok events ++ left))
@@ -87,7 +103,8 @@ module _ {I : Type 0} (yields : I → PlainItem → I → Type 0) (coming : I �
   came_last : (old left new : I) (events : List PlainEvent) (item : PlainItem)
       → YieldsAll yields old events left → yields left item new
       → IfSome (coming old) (λ all. (rest : List Item) × (more : List Item)
-      × (all ≡ map Ok events ++ rest) × GivesFirst (λ event. event) rest item more)
+      × (all ≡ map Ok events ++ rest)
+      × GivesFirst (λ event. event) (λ _ _. ⊤) (λ _ _. ⊤) rest item more)
   came_last old left new events item through last =
       IfSome_then (coming old) (all_came old left events through) (λ all (rest, to, is).
       let (more, after, next) = rw to at (comes left item new last) in (rest, more, is, next))
@@ -98,9 +115,9 @@ module _ {I : Type 0} (yields : I → PlainItem → I → Type 0) (coming : I �
   run_printed old new (Ok done) before after (events, left, through, (last, sent)) =
       IfSome_then (coming old) (came_last old left new events None through last)
       (λ all (rest, more, is, none). (
-        ap first_fault is ∙ faults_front events rest ∙ ap first_fault none,
+        ap first_fault is ∙ faults_front events rest ∙ ap first_fault none.0,
         Appends-at before after _ _ (sym (ap lines_of is ∙ lines_front events rest
-            ∙ ap (λ l. lines_of_events events ++ lines_of l) none
+            ∙ ap (λ l. lines_of_events events ++ lines_of l) none.0
             ∙ append-nil (lines_of_events events))) sent,
       ))
   run_printed old new (Err error) before after run = tt
@@ -176,7 +193,7 @@ module _ {I K : Type 0} (yields : I → PlainItem → I → Type 0) (known : I �
 
 module _ {I : Type 0} (yields : I → PlainItem → I → Type 0) (failures : I → ℕ)
     (counts : (old : I) (item : PlainItem) (new : I) → yields old item new
-    → ItemCountsIo item (failures old) (failures new)) where
+    → CountsIo item (failures old) (failures new)) where
   all_counted : (old new : I) (events : List PlainEvent) → YieldsAll yields old events new
       → failures new ≡ failures old
   all_counted old new [] is = ap failures is
@@ -201,7 +218,7 @@ module _ {I : Type 0} (yields : I → PlainItem → I → Type 0) (failures : I 
       (before after : Option (List ℕ)) → PrintsRun yields old answer new before after
       → CountsReads answer (failures old) (failures new)
   run_counted old new (Ok done) before after (events, left, through, (last, sent)) =
-      counts left None new last ∙ all_counted old left events through
+      inl (counts left None new last ∙ all_counted old left events through)
   run_counted old new (Err error) before after (events, left, through, inl (last, sent)) =
       fault_counts {A = Unit {0}} error error (failures old) (failures left) (failures new)
       (all_counted old left events through) (counts left (Some (Err error)) new last)

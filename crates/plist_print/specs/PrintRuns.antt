@@ -10,7 +10,7 @@ use Rattle.plist_base.specs.Visits.{YieldsAll, PlainItem}
 use Rattle.plist_binread.specs.BinaryReader.{Steps, is_new, binary_source}
 use Rattle.plist_reader.specs.Reader.{BinaryReaderOf}
 use Rattle.plist_print.specs.EscapedLines.{lines_of_events}
-use Rattle.plist_print.specs.Printing.{CountsReadsOf}
+use Rattle.plist_print.specs.Printing.{CountsReads}
 
 module _ {I : Type 0} (gives : I → PlainItem → I → Type 0) where
   -- the source was called at most once
@@ -48,4 +48,4 @@ PrintsSource {S} known failed source answer before after =
     × (left : BinaryReaderOf S (record { known = known; failures = failed }))
     × (binary_source reader ≡ source) × (is_new reader ≡ true)
     × PrintsReader reader answer left before after
-    × CountsReadsOf failed reader answer left
+    × CountsReads answer (failed (binary_source reader)) (failed (binary_source left))

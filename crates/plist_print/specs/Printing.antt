@@ -1,11 +1,11 @@
 -- What printing the items of a file writes, and what it returns.
-use Rattle.std.specs.Prelude.{option_map, ◌≡◌, ℕ, ◌⊎◌, List, Option, None, Some, ⊤, IfErr, MatchResult, OnOk, Result}
+use Rattle.std.specs.Prelude.{option_map, ◌≡◌, ℕ, ◌⊎◌, List, Option, None, Some, ⊤, IfErr, IsErrAnd, OnOk, Result}
 use Rattle.std.specs.Io.KnownBytes.{Appends}
 use Rattle.plist_base.specs.declared.error.Error.{Error}
 use Rattle.plist_base.specs.Faults.{Fault, MatchFault, IsIoOrMemory, kind_of, error_kind_of, fault_of, offset_of}
 use Rattle.plist_base.specs.declared.source.Source.{Ghosts}
 use Rattle.plist_base.specs.Events.{Item}
-use Rattle.plist_base.specs.Sources.{Rises}
+use Rattle.plist_base.specs.Sources.{CountsIo}
 use Rattle.plist_binread.specs.BinaryReader.{binary_source, items_to_come}
 use Rattle.plist_decode.specs.declared.counter.DecodeCounter.{Ghosts as CounterGhosts}
 use Rattle.plist_binread.specs.declared.reader.BinaryReader.{BinaryReader}
@@ -41,17 +41,10 @@ abbrev pub IsWriterError : Error → Type 0
 IsWriterError error = IsWriterFault (fault_of error)
 
 -- the count of failures rose only if the call returned `Io`; an `Io` without an offset may be the
--- error of a write
+-- error of a write, and then the count is unchanged
 abbrev pub CountsReads : {A : Type 0} → Result A Error → (old new : ℕ) → Type 0
-CountsReads answer old new = MatchResult answer (λ _. new ≡ old)
-    (λ error. MatchFault (kind_of (error_kind_of error))
-    (((offset_of error ≡ None) × (new ≡ old)) ⊎ Rises old new) (new ≡ old) (new ≡ old))
-
--- the count of failures of a reader's source changes with the result as `CountsReads` says
-abbrev pub CountsReadsOf : {S C A : Type 0} {g : Ghosts S} {h : CounterGhosts C}
-    → (failures : S → ℕ) → BinaryReader S C g h → Result A Error → BinaryReader S C g h → Type 0
-CountsReadsOf failures old answer new =
-    CountsReads answer (failures (binary_source old)) (failures (binary_source new))
+CountsReads answer old new = CountsIo (Some answer) old new
+    ⊎ (IsErrAnd answer (λ error. offset_of error ≡ None) × (new ≡ old))
 
 -- the items that a reader hasn't yielded yet, if the bytes of its source are known
 abbrev pub items_left : {S C : Type 0} {g : Ghosts S} {h : CounterGhosts C}

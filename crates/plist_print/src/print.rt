@@ -3,7 +3,7 @@
 ghost use Rattle.std.specs.Prelude.{◌≡◌, IfSome};
 ghost use Rattle.plist_binread.specs.BinaryReader.{binary_source};
 ghost use Rattle.plist_base.specs.Unfolding.{items_of_file};
-ghost use Rattle.plist_print.specs.Printing.{CountsReadsOf, PrintsKnown, items_left};
+ghost use Rattle.plist_print.specs.Printing.{CountsReads, PrintsKnown, items_left};
 ghost use Rattle.plist_print.specs.PrintRuns.{PrintsReader, PrintsRun, PrintsSource};
 
 use crate::printer::Printer;
@@ -65,7 +65,8 @@ pub fn print_reader<S: Source, W: Write>(
     ensures answers { PrintsReader reader.old result reader.new
         (W.contents writer.old) (W.contents writer.new) }
     ensures unchanged { S.known (binary_source reader.new) ≡ S.known (binary_source reader.old) }
-    ensures failures { CountsReadsOf S.failures reader.old result reader.new }
+    ensures failures { CountsReads result (S.failures (binary_source reader.old))
+        (S.failures (binary_source reader.new)) }
 {
     print_source(alloc, reader, writer)
 }

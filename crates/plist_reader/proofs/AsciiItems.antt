@@ -1,5 +1,6 @@
 -- What the reader of ASCII yields as the chosen one, with limits or without.
-use Rattle.std.proofs.Common.{◌≡◌, ◌⊎◌, inl, inr, ℕ, ◌-◌, ◌^◌, Bool, true, false, cond, List, [], ◌∷◌, ◌++◌, Option, None, Some, Ok, Err, IfSome, MatchBool, refl, ap, sym, ◌∙◌, subst, arith}
+use Rattle.std.proofs.Common.{◌≡◌, ◌⊎◌, inl, inr, ℕ, ◌-◌, ◌^◌, Bool, true, false, cond, List, [], ◌∷◌, Option, None, Some, Ok, Err, IfSome, MatchBool, refl, ap, sym, ◌∙◌, subst, arith}
+use Rattle.std.specs.Io.KnownBytes.{prepend_known}
 use Rattle.std.specs.Option.{option_map}
 use Rattle.std.proofs.lemmas.List.{take-take}
 use Rattle.plist_base.specs.declared.source.Source.{Ghosts}
@@ -13,25 +14,24 @@ use Rattle.plist_base.specs.declared.limits.LimitCounter.{LimitCounter}
 use Rattle.plist_base.specs.Allowances.{PassesNext as PassesAllowed, iterator_of}
 use Rattle.plist_base.specs.Limits.{GivesLimited, IsLimitReached, items_admitted, limited_items, limited_by}
 use Rattle.plist_base.specs.Faults.{FaultKind, Fault, Io, OutOfMemory, LimitReached, MatchFault, XmlUnsupported, kind_of, error_kind_of, fault_of, offset_of}
-use Rattle.plist_base.specs.Sequential.{from_place}
-use Rattle.plist_base.specs.Sources.{ItemCountsIo}
-use Rattle.plist_base.specs.FirstItems.{GivesFirstIfKnown, MatchItem}
-use Rattle.plist_base.proofs.FirstItems.{first_allowed_if_known, none_allowed}
+use Rattle.plist_base.specs.Sequential.{from_place, sequential_place}
+use Rattle.plist_base.specs.Sources.{CountsIo}
+use Rattle.plist_base.specs.FirstItems.{MatchItem, StopsIf}
+use Rattle.plist_base.proofs.FirstItems.{first_allowed_if_known, first_weaker_if_known, none_allowed}
 use Rattle.plist_base.proofs.Refusals.{MatchFault-weaker}
 use Rattle.plist_binread.proofs.LimitedSteps.{limits_remain}
 use Rattle.plist_decode.specs.FaultOffsets.{HasOffset, MatchGiven}
 use Rattle.plist_binread.specs.Remaining.{SomeRemain}
-use Rattle.plist_ascii.specs.Ascii.{items_of_ascii, items_in, BeginsWithText, IsAsciiEvent, IsFaultOfBytes}
+use Rattle.plist_ascii.specs.Ascii.{items_of_ascii, BeginsWithText, IsAsciiEvent, IsFaultOfBytes}
 use Rattle.plist_ascii.specs.AsciiReader as ascii
 use Rattle.plist_ascii.specs.Unread.{RisesIfCounted}
 use Rattle.plist_ascii.specs.declared.dialect.Dialect.{Dialect}
 use Rattle.plist_ascii.specs.Texts.{ends_bare}
-use Rattle.plist_reader.specs.declared.reader.State.{State}
 use Rattle.plist_reader.specs.declared.reader.State.TheVariants as state
-use Rattle.plist_reader.specs.Reader.{AsciiReaderOf, AsciiGives, state_items, stream_bytes_left, buffered_bytes, items_in_format, items_of_dialect, IsReaderFault, StateGives}
+use Rattle.plist_reader.specs.Reader.{AsciiReaderOf, AsciiGives, buffered_source, stream_bytes_left, buffered_bytes, items_in_format, items_of_dialect, IsReaderFault, StateGives}
 use Rattle.plist_decode.specs.declared.format.Format.TheVariants as format
 use Rattle.plist_decode.specs.Formats.{format_of, input_front}
-use Rattle.plist_reader.proofs.ReaderItems.{EndsAfter, Given, IsReaderItem, StopsIfKnown, chosen-gives, input_within, one-remain}
+use Rattle.plist_reader.proofs.ReaderItems.{EndsAfter, Given, IsReaderItem, chosen-gives, input_within, one-remain}
 
 -- ---- `OutOfMemory` is yielded only if something remains
 
@@ -40,41 +40,6 @@ text-remain [] h = absurd h
 text-remain (x ∷ xs) h = one-remain x xs
 
 -- ---- one call
-
-none-left : (stops : ℕ → Bool) (bytes : List ℕ) (q : ℕ) → bytes ≡ []
-    → items_of_ascii stops bytes q ≡ []
-unfolding items_in
-none-left stops bytes q e = ap (λ l. items_of_ascii stops l q) e
-
-pub ascii-goes : (stops : ℕ → Bool) (k l : Option (List ℕ)) (p q : ℕ) (item : Given)
-    → ((bytes : List ℕ) → k ≡ Some bytes → (rest : List ℕ) × (l ≡ Some rest)
-    × ascii.GivesAsciiItem stops bytes p item rest q)
-    → GivesFirstIfKnown event_of (option_map (λ bytes. items_of_ascii stops bytes p) k) item
-    (option_map (λ bytes. items_of_ascii stops bytes q) l)
-ascii-goes stops None l p q item h = tt
-ascii-goes stops (Some bytes) l p q item h =
-    let (rest, is, gives) = h bytes refl in
-    (items_of_ascii stops rest q, ap (option_map (λ b. items_of_ascii stops b q)) is, gives.0)
-
-ascii-stops : (stops now : ℕ → Bool) (k l : Option (List ℕ)) (p q : ℕ) (item : Given)
-    → ((bytes : List ℕ) → k ≡ Some bytes → (rest : List ℕ) × (l ≡ Some rest)
-    × ascii.GivesAsciiItem stops bytes p item rest q)
-    → StopsIfKnown (option_map (λ bytes. items_of_ascii stops bytes p) k) item
-    (option_map (λ bytes. items_of_ascii now bytes q) l)
-ascii-stops stops now None l p q item h = tt
-ascii-stops stops now (Some bytes) l p q item h =
-    let (rest, is, gives) = h bytes refl in
-    by item (λ none. ap (option_map (λ b. items_of_ascii now b q)) is ∙ ap Some (none-left now rest q none)) gives.1
-  where
-    by : (item : Given) {rest : List ℕ} {over : Type 0} → (rest ≡ [] → over)
-        → MatchItem item (rest ≡ []) (λ event. ascii.BeginsWithItem stops bytes p (Ok (event_of event)) rest q)
-        (rest ≡ []) ((rest ≡ []) × BeginsWithText (items_of_ascii stops bytes p))
-        (λ fault. ascii.BeginsWithItem stops bytes p (Err fault) rest q)
-        → MatchItem item over (λ _. ⊤) over (over × SomeRemain (items_of_ascii stops bytes p)) (λ _. ⊤)
-    by None ends h = ends h
-    by (Some (Ok event)) ends h = tt
-    by (Some (Err error)) ends h = MatchFault-weaker (kind_of (error_kind_of error)) ends
-        (λ m. (ends m.0, text-remain (items_of_ascii stops bytes p) m.1)) (λ _. tt) h
 
 -- the item, if there is one, is an event or a fault that the bytes of ASCII can have
 abbrev HasKind : Given → Type 0
@@ -120,9 +85,9 @@ ascii-faults limited place (Some (Err error)) k h =
     by kind offset k p = inl (inr k, some-place offset place p)
 
 -- if both counts exist, a fact about optional counts is one about them
-counted-failures : (a b : ℕ) (item : Given) → let same = Some b ≡ Some a in
+pub counted-failures : (a b : ℕ) (item : Given) → let same = Some b ≡ Some a in
     MatchItem item same (λ _. same) (RisesIfCounted (Some a) (Some b)) same (λ _. same)
-    → ItemCountsIo item a b
+    → CountsIo item a b
 counted-failures a b None h = same-count a b h
 counted-failures a b (Some (Ok event)) h = same-count a b h
 counted-failures a b (Some (Err error)) h =
@@ -136,7 +101,7 @@ take-twice bytes = take-take (2 ^ 64 - 1) (2 ^ 64 - 1) bytes (omega arith)
 ascii-items : (dialect : Dialect) (k l : Option (List ℕ)) → l ≡ k
     → IfSome k (λ bytes. format.Ascii ≡ format_of bytes)
     → option_map (λ bytes. items_of_ascii (ends_bare dialect) bytes 0)
-    (option_map input_front (option_map (λ bytes. [] ++ from_place 0 bytes) l))
+    (option_map input_front (prepend_known [] (option_map (from_place 0) l)))
     ≡ option_map (items_of_dialect dialect) k
 ascii-items dialect None l e is = rw e refl
 ascii-items dialect (Some bytes) l e is =
@@ -155,25 +120,9 @@ limit-other : (kind : FaultKind) (limit : Limit) (X Y Z : Type 0) → kind ≡ L
     → MatchFault kind X Y Z
 limit-other kind limit X Y Z is z = rw is z
 
-limited-stops : (was now : Bool) (old new : LimitCounter) (k l : Option (List Item)) (asked item : Given)
-    → was ≡ false → StopsIfKnown k asked l → PassesNext old asked item new now
-    → StopsIfKnown (option_map (come was old) k) item (option_map (come now new) l)
-limited-stops was now old new None l asked item w h p = tt
-limited-stops was now old new (Some all) l None item w h p =
-    rw (p.0, p.2) (ap (option_map (come true new)) h)
-limited-stops was now old new (Some all) l (Some (Ok asked)) None w h p = absurd p
-limited-stops was now old new (Some all) l (Some (Ok asked)) (Some (Ok passed)) w h p = tt
-limited-stops was now old new (Some all) l (Some (Ok asked)) (Some (Err error)) w h p =
-    limit-other (fault_of error).kind p.0.0.0 _ _ _ (ap (λ (f : Fault). f.kind) p.0.0.1) tt
-limited-stops was now old new (Some all) l (Some (Err fault)) None w h p = absurd p
-limited-stops was now old new (Some all) l (Some (Err fault)) (Some given) w h p =
-    rw (p.0, p.1) (MatchFault-weaker (kind_of (error_kind_of fault))
-    (λ e. ap (option_map (come true new)) e)
-    (λ m. (ap (option_map (come true new)) m.0, rw w (limits_remain old all m.1))) (λ _. tt) h)
-
 module _ (now : Bool) (old new : LimitCounter) where
-  passes-count : (asked item : Given) (a b : ℕ) → ItemCountsIo asked a b
-      → PassesNext old asked item new now → ItemCountsIo item a b
+  passes-count : (asked item : Given) (a b : ℕ) → CountsIo asked a b
+      → PassesNext old asked item new now → CountsIo item a b
   passes-count None item a b h p = rw p.0 h
   passes-count (Some (Ok asked)) None a b h p = absurd p
   passes-count (Some (Ok asked)) (Some (Ok passed)) a b h p = h
@@ -203,7 +152,8 @@ module _ (now : Bool) (old new : LimitCounter) where
 
 -- a reader of ASCII that has yielded nothing has all items of its source left
 fresh-text : {R : Type 0} (known : R → Option (List ℕ)) (dialect : Dialect) (source : R) (sequence : BufferedSource R) (reader : AsciiReaderOf R)
-    → sequence.source ≡ source → sequence.place ≡ 0 → buffered_bytes sequence ≡ []
+    → buffered_source sequence ≡ source → sequential_place sequence.inner ≡ 0
+    → buffered_bytes sequence ≡ []
     → IfSome (known source) (λ bytes. format.Ascii ≡ format_of bytes)
     → ascii.untaken_bytes (stream_bytes_left known) reader
     ≡ option_map input_front (stream_bytes_left known sequence)
@@ -214,12 +164,12 @@ fresh-text known dialect source sequence reader from at none is bytes place chos
     (ascii.untaken_bytes (stream_bytes_left known) reader)) chosen
     ∙ (λ i. option_map (λ b. items_of_ascii (ends_bare dialect) b (place i)) (bytes i))
     ∙ ap (λ p. option_map (λ b. items_of_ascii (ends_bare dialect) b 0)
-    (option_map input_front (option_map (λ bytes. buffered_bytes sequence ++ from_place p bytes)
-    (known sequence.source)))) at
+    (option_map input_front (prepend_known (buffered_bytes sequence)
+    (option_map (from_place p) (known (buffered_source sequence)))))) at
     ∙ ap (λ w. option_map (λ b. items_of_ascii (ends_bare dialect) b 0)
-    (option_map input_front (option_map (λ bytes. w ++ from_place 0 bytes)
-    (known sequence.source)))) none
-    ∙ ascii-items dialect _ (known sequence.source) (ap known from) is
+    (option_map input_front (prepend_known w
+    (option_map (from_place 0) (known (buffered_source sequence)))))) none
+    ∙ ascii-items dialect _ (known (buffered_source sequence)) (ap known from) is
 
 joined : (limits : Limits) (dialect : Dialect) (k : Option (List ℕ))
     → option_map (limited_items limits) (option_map (items_of_dialect dialect) k)
@@ -232,20 +182,13 @@ module _ {R : Type 0} {g : Ghosts R} (known : R → Option (List ℕ)) (failed :
       → AsciiGives known failed old item new
       → StateGives {R = R} {g = g} known failed (state.Ascii old) item (state.Ascii new)
   ascii-gives old new item h = record {
-    items = subst (λ d. GivesFirstIfKnown event_of ((let before : State R g = state.Ascii old in
-        state_items known before))
-        item (option_map (λ bytes. items_of_ascii (ends_bare d) bytes (ascii.place_of new))
-        (ascii.untaken_bytes (stream_bytes_left known) new))) (sym h.dialect)
-        (ascii-goes (ends_bare (ascii.dialect_of old)) (ascii.untaken_bytes (stream_bytes_left known) old)
-        (ascii.untaken_bytes (stream_bytes_left known) new) (ascii.place_of old)
-        (ascii.place_of new) item
-        h.items);
-    stops = ascii-stops (ends_bare (ascii.dialect_of old)) (ends_bare (ascii.dialect_of new))
-        (ascii.untaken_bytes (stream_bytes_left known) old)
-        (ascii.untaken_bytes (stream_bytes_left known) new) (ascii.place_of old)
-        (ascii.place_of new) item h.items;
-    failures = counted-failures (failed (ascii.device_of old).source)
-        (failed (ascii.device_of new).source) item h.failures;
+    items = first_weaker_if_known event_of (StopsIf (λ _. ⊤)) (StopsIf BeginsWithText)
+        (StopsIf (λ _. ⊤)) (StopsIf SomeRemain) (λ before after p. p)
+        (λ before after p. (text-remain before p.0, p.1))
+        (ascii.ascii_items_to_come (stream_bytes_left known) old)
+        (ascii.ascii_items_to_come (stream_bytes_left known) new) item h.items;
+    failures = counted-failures (failed (buffered_source (ascii.device_of old)))
+        (failed (buffered_source (ascii.device_of new))) item h.failures;
     ended = h.ended;
     ends = ascii-ends (ascii.HasEndedAscii new) item h.ends h.kinds;
     faults = ascii-faults false (ascii.place_of new) item h.kinds h.offset;
@@ -257,9 +200,8 @@ module _ {R : Type 0} {g : Ghosts R} (known : R → Option (List ℕ)) (failed :
   over-gives : (old : LimitedItems (AsciiReaderOf R) LimitCounter) → old.ended ≡ true
       → StateGives {R = R} {g = g} known failed (state.Limited old) None (state.Limited old)
   over-gives old over = record {
-    items = none_allowed event_of (items_admitted old) (ascii.ascii_items_to_come (stream_bytes_left known) (iterator_of old))
+    items = none_allowed event_of (StopsIf (λ _. ⊤)) (StopsIf SomeRemain) (items_admitted old) (ascii.ascii_items_to_come (stream_bytes_left known) (iterator_of old))
         (λ items. rw over refl);
-    stops = stays (ascii.ascii_items_to_come (stream_bytes_left known) (iterator_of old));
     failures = refl;
     ended = λ _. refl;
     ends = over;
@@ -267,11 +209,6 @@ module _ {R : Type 0} {g : Ghosts R} (known : R → Option (List ℕ)) (failed :
     limits = λ none. none;
     inside = rw over (refl, refl);
   }
-    where
-      stays : (k : Option (List Item))
-          → StopsIfKnown (option_map (items_admitted old) k) None (option_map (items_admitted old) k)
-      stays None = tt
-      stays (Some all) = ap Some (let none : items_admitted old all ≡ [] = rw over refl in none)
 
   pub limited-gives : (old new : LimitedItems (AsciiReaderOf R) LimitCounter) (item : Given)
       → GivesLimited (AsciiGives known failed) old item new
@@ -286,16 +223,17 @@ module _ {R : Type 0} {g : Ghosts R} (known : R → Option (List ℕ)) (failed :
       by false going (asked, gave, passes) =
           let inner = ascii-gives old.inner new.inner asked gave in
           record {
-            items = first_allowed_if_known limited_by IsLimitReached (λ limiter. refl)
-                (λ limiter fault items. refl) old.limiter new.limiter old.ended new.ended
-                (ascii.ascii_items_to_come (stream_bytes_left known) old.inner) (ascii.ascii_items_to_come (stream_bytes_left known) new.inner) asked
+            items = first_allowed_if_known limited_by IsLimitReached (StopsIf (λ _. ⊤))
+                (StopsIf SomeRemain) (StopsIf (λ _. ⊤)) (StopsIf SomeRemain) (λ limiter. refl)
+                (λ limiter fault items. refl) (λ items. (tt, refl))
+                (λ limiter before after p. (limits_remain limiter before p.0, refl))
+                (λ fault. (one-remain {A = Item} (Err fault) [], refl)) old.limiter new.limiter old.ended new.ended
+                (ascii.ascii_items_to_come (stream_bytes_left known) old.inner)
+                (ascii.ascii_items_to_come (stream_bytes_left known) new.inner) asked
                 item going inner.items passes;
-            stops = limited-stops old.ended new.ended old.limiter new.limiter
-                (ascii.ascii_items_to_come (stream_bytes_left known) old.inner) (ascii.ascii_items_to_come (stream_bytes_left known) new.inner) asked
-                item going inner.stops passes;
             failures = passes-count new.ended old.limiter new.limiter asked item
-                (failed (ascii.device_of old.inner).source)
-                (failed (ascii.device_of new.inner).source) inner.failures passes;
+                (failed (buffered_source (ascii.device_of old.inner)))
+                (failed (buffered_source (ascii.device_of new.inner))) inner.failures passes;
             ended = λ over. (let no : false ≡ true → item ≡ None = λ q. cc in no (cc));
             ends = passes-ends new.ended old.limiter new.limiter asked item passes;
             faults = passes-faults new.ended old.limiter new.limiter asked item
@@ -305,7 +243,8 @@ module _ {R : Type 0} {g : Ghosts R} (known : R → Option (List ℕ)) (failed :
           }
 
   pub begun-ascii : (source : R) (dialect : Dialect) (sequence : BufferedSource R) (old new : AsciiReaderOf R) (item : Given)
-      → sequence.source ≡ source → ascii.device_of old ≡ sequence → sequence.place ≡ 0
+      → buffered_source sequence ≡ source → ascii.device_of old ≡ sequence
+      → sequential_place sequence.inner ≡ 0
       → buffered_bytes sequence ≡ [] → IfSome (known source) (λ bytes. format.Ascii ≡ format_of bytes)
       → ascii.untaken_bytes (stream_bytes_left known) old ≡ option_map input_front
       (stream_bytes_left known sequence)
@@ -316,15 +255,15 @@ module _ {R : Type 0} {g : Ghosts R} (known : R → Option (List ℕ)) (failed :
   begun-ascii source dialect sequence old new item from inside at none is bytes place chosen h =
       chosen-gives {g = g} known failed source None dialect (state.Ascii old) (state.Ascii new) item
       (fresh-text known dialect source sequence old from at none is bytes place chosen) refl
-      (subst (λ n. ItemCountsIo item n (failed (ascii.device_of new).source))
-      (ap (λ (s : BufferedSource R). failed s.source) inside ∙ ap failed from)
+      (subst (λ n. CountsIo item n (failed (buffered_source (ascii.device_of new))))
+      (ap (λ (s : BufferedSource R). failed (buffered_source s)) inside ∙ ap failed from)
       (counted-failures _ _ item h.failures))
       (old, place, chosen, refl, h) (ascii-gives old new item h)
 
   pub begun-limited : (source : R) (limits : Limits) (dialect : Dialect) (sequence : BufferedSource R) (fresh : AsciiReaderOf R)
       (old new : LimitedItems (AsciiReaderOf R) LimitCounter) (item : Given) → items_admitted old ≡ limited_items limits
-      → iterator_of old ≡ fresh → sequence.source ≡ source → ascii.device_of fresh ≡ sequence
-      → sequence.place ≡ 0 → buffered_bytes sequence ≡ []
+      → iterator_of old ≡ fresh → buffered_source sequence ≡ source
+      → ascii.device_of fresh ≡ sequence → sequential_place sequence.inner ≡ 0 → buffered_bytes sequence ≡ []
       → IfSome (known source) (λ bytes. format.Ascii ≡ format_of bytes)
       → ascii.untaken_bytes (stream_bytes_left known) fresh
       ≡ option_map input_front (stream_bytes_left known sequence)
@@ -340,7 +279,7 @@ module _ {R : Type 0} {g : Ghosts R} (known : R → Option (List ℕ)) (failed :
       ∙ ap (option_map (limited_items limits))
       (fresh-text known dialect source sequence fresh from at none is bytes place chosen)
       ∙ joined limits dialect (known source)) refl
-      (subst (λ n. ItemCountsIo item n (failed (ascii.device_of (iterator_of new)).source))
-      (ap (λ (r : AsciiReaderOf R). failed (ascii.device_of r).source) is-fresh
-      ∙ ap (λ (s : BufferedSource R). failed s.source) inside ∙ ap failed from) gives.failures)
+      (subst (λ n. CountsIo item n (failed (buffered_source (ascii.device_of (iterator_of new)))))
+      (ap (λ (r : AsciiReaderOf R). failed (buffered_source (ascii.device_of r))) is-fresh
+      ∙ ap (λ (s : BufferedSource R). failed (buffered_source s)) inside ∙ ap failed from) gives.failures)
       (old, ap ascii.place_of is-fresh ∙ place, ap ascii.dialect_of is-fresh ∙ chosen, refl, h) gives

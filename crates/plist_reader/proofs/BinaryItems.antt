@@ -1,25 +1,26 @@
 -- What the reader of the binary format yields as the chosen one.
-use Rattle.std.proofs.Common.{◌≡◌, ℕ, ◌^◌, Bool, true, false, List, [], ◌∷◌, Option, None, Some, Ok, Err, IfSome, OnErr, MatchBool, MatchOption, inr, ap, ◌∙◌, subst}
-use Rattle.std.specs.Option.{is_some, option_map}
+use Rattle.std.proofs.Common.{◌≡◌, ℕ, ◌^◌, Bool, true, false, List, [], ◌∷◌, Option, None, Some, Ok, Err, IfSome, OnErr, MatchOption, inr, ap, ◌∙◌, subst}
+use Rattle.std.specs.Option.{is_some}
 use Rattle.plist_base.specs.declared.source.Source.{Ghosts}
 use Rattle.plist_base.specs.Events.{Item, event_of}
-use Rattle.plist_base.proofs.FirstItems.{first_of_known}
+use Rattle.plist_base.proofs.FirstItems.{first_of_known, first_weaker}
+use Rattle.plist_base.specs.FirstItems.{StopsIf}
+use Rattle.std.specs.Prelude.{⊤}
 use Rattle.std.proofs.lemmas.Option.{IfSome_then}
 use Rattle.plist_base.specs.declared.limits.Limits.{Limits}
 use Rattle.plist_base.specs.Limits.{items_within}
-use Rattle.plist_base.specs.Faults.{FaultKind, Io, UnexpectedEof, kind_of, error_kind_of}
-use Rattle.plist_base.specs.Sources.{ItemCountsIo, IsOffsetWithin}
-use Rattle.plist_base.proofs.Refusals.{MatchFault-weaker}
+use Rattle.plist_base.specs.Faults.{FaultKind, Io, UnexpectedEof}
+use Rattle.plist_base.specs.Sources.{CountsIo, IsOffsetWithin}
 use Rattle.plist_binread.specs.BinaryReader as binary
 use Rattle.plist_decode.specs.FaultOffsets.{HasOffset, MatchGiven, ItemGivenWithin}
-use Rattle.plist_binread.specs.Remaining.{SomeRemain, AllocatesFirst}
+use Rattle.plist_binread.specs.Remaining.{SomeRemain, AllocatesFirst, AllocatesNext}
 use Rattle.plist_ascii.specs.declared.dialect.Dialect.{Dialect}
 use Rattle.plist_reader.specs.declared.reader.State.TheVariants as state
 use Rattle.plist_reader.specs.Reader.{BinaryReaderOf, items_of_input, items_in_format, StateGives}
 use Rattle.plist_decode.specs.declared.format.Format.TheVariants as format
 use Rattle.plist_decode.specs.Formats.{format_of}
 use Rattle.plist_decode.proofs.Fronts.{within-placed}
-use Rattle.plist_reader.proofs.ReaderItems.{EndsAfter, Given, IsReaderItem, StopsIfKnown, chosen-gives, input_within, one-remain, same-items}
+use Rattle.plist_reader.proofs.ReaderItems.{EndsAfter, Given, IsReaderItem, chosen-gives, input_within, one-remain, same-items}
 use Rattle.plist_base.specs.Unfolding.{items_of_file}
 use Rattle.plist_ascii.specs.declared.dialect.Dialect.TheVariants.{Lax}
 
@@ -29,23 +30,11 @@ wants-remain : (before : List Item) → AllocatesFirst before → SomeRemain bef
 wants-remain [] h = absurd h
 wants-remain (x ∷ xs) h = one-remain x xs
 
-either-remain : (new : Bool) (before : List Item) → MatchBool new (SomeRemain before)
-    (AllocatesFirst before)
-    → SomeRemain before
+either-remain : (new : Bool) (before : List Item) → AllocatesNext new before → SomeRemain before
 either-remain true before h = h
 either-remain false before h = wants-remain _ h
 
 -- ---- one call
-
-binary-stops : (k l : Option (List ℕ)) (f g : List ℕ → List Item) (new : Bool) (item : Given)
-    → l ≡ k → IfSome k (λ bytes. binary.GivesAs event_of new (f bytes) item (g bytes))
-    → StopsIfKnown (option_map f k) item (option_map g l)
-binary-stops None l f g new item e h = tt
-binary-stops (Some bytes) l f g new None e h = ap (option_map g) e ∙ ap Some h.1
-binary-stops (Some bytes) l f g new (Some (Ok event)) e h = tt
-binary-stops (Some bytes) l f g new (Some (Err error)) e h =
-    MatchFault-weaker (kind_of (error_kind_of error)) (λ m. ap (option_map g) e ∙ ap Some m.0)
-    (λ m. (ap (option_map g) e ∙ ap Some m.0, either-remain new (f bytes) m.1)) (λ _. tt) h.1
 
 -- after an error the reader has ended
 over-ends : (E : Type 0) (item : Given) → MatchOption item E (λ answer. OnErr answer E)
@@ -88,13 +77,15 @@ module _ {R : Type 0} {g : Ghosts R} where
   pub binary-gives : (old new : BinaryReaderOf R g) (item : Given) → binary.GivesBinary old item new
       → StateGives g.known g.failures (state.Binary old) item (state.Binary new)
   binary-gives old new item h = record {
-    items = first_of_known event_of (g.known (binary.binary_source old))
+    items = first_of_known event_of (StopsIf (λ _. ⊤)) (StopsIf SomeRemain)
+        (g.known (binary.binary_source old))
         (g.known (binary.binary_source new)) (λ bytes. binary.items_to_come bytes old)
         (λ bytes. binary.items_to_come bytes new) item h.unchanged
-        (IfSome_then (g.known (binary.binary_source old)) h.items (λ bytes gives. gives.0));
-    stops = binary-stops (g.known (binary.binary_source old))
-        (g.known (binary.binary_source new)) (λ bytes. binary.items_to_come bytes old)
-        (λ bytes. binary.items_to_come bytes new) (binary.is_new old) item h.unchanged h.items;
+        (IfSome_then (g.known (binary.binary_source old)) h.items (λ bytes gives.
+        first_weaker event_of (StopsIf SomeRemain) (StopsIf (AllocatesNext (binary.is_new old)))
+        (StopsIf (λ _. ⊤)) (StopsIf SomeRemain) (λ before after p. (tt, p.1))
+        (λ before after p. (either-remain (binary.is_new old) before p.0, p.1))
+        (binary.items_to_come bytes old) (binary.items_to_come bytes new) item gives));
     failures = h.failures;
     ended = h.ended;
     ends = over-ends (binary.HasEndedBinary new) item h.ends;
@@ -123,6 +114,6 @@ module _ {R : Type 0} {g : Ghosts R} where
       (λ bytes. binary.items_to_come bytes old)
       (input_within dialect limits) (ap g.known at) (binary-items limits dialect (g.known source) old is begins))
       limited
-      (subst (λ n. ItemCountsIo item n (g.failures (binary.binary_source new)))
+      (subst (λ n. CountsIo item n (g.failures (binary.binary_source new)))
       (ap g.failures at) h.failures)
       (old, fresh, limited, h) (binary-gives old new item h)

@@ -1,25 +1,25 @@
 -- What the chosen reader yields: what both formats share, and what is yielded if the choice fails.
 use Rattle.std.proofs.Common.{◌≡◌, inl, inr, ◌⊎◌, ℕ, ◌<◌, Bool, true, List, [], ◌∷◌, length, Option, None, Some, Err, IfSome, MatchOption, refl, ap, sym, ◌∙◌, subst, arith}
 use Rattle.std.specs.Option.{is_some, option_map}
-use Rattle.std.specs.Prelude.{Result, ⊤}
+use Rattle.std.specs.Prelude.{IsSomeAnd, Result, ⊤}
 use Rattle.plist_base.specs.declared.error.Error.{Error}
 use Rattle.plist_base.specs.declared.event.Event.{Event}
 use Rattle.plist_base.specs.declared.source.Source.{Ghosts}
 use Rattle.plist_base.specs.Events.{Item, event_of}
-use Rattle.plist_base.specs.FirstItems.{GivesFirst, GivesFirstIfKnown, MatchItem}
+use Rattle.plist_base.specs.FirstItems.{GivesFirst, GivesFirstIfKnown, StopsIf}
 use Rattle.plist_base.specs.declared.limits.Limits.{Limits}
 use Rattle.plist_base.specs.Limits.{items_within, limited_items}
 use Rattle.plist_base.specs.Faults.{FaultKind, Fault, Io, MatchFault, XmlUnsupported, IsIo, fault_at, kind_of, error_kind_of, fault_of}
 use Rattle.plist_base.specs.Outcomes.{IfFault}
-use Rattle.plist_base.specs.Sources.{ItemCountsIo}
-use Rattle.plist_base.proofs.Refusals.{MatchFault-at, MatchFault-weaker}
+use Rattle.plist_base.specs.Sources.{CountsIo}
+use Rattle.plist_base.proofs.Refusals.{MatchFault-weaker}
 use Rattle.plist_decode.specs.FaultOffsets.{HasOffset, MatchGiven}
 use Rattle.plist_ascii.specs.Ascii.{IsFaultOfBytes}
 use Rattle.plist_ascii.specs.declared.dialect.Dialect.{Dialect}
 use Rattle.plist_binread.specs.Remaining.{SomeRemain}
 use Rattle.plist_reader.specs.declared.reader.State.{State}
 use Rattle.plist_reader.specs.declared.reader.State.TheVariants as state
-use Rattle.plist_reader.specs.Reader.{BeginsInside, state_items, is_limited_in, items_in_format, items_of_dialect, IsReaderFault, StateGives, HoldsSource, source_in}
+use Rattle.plist_reader.specs.Reader.{BeginsInside, state_items, is_limited_in, items_in_format, items_of_dialect, IsReaderFault, StateGives, source_in}
 use Rattle.plist_decode.specs.declared.format.Format.TheVariants as format
 use Rattle.plist_decode.specs.Formats.{format_of}
 
@@ -30,17 +30,17 @@ Given = Option (Result Event Error)
 pub one-remain : {A : Type 0} (x : A) (xs : List A) → 0 < length (x ∷ xs)
 one-remain x xs = omega arith
 
+-- the item is the first that remained, or an error that may take its place
+abbrev pub First : (before : List Item) → Given → (after : List Item) → Type 0
+First = GivesFirst event_of (StopsIf (λ _. ⊤)) (StopsIf SomeRemain)
+
+abbrev pub FirstIfKnown : (before : Option (List Item)) → Given → (after : Option (List Item))
+    → Type 0
+FirstIfKnown = GivesFirstIfKnown event_of (StopsIf (λ _. ⊤)) (StopsIf SomeRemain)
+
 -- the items of an input in this dialect under optional limits
 abbrev pub input_within : Dialect → Option Limits → List ℕ → List Item
 input_within dialect limits bytes = items_within limits (items_of_dialect dialect bytes)
-
--- if the remaining items are known, no item remains after `None`, `Io` and `OutOfMemory`, and
--- `OutOfMemory` is yielded only if an item remained
-abbrev pub StopsIfKnown : (before : Option (List Item)) → Given → (after : Option (List Item))
-    → Type 0
-StopsIfKnown before item after = IfSome before (λ all.
-    let over = after ≡ Some [] in
-    MatchItem item over (λ _. ⊤) over (over × SomeRemain all) (λ _. ⊤))
 
 -- the reader has ended after `None`, and after a fault that the bytes of ASCII can't have
 abbrev pub EndsAfter : Given → (ended : Type 0) → Type 0
@@ -50,6 +50,12 @@ EndsAfter item ended =
 -- if the item is a fault, a reader can yield it
 abbrev pub IsReaderItem : (limited : Bool) → Given → Type 0
 IsReaderItem limited item = IfSome item (λ answer. IfFault answer (IsReaderFault limited))
+
+-- the source is kept, and its count of failures rises if the item is `Io`, and else is unchanged
+abbrev pub HoldsSource : {R : Type 0} (failed : R → ℕ) (old : Option R) → Given → (new : Option R)
+    → Type 0
+HoldsSource failed old item new =
+    IfSome old (λ source. IsSomeAnd new (λ kept. CountsIo item (failed source) (failed kept)))
 
 -- why no reader was chosen: the source is XML, or a read failed
 abbrev pub IsRefusedKind : FaultKind → Type 0
@@ -61,16 +67,6 @@ pub same-items : (k l : Option (List ℕ)) (f g : List ℕ → List Item) → l 
 same-items None l f g e h = rw e refl
 same-items (Some bytes) l f g e h = rw e (ap Some h)
 
--- after the choice failed, no item remains
-refused-stops : (before : Option (List Item)) (error : Error)
-    → IsRefusedKind (kind_of (error_kind_of error)) → StopsIfKnown before (Some (Err error)) (Some [])
-refused-stops None error h = tt
-refused-stops (Some all) error (inl xml) =
-    MatchFault-at (kind_of (error_kind_of error)) XmlUnsupported _ _ _ xml tt
-refused-stops (Some all) error (inr io) =
-    MatchFault-weaker (kind_of (error_kind_of error)) (λ _. refl) (λ none. absurd none)
-    (λ none. absurd none) io
-
 xml-other : (kind : FaultKind) (X Y Z : Type 0) → kind ≡ XmlUnsupported → Z → MatchFault kind X Y Z
 xml-other kind X Y Z is z = rw is z
 
@@ -78,7 +74,7 @@ xml-other kind X Y Z is z = rw is z
 pub xml-items : (k : Option (List ℕ)) (limits : Option Limits) (dialect : Dialect) (place : ℕ) (error : Error)
     → fault_of error ≡ fault_at XmlUnsupported place
     → IfSome k (λ bytes. format.Xml place ≡ format_of bytes)
-    → IfSome k (λ bytes. GivesFirst event_of (input_within dialect limits bytes) (Some (Err error)) [])
+    → IfSome k (λ bytes. First (input_within dialect limits bytes) (Some (Err error)) [])
 xml-items None limits dialect place error is h = tt
 xml-items (Some bytes) limits dialect place error is h =
     xml-other _ _ _ _ (ap (λ (f : Fault). f.kind) is)
@@ -94,7 +90,7 @@ pub xml-kind : (place : ℕ) (error : Error) → fault_of error ≡ fault_at Xml
 xml-kind place error is = inl (ap (λ (f : Fault). f.kind) is)
 
 pub xml-counts : (place a b : ℕ) (error : Error) → fault_of error ≡ fault_at XmlUnsupported place
-    → b ≡ a → ItemCountsIo {A = Event} (Some (Err error)) a b
+    → b ≡ a → CountsIo {A = Event} (Some (Err error)) a b
 xml-counts place a b error is same =
     let kind = ap (λ (f : Fault). f.kind) is in rw kind same
 
@@ -105,10 +101,10 @@ xml-fault limited place error is = subst (IsReaderFault limited) (sym is) (inl (
 -- a read failed
 pub io-items : (k : Option (List ℕ)) (limits : Option Limits) (dialect : Dialect) (error : Error)
     → IsIo (kind_of (error_kind_of error))
-    → IfSome k (λ bytes. GivesFirst event_of (input_within dialect limits bytes) (Some (Err error)) [])
+    → IfSome k (λ bytes. First (input_within dialect limits bytes) (Some (Err error)) [])
 io-items None limits dialect error io = tt
 io-items (Some bytes) limits dialect error io =
-    MatchFault-weaker (kind_of (error_kind_of error)) (λ _. tt) (λ none. absurd none)
+    MatchFault-weaker (kind_of (error_kind_of error)) (λ _. (tt, refl)) (λ none. absurd none)
     (λ none. absurd none) io
 
 pub io-fault : (limited : Bool) (error : Error) → IsIo (kind_of (error_kind_of error))
@@ -130,8 +126,7 @@ module _ {R : Type 0} {g : Ghosts R} (known : R → Option (List ℕ)) (failed :
       → BeginsInside known failed limits dialect item new → StateGives known failed old item new
       → StateGives known failed (state.Unread source limits dialect) item new
   chosen-gives source limits dialect old new item same limited count inside h = record {
-    items = subst (λ o. GivesFirstIfKnown event_of o item (state_items known new)) same h.items;
-    stops = subst (λ o. StopsIfKnown o item (state_items known new)) same h.stops;
+    items = subst (λ o. FirstIfKnown o item (state_items known new)) same h.items;
     failures = count;
     ended = λ e. absurd e;
     ends = h.ends;
@@ -152,19 +147,18 @@ module _ {R : Type 0} {g : Ghosts R} (known : R → Option (List ℕ)) (failed :
       is-kept : (kept : Option R) → HoldsSource failed (Some other) item kept
           → HoldsSource failed (Some source) item kept
       is-kept None h = h
-      is-kept (Some kept) h = subst (λ n. ItemCountsIo item n (failed kept)) f h
+      is-kept (Some kept) h = subst (λ n. CountsIo item n (failed kept)) f h
 
   -- if the choice fails, its error is yielded
   pub refused-gives : (source other : R) (limits : Option Limits) (dialect : Dialect) (error : Error)
-      → IfSome (known source) (λ bytes. GivesFirst event_of (input_within dialect limits bytes) (Some (Err error)) [])
+      → IfSome (known source) (λ bytes. First (input_within dialect limits bytes) (Some (Err error)) [])
       → IsRefusedKind (kind_of (error_kind_of error))
-      → ItemCountsIo {A = Event} (Some (Err error)) (failed source) (failed other)
+      → CountsIo {A = Event} (Some (Err error)) (failed source) (failed other)
       → IsReaderFault (is_some limits) (fault_of error)
       → StateGives {R = R} {g = g} known failed (state.Unread source limits dialect) (Some (Err error))
       (state.Refused other)
   refused-gives source other limits dialect error items kind count fault = record {
     items = empty (known source) items;
-    stops = refused-stops (option_map (input_within dialect limits) (known source)) error kind;
     failures = count;
     ended = λ e. absurd e;
     ends = inr tt;
@@ -174,7 +168,7 @@ module _ {R : Type 0} {g : Ghosts R} (known : R → Option (List ℕ)) (failed :
   }
     where
       empty : (k : Option (List ℕ))
-          → IfSome k (λ bytes. GivesFirst event_of (input_within dialect limits bytes) (Some (Err error)) [])
-          → GivesFirstIfKnown event_of (option_map (input_within dialect limits) k) (Some (Err error)) (Some [])
+          → IfSome k (λ bytes. First (input_within dialect limits bytes) (Some (Err error)) [])
+          → FirstIfKnown (option_map (input_within dialect limits) k) (Some (Err error)) (Some [])
       empty None h = tt
       empty (Some bytes) h = ([], refl, h)

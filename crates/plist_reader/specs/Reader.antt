@@ -1,5 +1,6 @@
 -- What contracts see of a reader of either format: the items that it hasn't yielded yet.
-use Rattle.std.specs.Prelude.{◌≡◌, ◌⊎◌, ℕ, ◌+◌, ◌^◌, Bool, true, false, List, [], ◌∷◌, ◌++◌, take, drop, Option, None, Some, Result, Err, MatchOption, IsErrAnd, IsSomeAnd, IfSome, is_some, option_map, ⊤}
+use Rattle.std.specs.Io.KnownBytes.{prepend_known}
+use Rattle.std.specs.Prelude.{◌≡◌, ◌⊎◌, ℕ, ◌+◌, ◌^◌, Bool, true, false, List, [], ◌∷◌, take, drop, Option, None, Some, Result, Err, MatchOption, IsErrAnd, IsSomeAnd, IfSome, is_some, option_map, ⊤}
 use Rattle.plist_base.specs.declared.error.Error.{Error}
 use Rattle.plist_base.specs.declared.event.Event.{Event}
 use Rattle.plist_base.specs.declared.source.Source.{Ghosts}
@@ -10,10 +11,10 @@ use Rattle.plist_base.specs.Allowances.{HasEndedLimited, iterator_of}
 use Rattle.plist_base.specs.Limits.{GivesLimited, items_admitted, items_within}
 use Rattle.plist_base.specs.Faults.{Fault, IsIo, XmlUnsupported, fault_of, fault_at}
 use Rattle.plist_base.specs.Events.{Item, event_of}
-use Rattle.plist_base.specs.FirstItems.{GivesFirstIfKnown, MatchItem}
+use Rattle.plist_base.specs.FirstItems.{GivesFirstIfKnown, StopsIf}
 use Rattle.plist_base.specs.Outcomes.{IfFault}
-use Rattle.plist_base.specs.Sequential.{from_place}
-use Rattle.plist_base.specs.Sources.{ItemCountsIo}
+use Rattle.plist_base.specs.Sequential.{left_to_read, sequential_place, sequential_source}
+use Rattle.plist_base.specs.Sources.{CountsIo}
 use Rattle.plist_binread.specs.BinaryReader as binary
 use Rattle.plist_binread.specs.declared.reader.BinaryReader.{BinaryReader}
 use Rattle.plist_decode.specs.declared.counter.Uncounted.{Uncounted}
@@ -54,11 +55,19 @@ items_of_input bytes = items_of_dialect Lax bytes
 abbrev pub buffered_bytes : {R : Type 0} → BufferedSource R → List ℕ
 buffered_bytes reader = drop reader.from (take reader.end reader.window)
 
+-- the source from which the bytes are read
+abbrev pub buffered_source : {R : Type 0} → BufferedSource R → R
+buffered_source reader = sequential_source reader.inner
+
+-- the number of bytes that have been read from the source
+abbrev pub buffered_place : {R : Type 0} → BufferedSource R → ℕ
+buffered_place reader = sequential_place reader.inner
+
 -- all bytes of a buffered source that haven't been consumed yet, if its bytes are known
 abbrev pub stream_bytes_left : {R : Type 0} → (R → Option (List ℕ)) → BufferedSource R
     → Option (List ℕ)
 stream_bytes_left known reader =
-    option_map (λ all. buffered_bytes reader ++ from_place reader.place all) (known reader.source)
+    prepend_known (buffered_bytes reader) (left_to_read known reader.inner)
 
 -- the type of the reader of a binary source, which doesn't count what it decodes
 abbrev pub BinaryReaderOf : (R : Type 0) → Ghosts R → Type 0
@@ -84,8 +93,9 @@ module _ {R : Type 0} {g : Ghosts R} (known : R → Option (List ℕ)) where
 abbrev pub source_in : {R : Type 0} {g : Ghosts R} → State R g → Option R
 source_in (state.Unread source limits dialect) = Some source
 source_in (state.Binary reader) = Some (binary.binary_source reader)
-source_in (state.Ascii reader) = Some (ascii.device_of reader).source
-source_in (state.Limited reader) = Some (ascii.device_of (iterator_of reader)).source
+source_in (state.Ascii reader) = Some (buffered_source (ascii.device_of reader))
+source_in (state.Limited reader) =
+    Some (buffered_source (ascii.device_of (iterator_of reader)))
 source_in (state.Refused source) = Some source
 source_in state.Moved = None
 
@@ -134,16 +144,12 @@ IsReaderFault limited fault =
     ⊎ MatchGiven fault.kind (HasOffset fault.offset) (fault.offset ≡ None) (HasOffset fault.offset)
     ((limited ≡ true) × (fault.offset ≡ None))
 
--- the source is kept, and its count of failures rises if the item is `Io`, and else is unchanged
-abbrev pub HoldsSource : {R : Type 0} (failed : R → ℕ) (old : Option R)
-    → Option (Result Event Error) → (new : Option R) → Type 0
-HoldsSource failed old item new = IfSome old (λ source.
-    IsSomeAnd new (λ kept. ItemCountsIo item (failed source) (failed kept)))
-
 -- one call of the ASCII reader's `next`
 abbrev pub AsciiGives : {R : Type 0} (known : R → Option (List ℕ)) (failed : R → ℕ)
     → AsciiReaderOf R → Option (Result Event Error) → AsciiReaderOf R → Type 0
-AsciiGives known failed = ascii.GivesAscii (stream_bytes_left known) (λ b. Some (failed b.source))
+AsciiGives known failed =
+    ascii.GivesAscii (stream_bytes_left known)
+    (λ bytes. Some (failed (buffered_source bytes)))
 
 module _ {R : Type 0} {g : Ghosts R} (known : R → Option (List ℕ)) (failed : R → ℕ) where
   -- the first item is that of a new reader, or a fault because no reader was chosen
@@ -174,11 +180,13 @@ module _ {R : Type 0} {g : Ghosts R} (known : R → Option (List ℕ)) (failed :
   -- one call of `next`, as it changes the state
   pub record StateGives (old : State R g) (item : Option (Result Event Error)) (new : State R g)
       : Type 0 where
-    pub items : GivesFirstIfKnown event_of (state_items known old) item (state_items known new)
-    -- no item remains after `None`, `Io` and `OutOfMemory`, which is yielded only if one remained
-    pub stops : IfSome (state_items known old) (λ all. let over = state_items known new ≡ Some [] in
-        MatchItem item over (λ _. ⊤) over (over × SomeRemain all) (λ _. ⊤))
-    pub failures : HoldsSource failed (source_in old) item (source_in new)
+    -- the item is the first that remained, and the others remain; no item remains after `None`, `Io`
+    -- and `OutOfMemory`, and `OutOfMemory` is yielded only if an item remained
+    pub items : GivesFirstIfKnown event_of (StopsIf (λ _. ⊤)) (StopsIf SomeRemain)
+        (state_items known old) item (state_items known new)
+    -- the source is kept, and its count of failures rises if the item is `Io`, and else is unchanged
+    pub failures : IfSome (source_in old) (λ source. IsSomeAnd (source_in new)
+        (λ kept. CountsIo item (failed source) (failed kept)))
     pub ended : HasEndedState old → item ≡ None
     -- the reader has ended after `None`, and after a fault that the bytes of ASCII can't have
     pub ends : let over = HasEndedState new in

@@ -1,11 +1,12 @@
-//! Reads the bytes of a source one after another, from the first one on.
+//! Reads the bytes of a source one after another, and buffers them.
 
 ghost use Rattle.std.specs.Prelude.{◌≡◌, ◌≤◌, Some};
 ghost use Rattle.plist_base.specs.Sources.{CountsFailure};
 
 use plist_ascii::ByteReader;
-use plist_base::Source;
+use plist_base::{Sequential, Source};
 use std::io;
+use std::io::Read;
 
 // The number of bytes that one read of the source requests.
 const WINDOW: usize = 512;
@@ -14,11 +15,18 @@ const WINDOW: usize = 512;
 ///
 /// It calls the source only if a byte is requested and none is buffered, and buffers all bytes that
 /// the call returned. The failures that it counts are those of the source.
+///
+/// An [`AsciiReader`](plist_ascii::AsciiReader) over a `BufferedSource` counts the failures of the
+/// source, as [`Reader`](crate::Reader) does. One over a [`Sequential`] doesn't, since every `Read`
+/// is a `ByteReader` that counts no failures.
+///
+/// ```text
+/// let mut reader = AsciiReader::new(alloc, BufferedSource::new(source));
+/// while let Some(item) = reader.next() { .. }
+/// ```
 #[derive(Drop)]
 pub struct BufferedSource<R> {
-    source: R,
-    // The number of bytes that were read from the source, which is the offset of the next read.
-    place: u64,
+    inner: Sequential<R>,
     // The bytes up to `end` are those that the last read returned. The bytes up to `from` have been
     // consumed.
     window: [u8; WINDOW],
@@ -30,21 +38,27 @@ pub struct BufferedSource<R> {
 impl<R: Source> BufferedSource<R> {
     ghost use Rattle.std.specs.Prelude.{◌≡◌, [], OnOk};
     ghost use Rattle.std.specs.Io.KnownBytes.{IsAtEnd};
-    ghost use Rattle.plist_reader.specs.Reader.{buffered_bytes, stream_bytes_left};
+    ghost use Rattle.plist_reader.specs.Reader.{buffered_bytes, buffered_place, buffered_source, stream_bytes_left};
 
     /// Creates a `BufferedSource` from which no byte has been read.
     pub fn new(source: R) -> Self
-        ensures source { result.source ≡ source }
-        ensures place { result.place ≡ 0 }
+        ensures source { buffered_source result ≡ source }
+        ensures place { buffered_place result ≡ 0 }
         ensures buffered_bytes { buffered_bytes result ≡ [] }
     {
         BufferedSource {
-            source,
-            place: 0,
+            inner: Sequential::new(source),
             window: [0; WINDOW],
             from: 0,
             end: 0,
         }
+    }
+
+    /// Returns the source. Bytes that are buffered but not consumed are lost.
+    pub fn into_inner(self) -> R
+        ensures { result ≡ buffered_source self }
+    {
+        self.inner.into_inner()
     }
 
     // Reads from the source if no byte is buffered. After a success a byte is buffered, unless none
@@ -54,32 +68,26 @@ impl<R: Source> BufferedSource<R> {
             ≡ stream_bytes_left R.known self.old) }
         ensures end { OnOk result (buffered_bytes self.new ≡ [] → IsAtEnd
             (stream_bytes_left R.known self.new)) }
-        ensures failures { CountsFailure result (R.failures self.old.source)
-            (R.failures self.new.source) }
+        ensures failures { CountsFailure result (R.failures (buffered_source self.old))
+            (R.failures (buffered_source self.new)) }
     {
         if self.from < self.end {
             return Ok(());
         }
-        let limit = u64::MAX - self.place;
-        if limit == 0 {
-            return Ok(());
-        }
-        let got = self.source.read_at(self.place, &mut self.window)?;
-        let count = limit.min(got as u64);
+        let count = self.inner.read(&mut self.window)?;
         self.from = 0;
-        self.end = count as usize;
-        self.place += count;
+        self.end = count;
         Ok(())
     }
 }
 
 impl<R: Source> ByteReader for BufferedSource<R> {
     ghost use Rattle.std.specs.Prelude.{Some};
-    ghost use Rattle.plist_reader.specs.Reader.{stream_bytes_left, buffered_bytes};
+    ghost use Rattle.plist_reader.specs.Reader.{buffered_bytes, buffered_source, stream_bytes_left};
 
     ghost remaining = { stream_bytes_left R.known };
 
-    ghost failures = { λ s. Some (R.failures s.source) };
+    ghost failures = { λ s. Some (R.failures (buffered_source s)) };
 
     ghost window = { buffered_bytes };
 

@@ -8,5 +8,6 @@
 mod bytes;
 mod reader;
 
+pub use bytes::BufferedSource;
 pub use plist_decode::format::{Format, format_of};
 pub use reader::Reader;

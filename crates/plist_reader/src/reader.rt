@@ -120,6 +120,13 @@ fn begin<R: Source>(
 /// `XmlUnsupported`, with the offset of that byte. Otherwise, even for empty input, it acts as an
 /// [`AsciiReader`]. The reader makes this choice when the first item is requested.
 ///
+/// ```text
+/// let mut reader = Reader::new(alloc, bytes);
+/// while let Some(item) = reader.next() {
+///     if let Event::String(text) = item? { .. }
+/// }
+/// ```
+///
 /// # Errors
 ///
 /// - `XmlUnsupported` if the input is XML. The reader has ended then.

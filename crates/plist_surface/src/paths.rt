@@ -98,6 +98,12 @@ pub fn sequential(it: plist::stream::Sequential<Vec<u8>>) -> plist_base::Sequent
     it
 }
 
+pub fn buffered_source(
+    it: plist::stream::BufferedSource<Vec<u8>>,
+) -> plist::BufferedSource<Vec<u8>> {
+    it
+}
+
 pub fn seeking(
     it: plist::stream::Seeking<std::io::Cursor<Vec<u8>>>,
 ) -> plist_base::Seeking<std::io::Cursor<Vec<u8>>> {

@@ -2,6 +2,7 @@
 
 ghost use Rattle.std.specs.Prelude.{Some};
 
+use plist::stream::BufferedSource;
 use plist_base::{Seeking, Sequential, Source};
 use std::io;
 use std::io::{Read, Seek};
@@ -44,5 +45,10 @@ pub fn seeking_calls<R: Read + Seek + Drop>(inner: R, buf: &mut [u8]) -> R {
 pub fn sequential_calls(bytes: Vec<u8>, buf: &mut [u8]) -> Owned {
     let mut stream: Sequential<Owned> = Sequential::new(Owned { bytes });
     let _read: io::Result<usize> = stream.read(buf);
+    stream.into_inner()
+}
+
+pub fn buffered_calls(bytes: Vec<u8>) -> Owned {
+    let stream: BufferedSource<Owned> = BufferedSource::new(Owned { bytes });
     stream.into_inner()
 }

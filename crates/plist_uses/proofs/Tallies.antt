@@ -7,7 +7,7 @@ use Rattle.plist_base.specs.declared.error.Error.{Error}
 use Rattle.plist_base.specs.declared.event.Event.{Event}
 use Rattle.plist_base.specs.Events.{PlainEvent, Item, event_of, item_of}
 use Rattle.plist.proofs.PredictedItems.{event-more}
-use Rattle.plist_base.specs.FirstItems.{GivesFirstIfKnown}
+use Rattle.plist_reader.proofs.ReaderItems.{FirstIfKnown}
 use Rattle.plist_reader.specs.Reader.{items_of_input}
 use Rattle.plist_uses.specs.declared.counting.Counts.{Counts}
 use Rattle.plist_base.specs.Faults.{MatchFault, error_kind_of, fault_of, kind_of}
@@ -61,7 +61,7 @@ tells-more taken event old new tell one = record {
 
 -- an item was yielded and counted
 pub counted : (all before after : Option (List Item)) (item : Result Event Error)
-    (old new : Counts) → CountedSoFar all before old → GivesFirstIfKnown event_of before (Some item) after
+    (old new : Counts) → CountedSoFar all before old → FirstIfKnown before (Some item) after
     → CountsItem (item_of item) old new → CountedSoFar all after new
 counted None before after item old new so_far gives one = tt
 counted (Some items) before after (Err error) old new so_far gives one = absurd one
@@ -78,14 +78,14 @@ counted (Some items) before after (Ok event) old new (taken, left, is, split, te
 -- nothing more was yielded
 pub all-counted : (known : Option (List ℕ)) (all before after : Option (List Item))
     (counts : Counts) → all ≡ option_map items_of_input known → CountedSoFar all before counts
-    → GivesFirstIfKnown event_of before None after → IfSome known
+    → FirstIfKnown before None after → IfSome known
     (λ bytes. AreCountsOf (items_of_input bytes) counts)
 all-counted None all before after counts from so_far gives = tt
 all-counted (Some bytes) all before after counts from so_far gives =
     let (taken, left, is, split, tell) = rw from at so_far in
     let goes = rw is at gives in (
       taken,
-      split ∙ ap (λ xs. map Ok taken ++ xs) goes.2 ∙ append-nil (map Ok taken),
+      split ∙ ap (λ xs. map Ok taken ++ xs) goes.2.0 ∙ append-nil (map Ok taken),
       tell,
     )
 
@@ -93,7 +93,7 @@ all-counted (Some bytes) all before after counts from so_far gives =
 pub stopped : (known : Option (List ℕ)) (all before after : Option (List Item))
     (item : Result Event Error) (error : Error) (counts : Counts)
     → all ≡ option_map items_of_input known → CountedSoFar all before counts
-    → GivesFirstIfKnown event_of before (Some item) after → item ≡ Err error → IfSome known (λ bytes.
+    → FirstIfKnown before (Some item) after → item ≡ Err error → IfSome known (λ bytes.
     MatchFault (kind_of (error_kind_of error)) ⊤ ⊤
     (StopAt (items_of_input bytes) (fault_of error)))
 stopped None all before after item error counts from so_far gives failed = tt

@@ -44,7 +44,7 @@ pub struct Events<'a> {
 }
 
 impl<'a> Events<'a> {
-    ghost use Rattle.plist.specs.Events.{ComesNext, GivesFirstOf};
+    ghost use Rattle.plist.specs.Events.{ComesNext, GivesEventOf};
 
     pub(crate) fn new(alloc: Global, value: &'a Value) -> Events<'a>
         ensures { remaining_events result ≡ bracketing (tree_of value.now) }
@@ -103,7 +103,7 @@ impl<'a> Events<'a> {
     // Returns the first event of a value. Its other events remain to be yielded.
     fn begin(&mut self, value: &'a Value) -> Result<Event<'a>, Error>
         requires { self.old.value ≡ None }
-        ensures { GivesFirstOf (bracketing (tree_of value.now) ++ remaining_events self.old)
+        ensures { GivesEventOf (bracketing (tree_of value.now) ++ remaining_events self.old)
             (Some result) self.new }
     {
         match value {

@@ -1,6 +1,6 @@
 -- What calls of an input do to the bytes that remain, to the number of bytes taken, and to the
 -- count of failures, and which errors they return.
-use Rattle.std.specs.Prelude.{◌≡◌, ℕ, ◌+◌, ◌-◌, ◌^◌, ◌<◌, ◌≤◌, Bool, true, false, List, [], ◌∷◌, ◌++◌, length, take, drop, Option, None, Some, Result, Ok, Err, IfOk, IfSome, IsSome, MatchOption, MatchResult, slice_get}
+use Rattle.std.specs.Prelude.{◌≡◌, ℕ, ◌+◌, ◌-◌, ◌^◌, ◌<◌, ◌≤◌, Bool, true, false, List, [], ◌∷◌, ◌++◌, length, take, drop, Option, None, Some, Result, Ok, Err, IfErr, IfOk, IfSome, IsSome, MatchOption, MatchResult, slice_get}
 use Rattle.std.specs.Option.{option_map, option_map_or}
 use Rattle.std.specs.declared.alloc.Global.{Global}
 use Rattle.std.specs.declared.vec.Vec.{Vec}
@@ -160,3 +160,13 @@ module _ {R : Type 0} (known : R → Option (List ℕ)) where
   abbrev pub AllocatesForText : (List ℕ → Token) → Input R → TokenFault → Type 0
   AllocatesForText front old f =
       f ≡ fault.OutOfMemory → IfKnown (unread known old) (λ xs. IsTextToken (front xs).gives)
+
+  -- what a call does that looks at the next byte without taking it
+  pub record LooksAhead (window : R → List ℕ) (failed : R → Option ℕ) (old : Input R)
+      (answer : Result (Option ℕ) TokenFault) (new : Input R) : Type 0 where
+    pub next : IfOk answer (λ byte. Looks old byte new)
+    pub fault : IfErr answer (λ f. f ≡ fault.Io)
+    -- if a byte is returned, it is at hand
+    pub hand : IfCame answer (λ _. 0 < length (hand window new))
+    pub place : new.taken ≡ old.taken
+    pub failures : CountsFailed failed old answer new

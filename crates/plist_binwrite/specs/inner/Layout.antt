@@ -8,7 +8,7 @@ use Rattle.plist_base.specs.declared.fixed_buffer.FixedBuffer.{FixedBuffer}
 use Rattle.plist_base.specs.Trees.{Tree}
 use Rattle.plist_base.specs.Writing.{Answer}
 use Rattle.plist_base.specs.declared.sink.Sink.{Sink}
-use Rattle.plist_base.specs.Object.{Object, high_half}
+use Rattle.plist_base.specs.Object.{Object}
 use Rattle.plist_buffer.specs.Children.{half_of}
 use Rattle.plist_buffer.specs.Occurrences.{OccursAt}
 use Rattle.plist_buffer.specs.declared.children.Half.{Half}
@@ -53,7 +53,7 @@ module _ (plan : FilePlan) where
   -- the bytes of a collection: its length, and the references to its keys and its items or values
   abbrev pub collection_form : CountedKind → (index : ℕ) → List ℕ
   collection_form kind index =
-      length_form (high_half kind) (length (half_of (events_in plan.given) Values index))
+      length_form kind (length (half_of (events_in plan.given) Values index))
       ++ (references_of Keys index ++ references_of Values index)
 
   -- references are pushed to some of the events at these indices, in order; `old` and `new` are the

@@ -110,4 +110,5 @@ events_left walk = replaced_events (objects_in walk) (events_in_levels walk)
 -- the remaining events begin with this one
 abbrev pub GivesItemOfUid : ArchiveWalk → Option (Result Event Error) → ArchiveWalk → Type 0
 GivesItemOfUid old item new =
-    GivesFirst event_of (map Ok (events_left old)) item (map Ok (events_left new))
+    GivesFirst event_of (λ _ _. ⊤) (λ _ _. ⊤) (map Ok (events_left old)) item
+    (map Ok (events_left new))

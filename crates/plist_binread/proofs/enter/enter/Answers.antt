@@ -197,12 +197,17 @@ there g c =
     known_decoded _ _ c.args.walk.now _ c.requires.known c.in_ok-kind.ensures.below _ _
     (rw c.in-At.is at c.in_ok-kind.ensures.found) (fetched g c).decodes
 
-pub returns-then-cache_or_open-clause-known : goal.returns-then-cache_or_open-clause-known
-returns-then-cache_or_open-clause-known g c =
-    known_opens _ _ c.args.walk.now c.args.reference.number c.requires.known c.in_ok-kind.ensures.below
-    c.in-At.place _ c.cache_or_open.new.walk
-    (there g (goal.at.returns-then-cache_or_open-clause-known g c).After-cache_or_open)
-    (c.cache_or_open.ensures.yields c.if-cache_or_open.true)
+pub returns-then-cache_or_open-clause-kept : goal.returns-then-cache_or_open-clause-kept
+returns-then-cache_or_open-clause-kept g c = record {
+  size = search rules;
+  known_walk = known_opens _ _ c.args.walk.now c.args.reference.number c.requires.known
+      c.in_ok-kind.ensures.below c.in-At.place _ c.cache_or_open.new.walk
+      (there g (goal.at.returns-then-cache_or_open-clause-kept g c).After-cache_or_open)
+      (c.cache_or_open.ensures.yields c.if-cache_or_open.true);
+  bounds = search rules;
+  counted = search rules;
+  unchanged = search rules;
+}
 
 pub returns-clause-handed : goal.returns-clause-handed
 returns-clause-handed g c =

@@ -16,7 +16,7 @@ returns-in-Some g c =
         sets = is;
         large = large_text c.args.bytes.now _ c.requires is;
         fault = λ end. tt;
-        failures = λ count. refl;
+        never_io = tt;
       };
       taken = c.string.ensures;
     }
@@ -28,7 +28,7 @@ returns-in-None g c = record {
     sets = c.refuse_object.ensures.refused _ (text-not_utf8 c.args.bytes.now c.in-None.ensures);
     large = tt;
     fault = c.refuse_object.ensures.fault;
-    failures = c.refuse_object.ensures.failures;
+    never_io = c.refuse_object.ensures.never_io;
   };
   taken = refl;
 }

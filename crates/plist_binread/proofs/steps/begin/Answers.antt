@@ -66,7 +66,7 @@ pub returns-clause-objects : goal.returns-clause-objects
 returns-clause-objects g c =
     known_counted (g.S.Source.known c.args.source.now) c.in_ok-head.head c.enter.result
     c.enter.new.decoder.slot c.enter.new.walk
-    (c.enter.ensures.size ∙ count g (goal.at.returns-clause-objects g c).In_ok-tags)
+    (c.enter.ensures.kept.size ∙ count g (goal.at.returns-clause-objects g c).In_ok-tags)
     (rw (← c.in_ok-head.ensures.answer) at c.read.ensures.value)
 
 pub invariant_of-walk : goal.invariant_of-walk
@@ -112,7 +112,7 @@ returns-clause-handed g c =
     record {
       event = h.event;
       is = record {
-        first = rw c.enter.ensures.bounds (known_begun
+        first = rw c.enter.ensures.kept.bounds (known_begun
             (g.S.Source.known c.args.source.now) (g.S.Source.known c.read.new.source)
             c.in_ok-head.head (bounds g there) c.in_ok-tags.tags.items c.args.walk.now.frames
             c.enter.new.walk.frames (result_in c.enter.result c.enter.new.decoder.slot) h.event

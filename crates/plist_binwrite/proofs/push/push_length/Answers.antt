@@ -1,4 +1,5 @@
 use Rattle.std.proofs.Common.{◌∙◌, ◌++◌, ap, append_assoc}
+use Rattle.plist_base.specs.Object.{byte_of}
 use Rattle.plist_base.specs.Sinks.{buffered}
 use Rattle.std.specs.Int.{bytes_high_first}
 use Rattle.plist_binwrite.proofs.NumberForms.{length_short, length_told}
@@ -13,7 +14,7 @@ pub returns-clause-pushed : goal.returns-clause-pushed
 returns-clause-pushed c =
     let w = c.least_width-width.result in
     rw (length_told _ c.args.count w c.encode-3.result c.in_default.ensures.long
-    c.least_width-width.ensures.value (c.encode-3.ensures ∙ c.number_marker.ensures))
+    c.least_width-width.ensures.value (c.encode-3.ensures ∙ ap byte_of c.number_marker.ensures))
     at (c.push_number.ensures.pushed
     ∙ ap (λ l. l ++ bytes_high_first w c.args.count)
     (rw (c.encode-2.ensures, c.follows.ensures) at c.push-2.ensures.pushed)

@@ -1,4 +1,5 @@
 use Rattle.std.proofs.Common.{◌++◌, ap, append_assoc, length, ◌∙◌}
+use Rattle.plist_base.specs.declared.marker.CountedKind.TheVariants as kind
 use Rattle.plist_base.specs.Sinks.{buffered}
 use Rattle.plist_binwrite.specs.Forms.{length_form, table_form, units_of}
 use Rattle.plist_binwrite.proofs.Reading.{units_empty}
@@ -15,5 +16,5 @@ returns-clause-pushed c = λ done.
     rw c.requires.wide
     (pushed.pushed ∙ ap (λ l. l ++ table_form 2 pushed.front)
     (rw c.count_units-count.ensures.value at c.push_length.ensures.pushed)
-    ∙ append_assoc before (length_form 0x6 (length (units_of text))) (table_form 2 pushed.front)
-    ∙ ap (λ l. before ++ (length_form 0x6 (length (units_of text)) ++ table_form 2 l)) all)
+    ∙ append_assoc before (length_form kind.WideText (length (units_of text))) (table_form 2 pushed.front)
+    ∙ ap (λ l. before ++ (length_form kind.WideText (length (units_of text)) ++ table_form 2 l)) all)

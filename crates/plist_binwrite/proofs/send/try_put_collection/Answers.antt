@@ -7,7 +7,6 @@ use Rattle.plist_base.specs.Sinks.{buffered, room}
 use Rattle.plist_buffer.specs.Children.{half_of, indices_left}
 use Rattle.plist_buffer.specs.declared.children.Half.TheVariants.{Keys, Values}
 use Rattle.plist_buffer.proofs.ChildIndices.{are_items}
-use Rattle.plist_base.specs.Object.{high_half}
 use Rattle.plist_binwrite.specs.EventClasses.{events_in}
 use Rattle.plist_binwrite.specs.Forms.{length_form}
 use Rattle.plist_binwrite.specs.inner.Layout.{references_of}
@@ -61,7 +60,7 @@ returns-then-push_references-clause-put g c = λ done.
     let plan = c.args.plan.now in
     let index = c.args.index in
     let before = buffered c.args.sink.now.buffer.now in
-    let count = length_form (high_half c.args.kind) (length (half_of (events_in plan.given) Values index)) in
+    let count = length_form c.args.kind (length (half_of (events_in plan.given) Values index)) in
     let keys = references_of plan Keys index in
     let values = references_of plan Values index in
     let one = c.push_references.ensures in

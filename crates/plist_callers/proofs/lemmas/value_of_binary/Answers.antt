@@ -9,6 +9,5 @@ returns g c =
       value = of-binary g.R.Source.known c.args.source iter c.new.result
           (built_tree c.from_events.result) is c.new.ensures.source c.new.ensures.items
           (seen (binary_coming g.R.Source.known)
-          (λ old item new gives. binary-shows g.R.Source.known old new item gives.unchanged
-          gives.items));
+          (λ old item new gives. binary-shows old new item gives));
     }

@@ -45,40 +45,36 @@ after_others g c =
     c.expect_scalars.ensures.whole c.expect_scalars.ensures.pauses c.visit-others.ensures
     c.answer-2.ensures.answer
 
-pub returns-then-not-has_paused-clause-collects : goal.returns-then-not-has_paused-clause-collects
-returns-then-not-has_paused-clause-collects g c =
-    let t = goal.at.returns-then-not-has_paused-clause-collects g c in
-    rw c.answer.ensures.held
-    (subst (λ items. CollectsItems items c.answer.result (collected c.visit-first.new.visitor))
-    (same_items g t.After-visit-first) (after_first g t.After-answer).collects)
+pub returns-then-not-has_paused : goal.returns-then-not-has_paused
+returns-then-not-has_paused g c =
+    let t = goal.at.returns-then-not-has_paused g c in
+    let k = after_first g t.After-answer in
+    rw c.answer.ensures.held (record {
+      collects = subst (λ items. CollectsItems items c.answer.result
+          (collected c.visit-first.new.visitor)) (same_items g t.After-visit-first) k.collects;
+      answers = (
+        c.new-reader.result,
+        c.visit-first.new.self,
+        c.new-reader.ensures.source,
+        c.new-reader.ensures.new,
+        k.ran,
+        k.counted,
+      );
+    })
 
-pub returns-then-not-has_paused-clause-answers : goal.returns-then-not-has_paused-clause-answers
-returns-then-not-has_paused-clause-answers g c =
-    let k = after_first g (goal.at.returns-then-not-has_paused-clause-answers g c).After-answer in
-    rw c.answer.ensures.held (
-      c.new-reader.result,
-      c.visit-first.new.self,
-      c.new-reader.ensures.source,
-      c.new-reader.ensures.new,
-      k.ran,
-      k.counted,
-    )
-
-pub returns-clause-collects : goal.returns-clause-collects
-returns-clause-collects g c =
-    let t = goal.at.returns-clause-collects g c in
-    rw c.answer-2.ensures.held
-    (subst (λ items. CollectsItems items c.answer-2.result (collected c.visit-others.new.visitor))
-    (same_items g t.After-visit-first) (after_others g t.After-answer-2).collects)
-
-pub returns-clause-answers : goal.returns-clause-answers
-returns-clause-answers g c =
-    let k = after_others g (goal.at.returns-clause-answers g c).After-answer-2 in
-    rw c.answer-2.ensures.held (
-      c.new-reader.result,
-      c.visit-others.new.self,
-      c.new-reader.ensures.source,
-      c.new-reader.ensures.new,
-      k.ran,
-      k.counted,
-    )
+pub returns : goal.returns
+returns g c =
+    let t = goal.at.returns g c in
+    let k = after_others g t.After-answer-2 in
+    rw c.answer-2.ensures.held (record {
+      collects = subst (λ items. CollectsItems items c.answer-2.result
+          (collected c.visit-others.new.visitor)) (same_items g t.After-visit-first) k.collects;
+      answers = (
+        c.new-reader.result,
+        c.visit-others.new.self,
+        c.new-reader.ensures.source,
+        c.new-reader.ensures.new,
+        k.ran,
+        k.counted,
+      );
+    })

@@ -27,20 +27,17 @@ known g c =
     (ap is_some c.new-reader.ensures.source) c.requires.empty) c.visit-visited.ensures (inl refl)
     c.answer.ensures.answer
 
-pub returns-clause-collects : goal.returns-clause-collects
-returns-clause-collects g c =
-    let t = (goal.at.returns-clause-collects g c).After-answer in
-    rw c.answer.ensures.held
-    (subst (λ items. CollectsItems items c.answer.result (collected c.visit-visited.new.visitor))
-    c.new-reader.ensures.items (known g t).collects)
-
-pub returns-clause-answers : goal.returns-clause-answers
-returns-clause-answers g c =
-    let k = known g (goal.at.returns-clause-answers g c).After-answer in
-    rw c.answer.ensures.held (
-      c.new-reader.result,
-      c.visit-visited.new.self,
-      c.new-reader.ensures.new,
-      k.ran,
-      k.counted,
-    )
+pub returns : goal.returns
+returns g c =
+    let k = known g (goal.at.returns g c).After-answer in
+    rw c.answer.ensures.held (record {
+      collects = subst (λ items. CollectsItems items c.answer.result
+          (collected c.visit-visited.new.visitor)) c.new-reader.ensures.items k.collects;
+      answers = (
+        c.new-reader.result,
+        c.visit-visited.new.self,
+        c.new-reader.ensures.new,
+        k.ran,
+        k.counted,
+      );
+    })

@@ -7,16 +7,16 @@ pub returns-then-count-gt8 : goal.returns-then-count-gt8
 returns-then-count-gt8 c = λ width first more whole.
     let found = c.in-Some.ensures.count more whole in
     rw c.long_content.ensures (long_decoded KindData c.args.low c.in-Some.count first
-    c.args.rest.now c.in-Some.following.now more found.0 found.1 c.in-Some.ensures.short
+    c.args.rest.bytes.now c.in-Some.following.now more found.0 found.1 c.in-Some.ensures.short
     c.in-Some.ensures.after (omega arith) width)
 
 pub returns : goal.returns
 returns c = λ width first more whole.
     let found = c.in-Some.ensures.count more whole in
     let seen : c.in-Some.count ≤ length c.in-Some.following.now =
-    content_enough (c.in-Some.count) c.args.to_trailer _ _ c.requires.shown
+    content_enough (c.in-Some.count) c.args.rest.to_trailer _ _ c.args.rest.shown
     (omega (arith, c.in-Some.ensures.within)) c.in-Some.ensures.short
     c.in-Some.ensures.near (omega arith) in
-    small_data c.args.low c.in-Some.count c.content_from.result first c.args.rest.now
+    small_data c.args.low c.in-Some.count c.content_from.result first c.args.rest.bytes.now
     c.in-Some.following.now _ more found.0 seen (omega arith) refl c.content_from.ensures
     width

@@ -7,17 +7,17 @@ pub returns-then-count-gt8 : goal.returns-then-count-gt8
 returns-then-count-gt8 c = λ width first more whole.
     let found = c.in-Some.ensures.count more whole in
     rw c.long_content.ensures (long_decoded KindText c.args.low c.in-Some.count first
-    c.args.rest.now c.in-Some.following.now more found.0 found.1 c.in-Some.ensures.short
+    c.args.rest.bytes.now c.in-Some.following.now more found.0 found.1 c.in-Some.ensures.short
     c.in-Some.ensures.after (omega arith) width)
 
 pub returns : goal.returns
 returns c = λ width first more whole.
     let found = c.in-Some.ensures.count more whole in
     let seen : c.in-Some.count ≤ length c.in-Some.following.now =
-    content_enough (c.in-Some.count) c.args.to_trailer _ _ c.requires.shown
+    content_enough (c.in-Some.count) c.args.rest.to_trailer _ _ c.args.rest.shown
     (omega (arith, c.in-Some.ensures.within)) c.in-Some.ensures.short
     c.in-Some.ensures.near (omega arith) in
     let one : c.in-Some.count ≡ c.in-Some.count * 1 = omega arith in
-    few_bytes KindText c.args.low c.in-Some.count c.in-Some.count first c.args.rest.now
+    few_bytes KindText c.args.low c.in-Some.count c.in-Some.count first c.args.rest.bytes.now
     c.in-Some.following.now _ more c.short_text.result found.0 one seen refl c.short_text.ensures
     width

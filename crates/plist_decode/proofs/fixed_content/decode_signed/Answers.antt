@@ -6,4 +6,4 @@ use Rattle.plist_decode.proofs.fixed_content.decode_signed.Goals as goal
 pub returns-in-Some : goal.returns-in-Some
 returns-in-Some c = λ width first more whole.
     rw (c.in-Some.ensures.value more (λ n. Scalar (Integer (signed 64 n))))
-    (c.signed_number.ensures width (first ∷ (c.args.rest.now ++ more)))
+    (c.signed_number.ensures width (first ∷ (c.args.rest.bytes.now ++ more)))

@@ -7,15 +7,15 @@ use Rattle.plist_decode.proofs.fixed_content.decode_wide_integer.Goals as goal
 pub returns-then-high-ne0 : goal.returns-then-high-ne0
 returns-then-high-ne0 c = λ width first more whole.
     let some : 0 < c.number_from-high.result = omega arith in
-    wide_front _ _ c.if-rest-lt16.false
+    wide_front _ _ c.if-bytes-lt16.false
     ∙ rw (← c.number_from-high.ensures.value, ← c.number_from-low.ensures.value)
     (wide_high _ _ some (omega arith) (omega arith))
 
 pub returns : goal.returns
 returns c = λ width first more whole.
-    let is : meaning_of_front 16 wide_integer (c.args.rest.now ++ more)
+    let is : meaning_of_front 16 wide_integer (c.args.rest.bytes.now ++ more)
     ≡ Scalar (Integer (pos c.number_from-low.result)) = wide_front _ _
-    c.if-rest-lt16.false
+    c.if-bytes-lt16.false
     ∙ rw (
       ← c.number_from-high.ensures.value,
       ← c.number_from-low.ensures.value,

@@ -36,5 +36,5 @@ returns-in_err-bytes-clause-fault g c =
 
 pub returns-clause-failures : goal.returns-clause-failures
 returns-clause-failures g c =
-    counts_answer c.content_event.result _ _ c.content_event.ensures.kinds
+    counts_answer c.content_event.result _ _ c.content_event.ensures.never_io
     c.in_ok-bytes.ensures.failures

@@ -2,6 +2,9 @@ use Rattle.std.proofs.Common.{◌≡◌, ◌∙◌, ap, map, refl, subst, sym, O
 use Rattle.std.specs.Borrow.{Bor}
 use Rattle.plist.specs.ValueOfItems.{IsValueOf}
 use Rattle.plist.specs.ValueTrees.{tree_of}
+use Rattle.std.specs.Bool.{⊤}
+use Rattle.plist_base.specs.Events.{event_of}
+use Rattle.plist.proofs.PredictedItems.{predicted}
 use Rattle.plist_keyed.specs.Archives.{resolved_tree}
 use Rattle.plist_keyed.specs.inner.Walks.{IsWalk, end_in, events_at, events_left, objects_in, settled_in}
 use Rattle.plist_keyed.proofs.WalkSteps.{first-walk, left-at-first, settled-top}
@@ -27,7 +30,8 @@ returns-in-Ok-clause-value c =
     ∙ left-at-first walk c.args.uid c.in_ok-check.ensures.levels in
     let read = subst (λ events. IsValueOf (map Ok events) (Ok tree)) left
     (seen (λ w. Some (map Ok (events_left w)))
-    (λ old item new gives. (map Ok (events_left new), refl, gives))) in
+    (λ old item new gives. predicted event_of (λ _ _. ⊤) (λ _ _. ⊤) (Some (map Ok (events_left old)))
+    (Some (map Ok (events_left new))) item (map Ok (events_left new), refl, gives))) in
     let all = settled-top (objects_in walk) (end_in walk.ends) (settled_in walk.ends) c.args.uid
     c.in_ok-check.ensures.settled c.in_ok-check.ensures.reached in
     subst (λ (objects : Bor _). resolved_tree (map tree_of objects.now) c.args.uid ≡ Ok tree)

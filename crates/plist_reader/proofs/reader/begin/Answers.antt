@@ -23,7 +23,7 @@ returns-in-Ok-Xml-clause-yields g c =
     refused-gives g.R.Source.known g.R.Source.failures c.args.source c.format_of.new.source
     c.args.limits c.args.dialect error
     (xml-items known c.args.limits c.args.dialect place error c.with_byte_offset.ensures.fault
-    (rw c.in-Ok-Xml.field-0-is at c.in-Ok-Xml.ensures.format))
+    (rw c.in-Ok-Xml.field-0-is at c.in-Ok-Xml.ensures.value))
     (xml-kind place error c.with_byte_offset.ensures.fault)
     (xml-counts place _ _ error c.with_byte_offset.ensures.fault c.in-Ok-Xml.ensures.failures)
     (xml-fault (is_some c.args.limits) place error c.with_byte_offset.ensures.fault)

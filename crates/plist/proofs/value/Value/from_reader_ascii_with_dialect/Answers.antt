@@ -1,9 +1,9 @@
-use Rattle.plist_ascii.specs.AsciiReader.{untaken_bytes, dialect_of, place_of}
 use Rattle.plist_ascii.specs.Texts.{ends_bare}
+use Rattle.plist_ascii.specs.AsciiReader.{ascii_items_to_come}
 use Rattle.plist_ascii.specs.Ascii.{items_of_ascii}
 use Rattle.plist_decode.specs.Formats.{input_front}
 use Rattle.plist.specs.Collecting.{built_tree}
-use Rattle.plist.proofs.RemainingItems.{of-items, ascii-start, ascii-shows, ascii_coming}
+use Rattle.plist.proofs.RemainingItems.{of-items, ascii-start, ascii-shows}
 use Rattle.plist.proofs.value.Value.from_reader_ascii_with_dialect.Goals as goal
 
 pub returns-clause-value : goal.returns-clause-value
@@ -12,10 +12,9 @@ returns-clause-value g c =
     of-items (λ bytes. items_of_ascii (ends_bare c.args.dialect) (input_front bytes) 0) _ _
     (built_tree c.collect.result)
     (ascii-start _ c.args.dialect _ _ _ reader.dialect reader.bytes reader.place)
-    (c.collect.ensures.shown (ascii_coming g.R.ByteReader.remaining) (λ old item new gives.
-    ascii-shows (dialect_of old) (dialect_of new) (untaken_bytes g.R.ByteReader.remaining old)
-    (untaken_bytes g.R.ByteReader.remaining new) (place_of old) (place_of new) item gives.dialect
-    gives.items))
+    (c.collect.ensures.shown (ascii_items_to_come g.R.ByteReader.remaining)
+    (λ old item new gives. ascii-shows g.R.ByteReader.remaining g.R.ByteReader.failures old new item
+    gives))
 
 pub returns-clause-read : goal.returns-clause-read
 returns-clause-read g c = (

@@ -4,7 +4,7 @@ use Rattle.plist.specs.Collecting.{built_tree}
 use Rattle.plist.proofs.BuiltVisits.{collects_items}
 use Rattle.plist.proofs.PredictedItems.{as-seen}
 use Rattle.plist.proofs.ReadFaults.{reader-tells}
-use Rattle.plist.proofs.RemainingItems.{of-items, reads-back}
+use Rattle.plist.proofs.RemainingItems.{of-items, reads-back, reader-shows}
 use Rattle.plist.proofs.value.Value.from_reader_with_dialect.Goals as goal
 
 pub returns-clause-value : goal.returns-clause-value
@@ -15,7 +15,8 @@ returns-clause-value g c =
     of-items (items_of_dialect c.args.dialect) _ _ (built_tree c.collect_visited.result)
     c.with_dialect-reader.ensures.items (as-seen event_of
     (Gives g.R.Source.known g.R.Source.failures) (reader_items g.R.Source.known)
-    (λ old item new gives. gives.items) _ _ collects)
+    (λ old item new gives.
+    reader-shows g.R.Source.known g.R.Source.failures old new item gives) _ _ collects)
 
 pub returns-clause-reads_back : goal.returns-clause-reads_back
 returns-clause-reads_back g c = reads-back c.args.dialect _ (built_tree c.collect_visited.result)

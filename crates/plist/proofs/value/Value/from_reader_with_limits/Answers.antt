@@ -4,7 +4,7 @@ use Rattle.std.proofs.Common.{ap, ◌∙◌, option_map}
 use Rattle.plist_reader.specs.Reader.{Gives, items_of_input, reader_items}
 use Rattle.plist.specs.Collecting.{built_tree}
 use Rattle.plist.proofs.ReadFaults.{limited-tells}
-use Rattle.plist.proofs.RemainingItems.{joined, of-items}
+use Rattle.plist.proofs.RemainingItems.{joined, of-items, reader-shows}
 use Rattle.plist.proofs.LimitedValues.{built-within, limited-shows}
 use Rattle.plist.proofs.value.Value.from_reader_with_limits.Goals as goal
 
@@ -17,7 +17,8 @@ returns-clause-value g c =
     ∙ joined (limited_items c.args.limits) items_of_input _)
     (c.collect.ensures.shown (λ l. option_map (items_admitted l) (reader_items known (iterator_of l)))
     (limited-shows (Gives known g.R.Source.failures) (reader_items known)
-    (λ old item new gives. gives.items)))
+    (λ old item new gives.
+    reader-shows g.R.Source.known g.R.Source.failures old new item gives)))
 
 pub returns-clause-within : goal.returns-clause-within
 returns-clause-within g c =

@@ -6,7 +6,7 @@ use Rattle.plist_reader.specs.Reader.{Gives, items_of_input, reader_items}
 use Rattle.plist.specs.Collecting.{built_tree}
 use Rattle.plist.specs.FromReader.{LimitedReader, budgeted_input}
 use Rattle.plist.proofs.ReadFaults.{budgeted-tells}
-use Rattle.plist.proofs.RemainingItems.{joined, of-items}
+use Rattle.plist.proofs.RemainingItems.{joined, of-items, reader-shows}
 use Rattle.plist.proofs.LimitedValues.{budget-shows, built-within-budget, limited-shows}
 use Rattle.plist.proofs.value.Value.from_reader_within.Goals as goal
 
@@ -28,7 +28,8 @@ returns-clause-value g c =
     (budget-shows (GivesLimited gives)
     (λ l. option_map (items_admitted l) (reader_items known (iterator_of l)))
     (limited-shows gives (reader_items known)
-    (λ old item new gives. gives.items))))
+    (λ old item new gives.
+    reader-shows g.R.Source.known g.R.Source.failures old new item gives))))
 
 pub returns-clause-within : goal.returns-clause-within
 returns-clause-within g c =

@@ -47,11 +47,11 @@ returns-in-Walking-clause-walks g c =
     let h = c.advance-item.ensures.handed in
     record {
       event = h.event;
-      is = item_walks c.args.self.now _ c.advance-item.ensures.unchanged
-          c.advance-item.ensures.counted refl c.advance-item.result h.event c.in-Walking.is
-          c.advance-item.ensures.bounds
+      is = item_walks c.args.self.now _ c.advance-item.ensures.kept.unchanged
+          c.advance-item.ensures.kept.counted refl c.advance-item.result h.event c.in-Walking.is
+          c.advance-item.ensures.kept.bounds
           c.end_after.ensures h.is c.advance-item.ensures.fault
-          c.advance-item.ensures.size c.args.self.now.bounded c.advance-item.ensures.known
+          c.advance-item.ensures.kept.size c.args.self.now.bounded c.advance-item.ensures.kept.known_walk
           c.advance-item.ensures.falls c.advance-item.ensures.failures;
       taken = h.taken;
     }
@@ -70,10 +70,10 @@ pub invariant_of-self-in-Walking : goal.invariant_of-self-in-Walking
 invariant_of-self-in-Walking g c = record {
   fresh = λ fresh. absurd (not_fresh c.advance-item.result _ c.end_after.ensures
       fresh);
-  counted = c.advance-item.ensures.counted;
-  bounded = rw (c.advance-item.ensures.unchanged, c.advance-item.ensures.size, IsBounded)
+  counted = c.advance-item.ensures.kept.counted;
+  bounded = rw (c.advance-item.ensures.kept.unchanged, c.advance-item.ensures.kept.size, IsBounded)
       c.args.self.now.bounded;
-  known = λ _. rw (c.advance-item.ensures.unchanged, c.advance-item.ensures.bounds)
-      c.advance-item.ensures.known;
-  refers = rw c.advance-item.ensures.unchanged c.advance-item.ensures.references;
+  known = λ _. rw (c.advance-item.ensures.kept.unchanged, c.advance-item.ensures.kept.bounds)
+      c.advance-item.ensures.kept.known_walk;
+  refers = rw c.advance-item.ensures.kept.unchanged c.advance-item.ensures.references;
 }

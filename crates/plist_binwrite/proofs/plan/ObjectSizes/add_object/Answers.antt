@@ -1,4 +1,5 @@
 use Rattle.std.proofs.Common.{◌∙◌, arith, refl}
+use Rattle.plist_base.specs.declared.marker.CountedKind.TheVariants as kind
 use Rattle.plist_buffer.specs.EventTable.{plain_events, scalars_of}
 use Rattle.plist_buffer.specs.declared.children.Half.TheVariants.{Values}
 use Rattle.plist_buffer.proofs.ChildIndices.{few_children}
@@ -21,7 +22,7 @@ pub returns-in-StartArray-clause-size : goal.returns-in-StartArray-clause-size
 returns-in-StartArray-clause-size c = λ a b s.
     of_array c.kind_at.ensures _ c.in-StartArray.is (λ ts o.
     rw (← (c.count_children-count.ensures ∙ count_items o)) (c.add.ensures a b _ s
-    (capped_small (c.length_of_count.ensures.value 0xa)
+    (capped_small (c.length_of_count.ensures.value kind.Array)
     (omega (arith, c.length_of_count.ensures.small)))))
 
 pub returns-in-StartDictionary-clause-size : goal.returns-in-StartDictionary-clause-size
@@ -29,7 +30,7 @@ returns-in-StartDictionary-clause-size c = λ a b s.
     of_dictionary c.kind_at.ensures _ c.in-StartDictionary.is (λ ms o.
     rw (← (c.count_children-count-in-StartDictionary.ensures ∙ count_pairs o))
     (c.add-in-StartDictionary.ensures a b _ s
-    (capped_small (c.length_of_count-in-StartDictionary.ensures.value 0xd)
+    (capped_small (c.length_of_count-in-StartDictionary.ensures.value kind.Dictionary)
     (omega (arith, c.length_of_count-in-StartDictionary.ensures.small)))))
 
 pub returns-in-Some-clause-size : goal.returns-in-Some-clause-size

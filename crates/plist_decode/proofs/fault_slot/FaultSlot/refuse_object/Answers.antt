@@ -4,5 +4,5 @@ pub returns : goal.returns
 returns c = rw c.refuse.ensures.fault (record {
   refused = c.at.ensures.refused;
   fault = c.at.ensures.fault;
-  failures = c.at.ensures.failures;
+  never_io = c.at.ensures.never_io;
 })

@@ -26,7 +26,7 @@ returns-in_err-check_trailer-clause-fault g c =
 
 pub returns-in_err-check_trailer-clause-failures : goal.returns-in_err-check_trailer-clause-failures
 returns-in_err-check_trailer-clause-failures g c =
-    rw (passed _ c.from_residual-in_err-check_trailer.ensures.1) (counts_fault
+    rw (passed _ c.from_residual-in_err-check_trailer.ensures.1) (counts_fault (Unit {0})
     c.in_err-check_trailer.field-0.0 _ _ c.in_err-check_trailer.ensures.kinds
     c.in_ok-t.ensures.failures)
 

@@ -1,26 +1,71 @@
-use Rattle.std.proofs.Common.{◌∙◌, subst, sym, Some}
+use Rattle.std.proofs.Common.{◌∙◌, arith, sym}
+use Rattle.std.proofs.lemmas.Grind.{common_steps}
 use Rattle.plist_base.specs.Events.{event_of}
-use Rattle.plist.specs.Events.{GivesEvent}
-use Rattle.plist_keyed.proofs.WalkSteps.{emptied, on-err, shorter}
+use Rattle.plist.proofs.GivenEvents.{none_comes}
+use Rattle.plist_keyed.proofs.WalkSteps.{emptied, event_left, memory_left, on-err, shorter}
 use Rattle.plist_keyed.proofs.state.ArchiveWalk.advance.Goals as goal
+
+pub loop-left-preserved-in_default-next : goal.loop-left-preserved-in_default-next
+loop-left-preserved-in_default-next c =
+    let none = none_comes c.in_default-next.ensures.steps in grind (arith, common_steps, none)
 
 pub returns-in-Err-clause-walk : goal.returns-in-Err-clause-walk
 returns-in-Err-clause-walk c =
-    let gives = subst (λ r. GivesEvent c.in-Some.left (Some r) c.next.new.self) c.in-Err.is
-    c.in-Some-next.ensures.steps in (
+    let gives = memory_left c.in-Some.left c.next.new.self c.in-Some-next.item c.in-Err.error
+    c.in-Some-next.ensures.steps c.in-Err.is in (
       c.loop-left.invariant.walk.0,
       emptied c.loop-left.self c.pop.new.self.items c.in-Some.left c.next.new.self
           c.push_reserved.new.self.items c.in-Some.ensures.items c.push_reserved.ensures.items
           gives.2 c.loop-left.invariant.walk.1,
     )
 
+pub returns-in-Err-clause-shorter : goal.returns-in-Err-clause-shorter
+returns-in-Err-clause-shorter c =
+    let gives = memory_left c.in-Some.left c.next.new.self c.in-Some-next.item c.in-Err.error
+    c.in-Some-next.ensures.steps c.in-Err.is in grind (arith, common_steps, gives)
+
+pub returns-in_default-uid_of-clause-walk : goal.returns-in_default-uid_of-clause-walk
+returns-in_default-uid_of-clause-walk c =
+    let event = event_left c.in-Some.left c.next.new.self c.in-Some-next.item c.in-Ok.event
+    c.in-Some-next.ensures.steps c.in-Ok.is in grind (arith, common_steps, event)
+
+pub returns-in_default-uid_of-clause-yields : goal.returns-in_default-uid_of-clause-yields
+returns-in_default-uid_of-clause-yields c =
+    let event = event_left c.in-Some.left c.next.new.self c.in-Some-next.item c.in-Ok.event
+    c.in-Some-next.ensures.steps c.in-Ok.is in grind (arith, common_steps, event)
+
+pub returns-in_default-uid_of-clause-shorter : goal.returns-in_default-uid_of-clause-shorter
+returns-in_default-uid_of-clause-shorter c =
+    let event = event_left c.in-Some.left c.next.new.self c.in-Some-next.item c.in-Ok.event
+    c.in-Some-next.ensures.steps c.in-Ok.is in grind (arith, common_steps, event)
+
+pub enter-requires-clause-walk : goal.enter-requires-clause-walk
+enter-requires-clause-walk c =
+    let event = event_left c.in-Some.left c.next.new.self c.in-Some-next.item c.in-Ok.event
+    c.in-Some-next.ensures.steps c.in-Ok.is in grind (arith, common_steps, event)
+
+pub enter-requires-clause-settled : goal.enter-requires-clause-settled
+enter-requires-clause-settled c =
+    let event = event_left c.in-Some.left c.next.new.self c.in-Some-next.item c.in-Ok.event
+    c.in-Some-next.ensures.steps c.in-Ok.is in grind (arith, common_steps, event)
+
 pub returns-then-is_err-clause-shorter : goal.returns-then-is_err-clause-shorter
 returns-then-is_err-clause-shorter c =
-    let gives = subst (λ r. GivesEvent c.in-Some.left (Some r) c.next.new.self) c.in-Ok.is
-    c.in-Some-next.ensures.steps in
+    let event = event_left c.in-Some.left c.next.new.self c.in-Some-next.item c.in-Ok.event
+    c.in-Some-next.ensures.steps c.in-Ok.is in
     let same = on-err c.enter.result (sym c.is_err.ensures.value ∙ c.if-is_err.true)
     c.enter.ensures.unchanged in
     rw (same, ← c.loop-left.invariant.left) (shorter c.loop-left.self c.pop.new.self.items
     c.in-Some.left c.next.new.self c.push_reserved.new.self.items (event_of c.in-Ok.event)
-    c.in-Some-uid_of.uid c.in-Some.ensures.items c.push_reserved.ensures.items gives.0
+    c.in-Some-uid_of.uid c.in-Some.ensures.items c.push_reserved.ensures.items event
     (sym c.uid_of.ensures ∙ c.in-Some-uid_of.is) c.loop-left.invariant.walk)
+
+pub loop-left-smaller : goal.loop-left-smaller
+loop-left-smaller c =
+    let event = event_left c.in-Some.left c.next.new.self c.in-Some-next.item c.in-Ok.event
+    c.in-Some-next.ensures.steps c.in-Ok.is in grind (arith, common_steps, event)
+
+pub loop-left-preserved : goal.loop-left-preserved
+loop-left-preserved c =
+    let event = event_left c.in-Some.left c.next.new.self c.in-Some-next.item c.in-Ok.event
+    c.in-Some-next.ensures.steps c.in-Ok.is in grind (arith, common_steps, event)

@@ -2,6 +2,7 @@ use Rattle.std.proofs.Common.{◌∙◌, ◌∷◌, ◌<◌, ap, map, refl, reve
 use Rattle.std.specs.Borrow.{Bor}
 use Rattle.std.proofs.lemmas.Result.{err_from_is_err_and}
 use Rattle.plist_base.specs.Events.{event_of}
+use Rattle.plist.proofs.GivenEvents.{event_comes, none_comes}
 use Rattle.plist.specs.Events.{GivesEvent}
 use Rattle.plist.specs.ValueTrees.{tree_of}
 use Rattle.plist_keyed.specs.declared.state.ArchiveWalk.{ArchiveWalk}
@@ -32,7 +33,7 @@ loop-left-preserved-in_default-next c =
       checks = rw c.in_ok-settle.ensures.levels (settles walk c.settle.new.self
           c.loop-left.path.keys c.pop-in_default-next.new.self.keys c.args.uid
           c.in-Some-pop.walked c.in-Some.left c.pop.new.self.items c.in-Some-pop.ensures.keys
-          c.in_default-next.ensures.steps.0 head c.in_ok-settle.ensures.objects
+          (none_comes c.in_default-next.ensures.steps) head c.in_ok-settle.ensures.objects
           c.in_ok-settle.ensures.settled c.in_ok-settle.ensures.end c.in_ok-settle.ensures.kept);
       objects = c.in_ok-settle.ensures.objects ∙ c.loop-left.invariant.objects;
     }
@@ -44,7 +45,7 @@ loop-left-preserved-in_default-uid_of c =
     let path = reverse c.loop-left.path.keys in
     let gives = subst (λ r. GivesEvent c.in-Some.left (Some r) c.next.new.self) c.in-Ok.is
     c.in-Some-next.ensures.steps in
-    let head = subst (λ es. Checks c.args.uid walk (es ∷ levels_of below) path) gives.0
+    let head = subst (λ es. Checks c.args.uid walk (es ∷ levels_of below) path) (event_comes gives)
     (popped c.args.uid walk path below c.in-Some.left c.in-Some.ensures.items
     c.loop-left.invariant.checks) in
     record {
@@ -74,11 +75,11 @@ followed c =
     } in
     let gives = subst (λ r. GivesEvent c.in-Some.left (Some r) c.next.new.self) c.in-Ok.is
     c.in-Some-next.ensures.steps in
-    let head = subst (λ es. Checks c.args.uid walk (es ∷ levels_of below) path) gives.0
+    let head = subst (λ es. Checks c.args.uid walk (es ∷ levels_of below) path) (event_comes gives)
     (popped c.args.uid walk path below c.in-Some.left c.in-Some.ensures.items
     c.loop-left.invariant.checks) in
     let distance = popped-distance walk path below c.in-Some.left c.in-Some.ensures.items
-    ∙ ap (λ es. distance_in walk (es ∷ levels_of below) path) gives.0 in
+    ∙ ap (λ es. distance_in walk (es ∷ levels_of below) path) (event_comes gives) in
     let (checks, nearer) = follows now c.follow-in-Some.new.self c.loop-left.path.keys
     c.follow-in-Some.new.path.keys c.args.uid (event_of c.in-Ok.event) below c.next.new.self
     c.in-Some-uid_of.found c.push_reserved.ensures.items head c.in_ok-follow-2.ensures.objects
@@ -105,7 +106,7 @@ returns-in_err-follow-2-clause-refused c =
     c.from_residual-in_err-follow-2.ensures.1 in
     let gives = subst (λ r. GivesEvent c.in-Some.left (Some r) c.next.new.self) c.in-Ok.is
     c.in-Some-next.ensures.steps in
-    let head = subst (λ es. Checks c.args.uid walk (es ∷ levels_of below) path) gives.0
+    let head = subst (λ es. Checks c.args.uid walk (es ∷ levels_of below) path) (event_comes gives)
     (popped c.args.uid walk path below c.in-Some.left c.in-Some.ensures.items
     c.loop-left.invariant.checks) in
     let refused = later-refused walk c.loop-left.path.keys c.args.uid (event_of c.in-Ok.event) below
