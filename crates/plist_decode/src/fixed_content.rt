@@ -1,7 +1,7 @@
 //! Decodes objects of a fixed size: integers, reals, dates and Uids.
 //!
-//! Each function reads the bytes that follow the marker. If the object ends before the trailer, they
-//! contain all of it.
+//! Each function reads the bytes that follow the marker. If the object ends before the trailer,
+//! they contain all of it.
 
 ghost use Rattle.std.specs.Prelude.{◌^◌, ◌<◌, ◌≤◌, length, IfNone, IfSome};
 ghost use Rattle.plist_base.specs.Object.{Scalar, date, signed, signed_integer, unsigned_integer, wide_integer};
