@@ -7,9 +7,10 @@ arrays, a dictionary of many keys, an array of equal texts, and ASCII project fi
 version 1.3.1 of the crate nor `plistlib` reads. `plistlib` loads and dumps the value. `plistutil` is left out,
 because it copies a file that is binary already.
 
-A second table compares the writers alone, on events that are read from memory and written to memory:
-`BinaryWriter`, in the program of `tests/outside/sharing`, which is proved and built by the kit's `rt`
-in a copy of the crates, and the crate's writer.
+A second table compares reading from memory and writing to memory, without a value: `copy_events` to a
+`BinaryWriter`, and the same writer with the events of an iterator, in the program of
+`tests/outside/sharing`, which is proved and built by the kit's `rt` in a copy of the crates; and the
+crate's reader and writer.
 
 Usage: speed_writing.py [--program PROGRAM] [MEGABYTES ..]      1 and 10 by default
 """
@@ -89,13 +90,13 @@ def row(name, source, known, first="plist_tool", written=True):
 
 def print_events(sizes, path, known):
     """Prints the table for events that are passed to a writer."""
-    print("\nEvents handed to a writer, from memory to memory:\n")
+    print("\nEvents copied from a reader to a writer, from memory to memory:\n")
     print("| shape | bytes | " + " | ".join(program for program, _ in known) + " |")
     print("|" + "---|" * (2 + len(known)))
     for shape in speed.SHAPES:
         for size in sizes:
             speed.make(path, shape, size)
-            row(f"{shape}, {size} MB", path, known, first="BinaryWriter", written=False)
+            row(f"{shape}, {size} MB", path, known, first="copy_events", written=False)
 
 
 def main(words):
@@ -127,7 +128,8 @@ def main(words):
         built = built or speed_sharing.program(folder)
         crate = dict(known).get("the crate")
         if built:
-            print_events(sizes, path, [("BinaryWriter", [built, "plain"]), *([("the crate", [crate[0], "events"])] if crate else [])])
+            writers = [("copy_events", [built, "plain"]), ("iterator", [built, "owned"])]
+            print_events(sizes, path, writers + ([("the crate", [crate[0], "events"])] if crate else []))
     print("\nIn brackets: the processor time and the peak memory of the first program, divided by those of the other. Growth of the first program's time:")
     for shape, points in grown.items():
         (small, first), (large, last) = points[0], points[-1]

@@ -2,7 +2,7 @@
 use Rattle.std.specs.Prelude.{◌≡◌, ◌⊎◌, List, [], ◌∷◌, ◌++◌, None, Result, Ok, Err, ⊤}
 use Rattle.plist_base.specs.declared.error.Error.{Error}
 use Rattle.plist_base.specs.Bracketing.{bracketing}
-use Rattle.plist_base.specs.Events.{PlainEvent, Item}
+use Rattle.plist_base.specs.Events.{PlainEvent}
 use Rattle.plist_base.specs.Faults.{Fault, fault_without_offset, OutOfMemory}
 use Rattle.plist_base.specs.Writing.{Answer, MatchKind, answer_of}
 use Rattle.plist.specs.Events.{BeginsWithStart}
@@ -43,8 +43,3 @@ module _ {S : Type 0} (Step : S → PlainEvent → Answer → S → Type 0) wher
   abbrev pub WritesValue : (before : S) → Value → Result (Unit {0}) Error → (after : S) → Type 0
   WritesValue before value answer after =
       WritesEvents before (bracketing (tree_of value)) (answer_of answer) after
-
-  -- one item is written
-  abbrev pub WritesItem : (before : S) → Item → Answer → (after : S) → Type 0
-  WritesItem before (Ok event) answer after = Step before event answer after
-  WritesItem before (Err fault) answer after = (answer ≡ Err fault) × (after ≡ before)

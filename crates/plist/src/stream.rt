@@ -7,7 +7,10 @@ pub mod writing;
 
 pub use events::Events;
 pub use plist_ascii::AsciiReader;
-pub use plist_base::{Event, OwnedEvent, Seeking, Sequential, Source, Writer};
+pub use plist_base::{
+    Event, EventSource, EventVisitor, OwnedEvent, Seeking, Sequential, Source, Visited, Writer,
+    copy_events,
+};
 pub use plist_binread::BinaryReader;
 pub use plist_binwrite::BinaryWriter;
 pub use plist_reader::{BufferedSource, Reader};

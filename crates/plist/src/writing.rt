@@ -2,27 +2,17 @@
 
 ghost use Rattle.std.specs.Prelude.{◌≡◌, ◌++◌, map, IfOk, OnOk};
 ghost use Rattle.plist_base.specs.Bracketing.{lengthless, without_length};
-ghost use Rattle.plist_base.specs.Events.{item_of};
 ghost use Rattle.plist_base.specs.Outcomes.{OnlyMemory};
-ghost use Rattle.plist_base.specs.Writing.{answer_of};
 ghost use Rattle.plist_buffer.specs.EventTable.{plain_events};
-ghost use Rattle.plist.specs.WrittenEvents.{WritesItem, WritesValue};
+ghost use Rattle.plist.specs.WrittenEvents.{WritesValue};
 ghost use Rattle.plist.specs.Events.{remaining_events};
 ghost use Rattle.plist.specs.ValueTrees.{tree_of};
 
 use crate::Value;
 use crate::stream::Events;
-use plist_base::{Error, Event, Writer};
+use plist_base::{Error, Writer, copy_events};
 use plist_binwrite::EventTable;
 use std::alloc::Global;
-
-// Writes the event of an item, or returns the item's error.
-fn write_item<W: Writer>(writer: &mut W, item: Result<Event<'_>, Error>) -> Result<(), Error>
-    ensures { WritesItem W.Step writer.old (item_of item.entry) (answer_of result) writer.new }
-{
-    let event = item?;
-    writer.write(event)
-}
 
 /// Writes the events of the value to the writer, in order.
 ///
@@ -33,11 +23,7 @@ fn write_item<W: Writer>(writer: &mut W, item: Result<Event<'_>, Error>) -> Resu
 pub fn write_value<W: Writer>(alloc: Global, value: &Value, writer: &mut W) -> Result<(), Error>
     ensures written { WritesValue W.Step writer.old value.now result writer.new }
 {
-    let mut events = value.events(alloc);
-    while let Some(item) = events.next() {
-        write_item(writer, item)?;
-    }
-    Ok(())
+    copy_events(&mut value.events(alloc), writer)
 }
 
 // Appends the events that remain of a value to the table. This is a function of its own, so that

@@ -1,8 +1,11 @@
 -- Events that are handed over to a visitor one by one.
-use Rattle.std.proofs.Common.{List, [], ◌∷◌, ◌++◌, Some, Ok, refl, subst, sym}
-use Rattle.std.specs.declared.ops.ControlFlow.TheVariants.{Continue}
+use Rattle.std.proofs.Common.{List, [], ◌∷◌, ◌++◌, Some, Result, Ok, Err, refl, subst, sym}
+use Rattle.std.specs.declared.ops.ControlFlow.TheVariants.{Break, Continue}
+use Rattle.plist_base.specs.declared.error.Error.{Error}
+use Rattle.plist_base.specs.declared.visitor.Visited.{Visited}
+use Rattle.plist_base.specs.declared.visitor.Visited.TheVariants.{Ended, Stopped}
 use Rattle.plist_base.specs.Events.{PlainEvent}
-use Rattle.plist_base.specs.Visits.{Flow, YieldsAll, HandsOver, HandsOverAll, PlainItem}
+use Rattle.plist_base.specs.Visits.{Flow, YieldsAll, HandsOver, HandsOverAll, PlainItem, TakesTurn, Visits, last_turn}
 
 module _ {I V : Type 0} (yields : I → PlainItem → I → Type 0)
     (step : V → PlainEvent → Flow → V → Type 0) where
@@ -23,6 +26,23 @@ module _ {I V : Type 0} (yields : I → PlainItem → I → Type 0)
   kept_all P keeps old new [] here is = subst P (sym is) here
   kept_all P keeps old new (event ∷ events) here (next, one, others) =
       kept_all P keeps next new events (keeps old next event here one) others
+
+  module _ (P : V → Type 0) (keeps : (now new : V) (event : PlainEvent) (flow : Flow) → P now
+      → step now event flow new → P new) where
+    kept_last : (answer : Result Visited Error) (now new : I × V) → P now.1
+        → TakesTurn yields step now (last_turn answer) new → P new.1
+    kept_last (Ok Ended) now new here (none, same) = subst P (sym same) here
+    kept_last (Ok Stopped) now new here (event, one) =
+        keeps now.1 new.1 event (Break tt) here one.taken
+    kept_last (Err error) now new here (fault, same) = subst P (sym same) here
+
+    -- a fact about a visitor that each event preserves is preserved by a visit
+    pub kept_by_visit : (answer : Result Visited Error) (old new : I × V) → P old.1
+        → Visits yields step old answer new → P new.1
+    kept_by_visit answer old new here visit = kept_last answer visit.left new
+        (kept_all (λ now. P now.1)
+        (λ now next event before one. keeps now.1 next.1 event (Continue tt) before one.taken)
+        old visit.left visit.events here visit.handed) visit.ended
 
 -- one more event is yielded
 pub given_more : {I : Type 0} (yields : I → PlainItem → I → Type 0) (old now new : I)

@@ -52,13 +52,14 @@ pub(crate) fn window_at(headers: &[Header], size: usize, place: u64) -> Option<u
     ensures start { IfSome result (λ i. IsWindowOf size headers.now i place) }
 {
     let start = place - place % size as u64;
-    let i = first_window(headers.len(), place / size as u64);
-    if i + 1 >= headers.len() {
-        None
-    } else if headers[i].start == start {
+    let first = first_window(headers.len(), place / size as u64);
+    if first + 1 >= headers.len() {
+        return None;
+    }
+    // Which of the two windows it is can't be predicted, so no branch depends on it.
+    let i = first + usize::from(headers[first].start != start);
+    if headers[i].start == start {
         Some(i)
-    } else if headers[i + 1].start == start {
-        Some(i + 1)
     } else {
         None
     }

@@ -34,11 +34,11 @@ struct ShortWindows {
 
 // Long windows on the heap. None are allocated before one has to be filled.
 //
-// Their number doubles when refills outnumber the windows, up to 8,192 windows. Each first fill
-// cancels an eighth of a refill, so that a file that is read in order keeps few windows. If there
-// are more than eight, their number is less than twice the number of parts of 8 KiB in the file:
-// once there are as many windows as parts, each window is replaced at most once, so that refills
-// don't outnumber the windows any more.
+// Their number doubles when there are more refills than half as many windows, up to 8,192 windows.
+// Each first fill cancels an eighth of a refill, so that a file that is read in order keeps few
+// windows. If there are more than eight, their number is less than twice the number of parts of
+// 8 KiB in the file: once there are as many windows as parts, only the windows that were filled
+// before the last doubling, which are half of all windows, are filled again.
 #[derive(Drop)]
 struct LongWindows {
     headers: Vec<Header>,
@@ -107,7 +107,7 @@ impl LongWindows {
         }
         self.refills = self.refills.saturating_add(REFILL_WEIGHT);
         let count = self.headers.len();
-        if count < MAX_WINDOWS && self.refills > REFILL_WEIGHT * count as u64 {
+        if count < MAX_WINDOWS && self.refills > REFILL_WEIGHT / 2 * count as u64 {
             self.refills = 0;
             self.extend_to((count * 2).min(MAX_WINDOWS));
         }

@@ -12,6 +12,9 @@ use plist_decode::numbers::number_from;
 // The number of children from one prefetch to the next.
 const STEP: u64 = 16;
 
+// The largest number of objects that are read in one prefetch.
+const AHEAD: usize = STEP as usize;
+
 // Nothing is prefetched if fewer children than this are left.
 const FEW: u64 = 8;
 
@@ -21,6 +24,22 @@ const FAR_NUMBER: u64 = 512;
 // An object is prefetched only if it is at least this many bytes from the one before it. The
 // processor mostly fetches nearer ones by itself.
 const FAR_BYTES: u64 = 4096;
+
+// Returns the offsets of the objects that the first `count` references name, if they are known.
+//
+// All of them are looked up before the first object is read, so that the processor waits for all of
+// these look-ups at once.
+#[inline(always)]
+fn offsets_of(walk: &Walk, bytes: &[u8], width: usize, count: usize) -> [Option<u64>; AHEAD]
+    requires { (0 < width) × (width ≤ 8) }
+{
+    let mut places = [None; AHEAD];
+    let references = bytes.chunks_exact(width).take(count);
+    for (place, reference) in places.iter_mut().zip(references) {
+        *place = walk.offset_of(number_from(reference));
+    }
+    places
+}
 
 /// Prefetches objects, and remembers whether they seem to be scattered.
 ///
@@ -70,8 +89,8 @@ impl Prefetcher {
         }
         let mut previous = references.place;
         let mut far = 0u64;
-        for reference in bytes.chunks_exact(width).take(count as usize) {
-            if let Some(place) = walk.offset_of(number_from(reference)) {
+        for place in offsets_of(walk, bytes, width, count as usize) {
+            if let Some(place) = place {
                 if place.abs_diff(previous) >= FAR_BYTES {
                     self.read ^= source.buffered(place).first().copied().unwrap_or(0);
                     far = far.saturating_add(1);

@@ -10,7 +10,7 @@ use Rattle.plist_base.specs.declared.visitor.Visited.{Visited}
 use Rattle.plist_base.specs.declared.visitor.Visited.TheVariants.{Ended, Stopped}
 use Rattle.plist_base.specs.Events.{PlainEvent, event_of}
 use Rattle.plist_base.specs.Visits.{Flow, HandsOver, HandsOverAll, PlainItem, TakesTurn, Visits, YieldsPlain, last_turn}
-use Rattle.plist_base.proofs.Visits.{kept_all}
+use Rattle.plist_base.proofs.Visits.{kept_by_visit}
 use Rattle.plist_binread.specs.BinaryReader.{GivesBinary, Steps}
 use Rattle.plist_binread.specs.Handovers.{PassesOn}
 use Rattle.plist_binread.specs.declared.visitors.Relay.{Relay}
@@ -153,23 +153,13 @@ module _ {R : Type 0} {g : Ghosts R} (alloc : Global) where
       ap (λ (r : Relay V). r.visitor.now) same,
     )
 
-    stays_last : (answer : Result Visited Error) (old new : BinaryReaderOf R g × Relay V)
-        → TakesTurn Steps (PassesOn step) old (last_turn answer) new
-        → new.1.visitor.ghost_name ≡ old.1.visitor.ghost_name
-    stays_last (Ok Ended) old new (none, same) = ap (λ (r : Relay V). r.visitor.ghost_name) same
-    stays_last (Ok Stopped) old new (event, one) = one.taken.same
-    stays_last (Err error) old new (fault, same) =
-        ap (λ (r : Relay V). r.visitor.ghost_name) same
-
     -- the relay passes all events on to one visitor
     pub same_visitor : (answer : Result Visited Error) (old new : BinaryReaderOf R g × Relay V)
         → Visits Steps (PassesOn step) old answer new
         → new.1.visitor.ghost_name ≡ old.1.visitor.ghost_name
-    same_visitor answer old new visit = stays_last answer visit.left new visit.ended
-        ∙ kept_all Steps (PassesOn step)
-        (λ now. now.1.visitor.ghost_name ≡ old.1.visitor.ghost_name)
-        (λ now next event here one. one.taken.same ∙ here) old visit.left visit.events refl
-        visit.handed
+    same_visitor answer old new visit = kept_by_visit Steps (PassesOn step)
+        (λ relay. relay.visitor.ghost_name ≡ old.1.visitor.ghost_name)
+        (λ now next event flow before one. one.same ∙ before) answer old new refl visit
 
     -- a visit by the reader of binary files is one by the reader that chose it
     pub binary_visit : (answer : Result Visited Error) (from to : BinaryReaderOf R g) (v w : Relay V)

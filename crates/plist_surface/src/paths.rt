@@ -1,6 +1,6 @@
 //! The paths by which `plist` re-exports items of the crates below it. Each function names an item
 //! by both paths. Most functions return their argument, and name its type by the other path. The
-//! last two call a method of a trait.
+//! last four call a method of a trait, or a function.
 
 pub fn data(it: plist::Data) -> plist_base::Data {
     it
@@ -116,4 +116,20 @@ pub fn source<S: plist::stream::Source>(source: &mut S) -> Result<u64, std::io::
 
 pub fn writer<W: plist::stream::Writer>(writer: &mut W) -> Result<(), plist_base::Error> {
     plist_base::Writer::write_boolean(writer, true)
+}
+
+pub fn visit<S: plist::stream::EventSource, V: plist::stream::EventVisitor>(
+    source: &mut S,
+    visitor: &mut V,
+) -> Result<plist::stream::Visited, plist_base::Error> {
+    let visited: plist_base::Visited = plist_base::EventSource::visit(source, visitor)?;
+    Ok(visited)
+}
+
+pub fn copy_events<S: plist_base::EventSource, W: plist_base::Writer>(
+    source: &mut S,
+    writer: &mut W,
+) -> Result<(), plist_base::Error> {
+    plist_base::copy_events(source, writer)?;
+    plist::stream::copy_events(source, writer)
 }

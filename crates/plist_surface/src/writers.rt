@@ -2,7 +2,8 @@
 
 use crate::events::event_at;
 use plist::Builder;
-use plist_base::{Date, Error, Event, Integer, RealBits, Sealed, Sink, Uid, Writer};
+use plist_base::{Date, Error, Event, Integer, RealBits, Sealed, Sink, Uid, Writer, copy_events};
+use plist_binread::BinaryReader;
 use plist_binwrite::{BinaryWriter, FileWriter, Sharing, forms};
 use plist_share::SharingWriter;
 use std::alloc::Global;
@@ -72,6 +73,15 @@ pub fn shared(alloc: Global) -> Result<Vec<u8>, Error> {
     file_by(writer)
 }
 
+// Reads a file, and writes it again.
+pub fn copied(alloc: Global, file: &[u8]) -> Result<Vec<u8>, Error> {
+    let mut reader = BinaryReader::new(alloc, file);
+    let mut writer = BinaryWriter::new(alloc, Vec::new(alloc));
+    let done: Result<(), Error> = copy_events(&mut reader, &mut writer);
+    done?;
+    Ok(writer.into_inner())
+}
+
 // Writes the object of a Boolean by itself.
 pub fn put_true(sink: &mut Sink<'_, Vec<u8>>) -> Result<(), Error> {
     forms::put_boolean(sink, true)
@@ -88,6 +98,8 @@ pub fn print_bytes<W: Write>(out: &mut W, name: &str, bytes: &[u8]) -> Result<()
 }
 
 pub fn print<W: Write>(alloc: Global, out: &mut W) -> Result<(), Error> {
-    print_bytes(out, "binary", binary(alloc)?.as_slice())?;
-    print_bytes(out, "shared", shared(alloc)?.as_slice())
+    let file = binary(alloc)?;
+    print_bytes(out, "binary", file.as_slice())?;
+    print_bytes(out, "shared", shared(alloc)?.as_slice())?;
+    print_bytes(out, "copied", copied(alloc, file.as_slice())?.as_slice())
 }

@@ -8,6 +8,8 @@ mod ascii;
 #[cfg(test)]
 mod building;
 #[cfg(test)]
+mod copying;
+#[cfg(test)]
 mod cut;
 #[cfg(test)]
 mod decode_counter;

@@ -158,18 +158,18 @@ fn keeps_its_windows(rt: HostRuntime) {
     }
 }
 
-// The number of windows doubles at the ninth fill with a part of the file that was read before.
+// The number of windows doubles at the fifth fill with a part of the file that was read before.
 // After that the four parts have two slots. The parts of the last slot have two slots only when the
-// number doubles once more, at the seventeenth such fill after the first doubling.
+// number doubles once more, at the ninth such fill after the first doubling.
 #[test]
 fn windows_grow(rt: HostRuntime) {
     for (windows, places, rounds, calls) in [
+        (true, OF_ONE, 2, 16),
         (true, OF_ONE, 3, 24),
-        (true, OF_ONE, 4, 32),
-        (true, OF_ONE, 100, 32),
+        (true, OF_ONE, 100, 24),
         (false, OF_ONE, 100, 800),
-        (true, OF_LAST, 8, 64),
-        (true, OF_LAST, 100, 64),
+        (true, OF_LAST, 5, 40),
+        (true, OF_LAST, 100, 40),
     ] {
         let found = calls_of(&rt, windows, &places, rounds);
         same(&rt, "offsets and calls", &(places, found), &(places, calls));
