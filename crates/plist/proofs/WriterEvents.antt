@@ -1,11 +1,10 @@
 -- The events of a value that were copied to a writer.
-use Rattle.std.proofs.Common.{◌≡◌, inl, inr, List, [], ◌∷◌, ◌++◌, Some, None, Option, Result, Ok, Err, refl, sym, ap, subst}
+use Rattle.std.proofs.Common.{◌≡◌, inl, inr, List, [], ◌∷◌, Some, None, Result, Ok, Err, refl, sym, ap, subst}
 use Rattle.std.proofs.lemmas.Option.{none-some}
 use Rattle.plist_base.specs.declared.error.Error.{Error}
-use Rattle.plist_base.specs.declared.event.Event.{Event}
 use Rattle.plist_base.specs.Copying.{Copies, CopiesAll, EndsCopy}
 use Rattle.plist_base.specs.Events.{PlainEvent}
-use Rattle.plist_base.specs.Visits.{YieldsPlain, plain_item}
+use Rattle.plist_base.specs.Visits.{YieldsPlain}
 use Rattle.plist_base.specs.Writing.{Answer, answer_of}
 use Rattle.plist.specs.declared.stream.events.Events.{Events}
 use Rattle.plist.specs.WrittenEvents.{WritesEvents}
