@@ -1,15 +1,11 @@
 //! Defines what an object's first bytes decode to, and how an object can be faulty.
 
-ghost use Rattle.std.specs.Prelude.{ℕ, ◌≡◌, ◌<◌, ◌≤◌};
-ghost use Rattle.plist_base.specs.Faults.{IsNotIo, error_kind_of, fault_of, kind_of};
-ghost use Rattle.plist_base.specs.Object.{Object};
-ghost use Rattle.plist_decode.specs.Decoded.{IsObjectFault, kind_of_object_fault};
-ghost use Rattle.plist_decode.specs.Decoding.{IsRefusedAs};
-ghost use Rattle.plist_decode.specs.FaultOffsets.{FailsWithin};
+ghost use Rattle.std.specs.Prelude.{◌≡◌, ◌<◌, ◌≤◌};
+ghost use Rattle.plist_decode.specs.StepFaults.{object_error_kind};
 ghost use Rattle.plist_decode.specs.CountedContent.{unit_size};
 
 use crate::packed::PackedKind;
-use plist_base::{Error, ErrorKind};
+use plist_base::ErrorKind;
 
 /// How the content of a string or data is encoded.
 #[derive(Clone, Copy)]
@@ -147,9 +143,9 @@ pub enum ObjectFault {
 }
 
 impl ObjectFault {
-    // Returns the kind of error that reports this fault.
-    fn kind(self) -> ErrorKind
-        ensures value { kind_of result ≡ kind_of_object_fault self }
+    /// Returns the kind of error that reports this fault.
+    pub fn kind(self) -> ErrorKind
+        ensures value { result ≡ object_error_kind self }
     {
         match self {
             ObjectFault::Overrun => ErrorKind::ObjectOffsetTooLarge,
@@ -161,17 +157,5 @@ impl ObjectFault {
             ObjectFault::NotUtf8 => ErrorKind::InvalidUtf8String,
             ObjectFault::NotUtf16 => ErrorKind::InvalidUtf16String,
         }
-    }
-
-    /// Returns the error of the object at this offset.
-    #[cold]
-    #[inline(never)]
-    pub fn at(self, place: u64) -> Error
-        ensures refused { (object : Object) → IsObjectFault object self
-            → IsRefusedAs object place result }
-        ensures fault { (end : ℕ) → FailsWithin place end (fault_of result) }
-        ensures never_io { IsNotIo (kind_of (error_kind_of result)) }
-    {
-        self.kind().with_byte_offset(place)
     }
 }

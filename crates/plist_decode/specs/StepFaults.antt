@@ -1,0 +1,44 @@
+-- The errors of steps that failed.
+use Rattle.std.specs.Prelude.{Option, None, Some, Result, Ok, Err}
+use Rattle.plist_base.specs.declared.error.Error.{Error}
+use Rattle.plist_base.specs.declared.error.ErrorKind.{ErrorKind}
+use Rattle.plist_base.specs.declared.error.ErrorKind.TheVariants as error_kind
+use Rattle.plist_decode.specs.declared.decoded.ObjectFault.{ObjectFault}
+use Rattle.plist_decode.specs.declared.decoded.ObjectFault.TheVariants as fault
+use Rattle.plist_decode.specs.declared.step_fault.StepFault.{StepFault}
+use Rattle.plist_decode.specs.declared.step_fault.StepFault.TheVariants as step
+
+-- the kind of the error that reports an object's fault
+abbrev pub object_error_kind : ObjectFault → ErrorKind
+object_error_kind fault.Overrun = error_kind.ObjectOffsetTooLarge
+object_error_kind fault.Null = error_kind.NullObjectUnimplemented
+object_error_kind fault.Fill = error_kind.FillObjectUnimplemented
+object_error_kind (fault.Unknown marker) = error_kind.UnknownObjectType marker
+object_error_kind fault.OutOfRange = error_kind.IntegerOutOfRange
+object_error_kind fault.NoDate = error_kind.OverflowOrNanDate
+object_error_kind fault.NotUtf8 = error_kind.InvalidUtf8String
+object_error_kind fault.NotUtf16 = error_kind.InvalidUtf16String
+
+-- the error of a step that failed, if the decoder keeps this error; if it keeps none, `Kept` means
+-- `OutOfMemory`
+abbrev pub error_of : StepFault → (kept : Option Error) → Error
+error_of (step.Object fault place) kept =
+    record { kind = object_error_kind fault; offset = Some place }
+error_of (step.Reference at) kept =
+    record { kind = error_kind.ObjectReferenceTooLarge; offset = Some at }
+error_of (step.Recursion place) kept =
+    record { kind = error_kind.RecursiveObject; offset = Some place }
+error_of step.Memory kept = record { kind = error_kind.OutOfMemory; offset = None }
+error_of step.Kept None = record { kind = error_kind.OutOfMemory; offset = None }
+error_of step.Kept (Some error) = error
+
+-- the result of a step, with the error that `error_of` returns
+abbrev pub result_with : {A : Type 0} → Result A StepFault → (kept : Option Error) → Result A Error
+result_with (Ok value) kept = Ok value
+result_with (Err fault) kept = Err (error_of fault kept)
+
+-- the item of a step, with the error that `error_of` returns
+abbrev pub item_kept : {A : Type 0} → Option (Result A StepFault) → (kept : Option Error)
+    → Option (Result A Error)
+item_kept None kept = None
+item_kept (Some answer) kept = Some (result_with answer kept)
