@@ -7,6 +7,7 @@ use Rattle.plist_decode.specs.Reading.{object_at}
 use Rattle.plist_decode.specs.declared.decoded.ContentKind.{ContentKind}
 use Rattle.plist_decode.specs.declared.decoded.Decoded.{Decoded}
 use Rattle.plist_decode.specs.declared.decoded.Decoded.TheVariants as decoded
+use Rattle.plist_decode.specs.declared.step_fault.FaultDetails.{FaultDetails}
 use Rattle.plist_decode.specs.declared.step_fault.StepFault.{StepFault}
 use Rattle.plist_decode.specs.StepFaults.{result_with}
 use Rattle.std.specs.Prelude.{OnOk}
@@ -58,10 +59,10 @@ always_ok P (Ok value) p = p
 always_ok P (Err error) p = tt
 
 -- what is true after `Ok` is true of the result with its error
-pub on_answer : {A : Type 0} (P : Type 0) (answer : Result A StepFault) (kept : Option Error)
-    → OnOk answer P → OnOk (result_with answer kept) P
-on_answer P (Ok value) kept h = h
-on_answer P (Err fault) kept h = tt
+pub on_answer : {A : Type 0} (P : Type 0) (answer : Result A StepFault) (details : FaultDetails)
+    → OnOk answer P → OnOk (result_with answer details) P
+on_answer P (Ok value) details h = h
+on_answer P (Err fault) details h = tt
 
 module _ (known : Option (List ℕ)) (bounds : Bounds) (walk : Walk) (number : ℕ)
     (k : IsKnownWalk known bounds walk) (h : number < walk_objects walk) where

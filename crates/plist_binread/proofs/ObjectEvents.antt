@@ -23,6 +23,7 @@ use Rattle.plist_decode.specs.declared.decoded.ContentKind.{ContentKind}
 use Rattle.plist_decode.specs.declared.decoded.ContentKind.TheVariants as content_kind
 use Rattle.plist_decode.specs.declared.decoded.Decoded.{Decoded}
 use Rattle.plist_decode.specs.declared.decoded.Decoded.TheVariants as decoded
+use Rattle.plist_decode.specs.declared.step_fault.FaultDetails.{FaultDetails}
 use Rattle.plist_decode.specs.declared.step_fault.StepFault.{StepFault}
 use Rattle.plist_decode.specs.declared.head.Bounds.{Bounds}
 use Rattle.plist_decode.proofs.NumberRuns.{take-drop-take}
@@ -150,10 +151,10 @@ large_unlike (Ok value) d current large = λ small. absurd (false≢true (sym la
 large_unlike (Err error) d current large = tt
 
 -- if the event is that of a small scalar, the object is cached
-pub cached_if : {A : Type 0} (number : ℕ) (answer : Result A StepFault) (kept : Option Error)
+pub cached_if : {A : Type 0} (number : ℕ) (answer : Result A StepFault) (details : FaultDetails)
     (current : PlainEvent) (d : Decoded) (tags : List ℕ)
     → OnOk answer (is_small_event current ≡ true → small_count d ≡ 1)
     → (small_count d ≡ 1 → 0 < unmarked (get_or tags number 0))
-    → IsCachedIfSmall (λ _. current) (Some number) (Some (result_with answer kept)) tags
-cached_if number (Ok value) kept current d tags small caches = λ is. caches (small is)
-cached_if number (Err fault) kept current d tags small caches = tt
+    → IsCachedIfSmall (λ _. current) (Some number) (Some (result_with answer details)) tags
+cached_if number (Ok value) details current d tags small caches = λ is. caches (small is)
+cached_if number (Err fault) details current d tags small caches = tt

@@ -59,16 +59,16 @@ module _ {R C : Type 0} {g : Ghosts R} {h : CounterGhosts C} (old new : BinaryRe
     (limiter : new.limiter ≡ old.limiter) where
   pub first_walks : (noted : Result Flow StepFault) (event : PlainEvent) → old.state ≡ Fresh
       → new.state ≡ state_after (Some noted)
-      → YieldsRoot (g.known old.source) new.decoder.bounds (result_with noted new.decoder.kept) event new.walk
-      → ErrWithin 0 (2 ^ 64) (result_with noted new.decoder.kept)
+      → YieldsRoot (g.known old.source) new.decoder.bounds (result_with noted new.decoder.details) event new.walk
+      → ErrWithin 0 (2 ^ 64) (result_with noted new.decoder.details)
       → IfSome (g.known old.source) (IsBounded new.walk)
       → IfSome (g.known old.source)
-      (λ bytes. CountsObjects bytes (result_with noted new.decoder.kept) (walk_objects new.walk))
+      (λ bytes. CountsObjects bytes (result_with noted new.decoder.details) (walk_objects new.walk))
       → OnOk noted (IsKnownWalk (g.known old.source) new.decoder.bounds new.walk)
       → OnOk noted (weight_in new.walk < walk_steps (walk_objects new.walk))
-      → CountsIo (Some (result_with noted new.decoder.kept)) (g.failures old.source)
+      → CountsIo (Some (result_with noted new.decoder.details)) (g.failures old.source)
       (g.failures new.source)
-      → Walks old (item_with (item_kept (Some noted) new.decoder.kept) event) new
+      → Walks old (item_with (item_kept (Some noted) new.decoder.details) event) new
   first_walks (Ok value) event fresh is yields within bounded objects held falls failures = record {
     gives = record {
       unchanged = same;
@@ -94,7 +94,7 @@ module _ {R C : Type 0} {g : Ghosts R} {h : CounterGhosts C} (old new : BinaryRe
     gives = record {
       unchanged = same;
       items = simp (fresh, is) (IfSome_then (g.known old.source) yields.first
-          (λ bytes. yields_error (λ event. event) true (items_of_file bytes) (error_of r new.decoder.kept)));
+          (λ bytes. yields_error (λ event. event) true (items_of_file bytes) (error_of r new.decoder.details)));
       failures = failures;
       ended = λ e. absurd (cc);
       unasked = λ e. absurd (cc);
@@ -113,17 +113,17 @@ module _ {R C : Type 0} {g : Ghosts R} {h : CounterGhosts C} (old new : BinaryRe
   item_walks_at : (noted : Option (Result Flow StepFault)) (event : PlainEvent) → old.state ≡ Walking
       → new.state ≡ state_after noted
       → IfSome (g.known old.source) (λ bytes. YieldsNext (remaining_in bytes old.decoder.bounds old.walk)
-      (item_kept noted new.decoder.kept) event (remaining_in bytes new.decoder.bounds new.walk))
-      → ItemWithin 0 old.decoder.bounds.trailer (item_kept noted new.decoder.kept)
+      (item_kept noted new.decoder.details) event (remaining_in bytes new.decoder.bounds new.walk))
+      → ItemWithin 0 old.decoder.bounds.trailer (item_kept noted new.decoder.details)
       → walk_objects new.walk ≡ walk_objects old.walk
       → IfSome (g.known old.source) (IsBounded old.walk)
       → IsKnownWalk (g.known old.source) new.decoder.bounds new.walk
       → IfSome (g.known old.source) (λ bytes. IsCachedIfSmall (λ _. event) (next_number
-      (entries_of bytes old.decoder.bounds) (open_in old.walk)) (item_kept noted new.decoder.kept)
+      (entries_of bytes old.decoder.bounds) (open_in old.walk)) (item_kept noted new.decoder.details)
       new.walk.tags.items)
       → LightensNext old.walk noted new.walk
-      → CountsIo (item_kept noted new.decoder.kept) (g.failures old.source) (g.failures new.source)
-      → Walks old (item_with (item_kept noted new.decoder.kept) event) new
+      → CountsIo (item_kept noted new.decoder.details) (g.failures old.source) (g.failures new.source)
+      → Walks old (item_with (item_kept noted new.decoder.details) event) new
   item_walks_at None event walking is yields within size bounded held kept falls failures = record {
     gives = record {
       unchanged = same;
@@ -166,7 +166,7 @@ module _ {R C : Type 0} {g : Ghosts R} {h : CounterGhosts C} (old new : BinaryRe
       unchanged = same;
       items = simp (walking, is) (IfSome_then (g.known old.source) yields
           (λ bytes. yields_error (λ event. event) false
-          (until_fault (remaining_in bytes old.decoder.bounds old.walk)) (error_of r new.decoder.kept)));
+          (until_fault (remaining_in bytes old.decoder.bounds old.walk)) (error_of r new.decoder.details)));
       failures = failures;
       ended = λ e. absurd (cc);
       unasked = λ e. absurd (cc);
@@ -177,7 +177,7 @@ module _ {R C : Type 0} {g : Ghosts R} {h : CounterGhosts C} (old new : BinaryRe
       head = holds_head (g.known old.source) new.decoder.bounds new.walk (is_walking new.state ≡ true) held;
       cached = IfSome-all (g.known old.source) (λ bytes. tt);
       leaves = left_behind old new counted (rw (size, IsBounded) bounded);
-      objects = tells_fault (g.known old.source) (error_of r new.decoder.kept) (walk_objects new.walk)
+      objects = tells_fault (g.known old.source) (error_of r new.decoder.details) (walk_objects new.walk)
           (IfSome_then (g.known old.source) held (λ bytes held. sym held.size));
       kept = (ap is_some limiter, λ _. size);
     };
@@ -186,15 +186,15 @@ module _ {R C : Type 0} {g : Ghosts R} {h : CounterGhosts C} (old new : BinaryRe
 
   pub item_walks : (noted : Option (Result Flow StepFault)) (event : PlainEvent) → old.state ≡ Walking
       → new.decoder.bounds ≡ old.decoder.bounds → new.state ≡ state_after noted
-      → YieldsItem (g.known old.source) old.decoder.bounds old.walk (item_kept noted new.decoder.kept)
+      → YieldsItem (g.known old.source) old.decoder.bounds old.walk (item_kept noted new.decoder.details)
       event new.walk
-      → ItemWithin 0 old.decoder.bounds.trailer (item_kept noted new.decoder.kept)
+      → ItemWithin 0 old.decoder.bounds.trailer (item_kept noted new.decoder.details)
       → walk_objects new.walk ≡ walk_objects old.walk
       → IfSome (g.known old.source) (IsBounded old.walk)
       → IsKnownWalk (g.known old.source) old.decoder.bounds new.walk
       → LightensNext old.walk noted new.walk
-      → CountsIo (item_kept noted new.decoder.kept) (g.failures old.source) (g.failures new.source)
-      → Walks old (item_with (item_kept noted new.decoder.kept) event) new
+      → CountsIo (item_kept noted new.decoder.details) (g.failures old.source) (g.failures new.source)
+      → Walks old (item_with (item_kept noted new.decoder.details) event) new
   item_walks noted event walking bounds is yields within size bounded held falls failures =
       item_walks_at noted event walking is (rw bounds yields.first) within size bounded (rw bounds held)
       yields.cached falls failures

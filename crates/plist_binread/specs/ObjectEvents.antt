@@ -14,6 +14,7 @@ use Rattle.plist_decode.specs.StepFaults.{result_with}
 use Rattle.plist_decode.specs.declared.decoded.Content.{Content}
 use Rattle.plist_decode.specs.declared.decoded.Decoded.{Decoded}
 use Rattle.plist_decode.specs.declared.decoded.Decoded.TheVariants as decoded
+use Rattle.plist_decode.specs.declared.step_fault.FaultDetails.{FaultDetails}
 use Rattle.plist_decode.specs.declared.step_fault.StepFault.{StepFault}
 use Rattle.plist_decode.specs.declared.head.Bounds.{Bounds}
 
@@ -43,14 +44,16 @@ SetsEvent object place answer current =
     MatchResult answer (λ _. event_of_object object ≡ Some current) (IsRefusedAs object place)
 
 -- the current event is the first one of the object, and isn't small; or the result is an error of the
--- object, which isn't that of a failed read, and which the decoder doesn't keep
-pub record SetsLarge {A : Type 0} (object : Object) (place : ℕ) (answer : Result A StepFault)
+-- object, with the offset in the details, which isn't that of a failed read; the error isn't kept
+pub record SetsLarge {A : Type 0} (object : Object) (answer : Result A StepFault)
     (current : PlainEvent) : Type 0 where
-  pub sets : (kept : Option Error) → SetsEvent object place (result_with answer kept) current
+  pub sets : (details : FaultDetails)
+      → SetsEvent object details.place (result_with answer details) current
   pub large : OnOk answer (is_small_event current ≡ false)
-  pub fault : (kept : Option Error) (end : ℕ) → ErrWithin place end (result_with answer kept)
-  pub never_io : (kept : Option Error)
-      → IfErr (result_with answer kept) (λ error. IsNotIo (kind_of (error_kind_of error)))
+  pub fault : (details : FaultDetails) (start end : ℕ)
+      → ErrWithin start end (result_with answer details)
+  pub never_io : (details : FaultDetails)
+      → IfErr (result_with answer details) (λ error. IsNotIo (kind_of (error_kind_of error)))
 
 -- if the content lies within known bytes, the current event is that of its object
 abbrev pub SetsContentAt : {A : Type 0} → (known : Option (List ℕ)) → (place : ℕ) → Content

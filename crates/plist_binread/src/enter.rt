@@ -1,8 +1,7 @@
 //! Enters an object: decodes it and hands its first event to a visitor.
 
-ghost use Rattle.std.specs.Prelude.{◌≡◌, ◌+◌, ◌<◌, slice_index, true, false, Option, Some, IfOk, IfErr, OnOk, IfSome};
+ghost use Rattle.std.specs.Prelude.{◌≡◌, ◌+◌, ◌<◌, slice_index, true, false, Some, IfOk, IfErr, OnOk, IfSome};
 ghost use Rattle.plist_base.specs.Faults.{IsNotIo, error_kind_of, kind_of};
-ghost use Rattle.plist_base.specs.declared.error.Error.{Error};
 ghost use Rattle.plist_decode.specs.Packed.{is_marked, unmarked};
 ghost use Rattle.plist_binread.specs.Walking.{IsCachedIfSmall, IsKnownWalk, KeepsWalk, cached_in, remaining_entering, remaining_in, walk_objects};
 ghost use Rattle.plist_binread.specs.Step.{YieldsResult, IsFound, IsLighterEntered, IsUnchanged, IsCollectionStart, OpensObject, RefusesEntering};
@@ -24,7 +23,7 @@ use plist_decode::decoded::{CollectionKind, Content, Decoded};
 use plist_decode::decoder::Decoder;
 use plist_decode::object::{buffered_front, decode_front, read_object};
 use plist_decode::packed::{PackedKind, cache, is_open, mark_open};
-use plist_decode::step_fault::StepFault;
+use plist_decode::step_fault::{FaultDetails, StepFault};
 use std::ops::ControlFlow;
 
 // What the walk has stored about an object that is about to be entered.
@@ -39,21 +38,27 @@ enum Known {
 // Looks up an object that is about to be entered. `at` is the offset of the collection that refers
 // to the object, or of the trailer for the root.
 #[inline(always)]
-fn look_up(walk: &Walk, at: u64, number: u64) -> Result<Known, StepFault>
+fn look_up(
+    details: &mut FaultDetails,
+    walk: &Walk,
+    at: u64,
+    number: u64,
+) -> Result<Known, StepFault>
     // Result.
     ensures found { IfOk result (IsFound (slice_index walk.now.tags.items number)
         (slice_index walk.now.contents.items number)) }
     // Errors.
-    ensures refused { IfErr result (RefusesEntering walk.now at number) }
-    ensures never_io { (kept : Option Error) → IfErr (result_with result kept) (λ error.
+    ensures refused { IfErr result (RefusesEntering walk.now at number details.new) }
+    ensures never_io { IfErr (result_with result details.new) (λ error.
         IsNotIo (kind_of (error_kind_of error))) }
-    ensures fault { (kept : Option Error) → ErrWithin 0 0 (result_with result kept) }
+    ensures fault { ErrWithin 0 0 (result_with result details.new) }
     // State.
     ensures below { IfOk result (λ _. number < walk_objects walk.now) }
     ensures new { IfOk result (λ _. is_marked (slice_index walk.now.tags.items number) ≡ false) }
 {
     if number >= walk.tags.len() as u64 {
-        return Err(StepFault::Reference(at));
+        details.fail_at(at);
+        return Err(StepFault::Reference);
     }
     let tag = walk.tags[number as usize];
     let content = walk.contents[number as usize];
@@ -61,7 +66,8 @@ fn look_up(walk: &Walk, at: u64, number: u64) -> Result<Known, StepFault>
         return Ok(Known::At(content));
     }
     if is_open(tag) {
-        return Err(StepFault::Recursion(content));
+        details.fail_at(content);
+        return Err(StepFault::Recursion);
     }
     Ok(Known::Small(PackedKind::of_tag(tag), content))
 }
@@ -143,19 +149,19 @@ pub fn enter<S: Source, C: DecodeCounter, V: EventVisitor>(
         IfSome (S.known source.old) (λ bytes.
         YieldsResult
         (remaining_entering bytes decoder.old.bounds walk.old reference.at reference.number)
-        (result_with result decoder.new.kept) event (remaining_in bytes decoder.old.bounds walk.new))
+        (result_with result decoder.new.details) event (remaining_in bytes decoder.old.bounds walk.new))
         × IsCachedIfSmall (λ _. event) (Some reference.number)
-        (Some (result_with result decoder.new.kept)) walk.new.tags.items) }
+        (Some (result_with result decoder.new.details)) walk.new.tags.items) }
     // Errors.
-    ensures fault { ErrWithin 0 decoder.old.bounds.trailer (result_with result decoder.new.kept) }
+    ensures fault { ErrWithin 0 decoder.old.bounds.trailer (result_with result decoder.new.details) }
     // State afterwards.
     ensures kept { KeepsWalk S.known C.counts C.count (source.old, decoder.old, walk.old)
         (source.new, decoder.new, walk.new) }
     ensures falls { OnOk result (IsLighterEntered walk.old walk.new) }
-    ensures failures { CountsIo (Some (result_with result decoder.new.kept)) (S.failures source.old)
+    ensures failures { CountsIo (Some (result_with result decoder.new.details)) (S.failures source.old)
         (S.failures source.new) }
 {
-    let place = match look_up(walk, reference.at, reference.number)? {
+    let place = match look_up(&mut decoder.details, walk, reference.at, reference.number)? {
         Known::Small(kind, content) => {
             let mut relay = Relay::new(visitor);
             return Ok(hand_small(kind, content, &mut relay));
@@ -169,7 +175,8 @@ pub fn enter<S: Source, C: DecodeCounter, V: EventVisitor>(
                 let content = Content { kind, start, count };
                 if content.lies_in(seen) {
                     let bytes = content.bytes_in(seen);
-                    return hand_bytes(decoder.alloc, kind, bytes, place, visitor);
+                    decoder.details.place = place;
+                    return hand_bytes(decoder.alloc, kind, bytes, visitor);
                 }
             }
             decoded

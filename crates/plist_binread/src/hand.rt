@@ -57,60 +57,49 @@ pub fn hand_small<V: EventVisitor>(
     }
 }
 
-// Hands over the date in these eight bytes, or returns the fault of the object at this offset if the
-// date is out of range.
+// Hands over the date in these eight bytes, or returns a fault if the date is out of range.
 #[inline(never)]
-fn hand_date<V: EventVisitor>(
-    content: u64,
-    place: u64,
-    visitor: &mut V,
-) -> Result<ControlFlow<()>, StepFault>
+fn hand_date<V: EventVisitor>(content: u64, visitor: &mut V) -> Result<ControlFlow<()>, StepFault>
     ensures { HandsItem V.step visitor.old visitor.new (Some result)
-        (SetsLarge (date (content_bytes content)) place result) }
+        (SetsLarge (date (content_bytes content)) result) }
 {
     match Date::from_plist_real(content.to_be_bytes()) {
         Ok(date) => Ok(visitor.date(date)),
-        Err(_) => Err(StepFault::Object(ObjectFault::NoDate, place)),
+        Err(_) => Err(StepFault::Object(ObjectFault::NoDate)),
     }
 }
 
-// Hands over a string that isn't small, or returns the fault of the object at this offset if the
-// bytes aren't UTF-8.
+// Hands over a string that isn't small, or returns a fault if the bytes aren't UTF-8.
 #[inline(always)]
-fn hand_text<V: EventVisitor>(
-    bytes: &[u8],
-    place: u64,
-    visitor: &mut V,
-) -> Result<ControlFlow<()>, StepFault>
+fn hand_text<V: EventVisitor>(bytes: &[u8], visitor: &mut V) -> Result<ControlFlow<()>, StepFault>
     requires { IsLongBytes KindText bytes.now }
     ensures { HandsItem V.step visitor.old visitor.new (Some result)
-        (SetsLarge (text bytes.now) place result) }
+        (SetsLarge (text bytes.now) result) }
 {
     match text_in(bytes) {
         Some(text) => Ok(visitor.string(CowStr::Borrowed(text))),
-        None => Err(StepFault::Object(ObjectFault::NotUtf8, place)),
+        None => Err(StepFault::Object(ObjectFault::NotUtf8)),
     }
 }
 
-// Decodes a string in UTF-16 of any length into memory of its own, and hands it over. Returns the
-// fault of the object at this offset if the string is invalid.
+// Decodes a string in UTF-16 of any length into memory of its own, and hands it over. Returns a
+// fault if the string is invalid.
 #[cold]
 #[inline(never)]
 fn hand_long_wide_text<V: EventVisitor>(
     alloc: Global,
     bytes: &[u8],
-    place: u64,
     visitor: &mut V,
 ) -> Result<ControlFlow<()>, StepFault>
     requires { AreUnits 2 bytes.now }
     ensures { HandsItem V.step visitor.old visitor.new (Some result)
-        (SetsLarge (wide_text bytes.now) place result) }
+        (SetsLarge (wide_text bytes.now) result) }
 {
-    let event = wide_text_event(alloc, bytes, place)?;
+    let event = wide_text_event(alloc, bytes)?;
     Ok(visitor.event(event))
 }
 
-// Hands over a string in UTF-16, or returns the fault of the object at this offset if it is invalid.
+// Hands over a string in UTF-16, or returns a fault if it is invalid.
 // A string of at most `MAX_UNITS` units is decoded on the stack.
 //
 // A string of at most eight bytes in UTF-8 is decoded together with the first bytes of its object.
@@ -120,43 +109,40 @@ fn hand_long_wide_text<V: EventVisitor>(
 fn hand_wide_text<V: EventVisitor>(
     alloc: Global,
     bytes: &[u8],
-    place: u64,
     visitor: &mut V,
 ) -> Result<ControlFlow<()>, StepFault>
     requires { AreUnits 2 bytes.now }
     ensures { HandsItem V.step visitor.old visitor.new (Some result)
-        (SetsLarge (wide_text bytes.now) place result) }
+        (SetsLarge (wide_text bytes.now) result) }
 {
     if bytes.len() > 2 * MAX_UNITS {
-        return hand_long_wide_text(alloc, bytes, place, visitor);
+        return hand_long_wide_text(alloc, bytes, visitor);
     }
     let mut text = [0; 3 * MAX_UNITS];
     match utf16_text_in(bytes, &mut text) {
         Some(text) if text.len() > 8 => Ok(visitor.string(CowStr::Borrowed(text))),
         Some(_) => Err(StepFault::Memory),
-        None => Err(StepFault::Object(ObjectFault::NotUtf16, place)),
+        None => Err(StepFault::Object(ObjectFault::NotUtf16)),
     }
 }
 
-/// Hands over the string or data in these bytes, or returns the fault of the object at this offset
-/// if a string is invalid.
+/// Hands over the string or data in these bytes, or returns a fault if a string is invalid.
 #[inline(always)]
 pub fn hand_bytes<V: EventVisitor>(
     alloc: Global,
     kind: ContentKind,
     bytes: &[u8],
-    place: u64,
     visitor: &mut V,
 ) -> Result<ControlFlow<()>, StepFault>
     requires units { AreUnits (unit_size kind) bytes.now }
     requires long { IsLongBytes kind bytes.now }
     ensures { HandsItem V.step visitor.old visitor.new (Some result)
-        (SetsLarge (content_means kind bytes.now) place result) }
+        (SetsLarge (content_means kind bytes.now) result) }
 {
     match kind {
         ContentKind::Data => Ok(visitor.data(CowSlice::Borrowed(bytes))),
-        ContentKind::Text => hand_text(bytes, place, visitor),
-        ContentKind::WideText => hand_wide_text(alloc, bytes, place, visitor),
+        ContentKind::Text => hand_text(bytes, visitor),
+        ContentKind::WideText => hand_wide_text(alloc, bytes, visitor),
     }
 }
 
@@ -174,15 +160,15 @@ fn hand_far<S: Source, C: DecodeCounter, V: EventVisitor>(
     requires long { IsLong content }
     // Result.
     ensures handed { HandsItem V.step visitor.old visitor.new (Some result) (λ event.
-        SetsContentAt (S.known source.old) place content (result_with result decoder.new.kept) event
+        SetsContentAt (S.known source.old) place content (result_with result decoder.new.details) event
         × OnOk result (is_small_event event ≡ false)) }
     // Errors.
-    ensures fault { FailsInContent place content (result_with result decoder.new.kept) }
+    ensures fault { FailsInContent place content (result_with result decoder.new.details) }
     // State afterwards.
     ensures bounds { decoder.new.bounds ≡ decoder.old.bounds }
     ensures counter { decoder.new.counter ≡ decoder.old.counter }
     ensures unchanged { S.known source.new ≡ S.known source.old }
-    ensures failures { CountsIo (Some (result_with result decoder.new.kept))
+    ensures failures { CountsIo (Some (result_with result decoder.new.details))
         (S.failures source.old) (S.failures source.new) }
 {
     let event = read_long(source, decoder, place, content)?;
@@ -200,7 +186,7 @@ fn hand_start<V: EventVisitor>(kind: CollectionKind, count: u64, visitor: &mut V
     }
 }
 
-/// Hands over the first event of the object at this offset, or returns its fault. A long string or
+/// Hands over the first event of the object at this offset, or returns a fault. A long string or
 /// long data is read into new memory.
 #[inline(always)]
 pub fn hand_decoded<S: Source, C: DecodeCounter, V: EventVisitor>(
@@ -214,26 +200,32 @@ pub fn hand_decoded<S: Source, C: DecodeCounter, V: EventVisitor>(
     // Result.
     ensures handed { HandsItem V.step visitor.old visitor.new (Some result) (λ event.
         SetsDecoded (S.known source.old) decoder.old.bounds place decoded
-        (result_with result decoder.new.kept) event
+        (result_with result decoder.new.details) event
         × OnOk result (is_small_event event ≡ true → small_count decoded ≡ 1)) }
     ensures found { OnOk result (is_refused decoded ≡ false) }
     // Errors.
-    ensures fault { ErrWithin place decoder.old.bounds.trailer (result_with result decoder.new.kept) }
+    ensures fault { ErrWithin place decoder.old.bounds.trailer (result_with result decoder.new.details) }
     // State afterwards.
     ensures unchanged { S.known source.new ≡ S.known source.old }
     ensures bounds { decoder.new.bounds ≡ decoder.old.bounds }
     ensures counter { decoder.new.counter ≡ decoder.old.counter }
-    ensures failures { CountsIo (Some (result_with result decoder.new.kept)) (S.failures source.old)
+    ensures failures { CountsIo (Some (result_with result decoder.new.details)) (S.failures source.old)
         (S.failures source.new) }
 {
     match decoded {
         Decoded::Small(kind, content) => Ok(hand_small(kind, content, visitor)),
-        Decoded::Date(content) => hand_date(content, place, visitor),
+        Decoded::Date(content) => {
+            decoder.details.place = place;
+            hand_date(content, visitor)
+        }
         Decoded::Long(kind, start, count) => {
             let content = Content { kind, start, count };
             hand_far(source, decoder, place, content, visitor)
         }
         Decoded::Collection(kind, _, count) => Ok(hand_start(kind, count, visitor)),
-        Decoded::Faulty(fault) => Err(StepFault::Object(fault, place)),
+        Decoded::Faulty(fault) => {
+            decoder.details.fail_at(place);
+            Err(StepFault::Object(fault))
+        }
     }
 }

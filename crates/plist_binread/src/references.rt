@@ -15,7 +15,7 @@ use plist_decode::counter::DecodeCounter;
 use plist_decode::decoded::{CollectionKind, ObjectFault};
 use plist_decode::decoder::Decoder;
 use plist_decode::numbers::{number_from, read_number};
-use plist_decode::step_fault::StepFault;
+use plist_decode::step_fault::{FaultDetails, StepFault};
 
 // The largest number of bytes in a run.
 const RUN: usize = 32;
@@ -190,29 +190,27 @@ impl References {
 // Reads a reference that isn't buffered.
 #[cold]
 #[inline(never)]
-fn read_reference<S: Source, C: DecodeCounter>(
+fn read_reference<S: Source>(
     source: &mut S,
-    decoder: &mut Decoder<C>,
+    details: &mut FaultDetails,
     place: u64,
     width: usize,
 ) -> Result<u64, StepFault>
     requires width { width ≤ 8 }
     requires fits { place + width < 2 ^ 64 }
     // Result.
-    ensures value { DecodesBy (result_with result decoder.new.kept) (S.known source.old)
+    ensures value { DecodesBy (result_with result details.new) (S.known source.old)
         (λ bytes. number_at bytes place width) }
     // Errors.
-    ensures refused { IfRefused (result_with result decoder.new.kept) (S.known source.old)
+    ensures refused { IfRefused (result_with result details.new) (S.known source.old)
         (IsIoWithin place width) }
-    ensures fault { ErrWithin place (place + width) (result_with result decoder.new.kept) }
+    ensures fault { ErrWithin place (place + width) (result_with result details.new) }
     // State afterwards.
-    ensures bounds { decoder.new.bounds ≡ decoder.old.bounds }
-    ensures counter { decoder.new.counter ≡ decoder.old.counter }
     ensures unchanged { S.known source.new ≡ S.known source.old }
-    ensures failures { CountsIo (Some (result_with result decoder.new.kept)) (S.failures source.old)
+    ensures failures { CountsIo (Some (result_with result details.new)) (S.failures source.old)
         (S.failures source.new) }
 {
-    decoder.keep_error(read_number(source, place, width))
+    details.keep_error(read_number(source, place, width))
 }
 
 /// Reads the references of collections.
@@ -300,24 +298,25 @@ impl ReferenceReader {
             (stored_references walk.now frame) }
         requires runs { AreRunsOf (S.known source.old) self.old }
         // Result.
-        ensures child { ReadsChildAt (result_with result decoder.new.kept) (S.known source.old)
+        ensures child { ReadsChildAt (result_with result decoder.new.details) (S.known source.old)
             decoder.old.bounds (stored_references walk.now frame).place frame.next }
         // Errors.
         ensures fault { ErrWithin 0 decoder.old.bounds.trailer
-            (result_with result decoder.new.kept) }
+            (result_with result decoder.new.details) }
         // State afterwards.
         ensures runs { AreRunsOf (S.known source.old) self.new }
         ensures bounds { decoder.new.bounds ≡ decoder.old.bounds }
         ensures counter { decoder.new.counter ≡ decoder.old.counter }
         ensures unchanged { S.known source.new ≡ S.known source.old }
-        ensures failures { CountsIo (Some (result_with result decoder.new.kept))
+        ensures failures { CountsIo (Some (result_with result decoder.new.details))
             (S.failures source.old) (S.failures source.new) }
     {
         let width = decoder.bounds.reference_width;
         let references = walk.references(frame);
         let at = references.reference_place(frame.next, width);
         if at >= decoder.bounds.trailer || decoder.bounds.trailer - at < width as u64 {
-            return Err(StepFault::Object(ObjectFault::Overrun, references.place));
+            decoder.details.fail_at(references.place);
+            return Err(StepFault::Object(ObjectFault::Overrun));
         }
         if let Some(number) = self.number_at(at, width) {
             return Ok(number);
@@ -325,7 +324,7 @@ impl ReferenceReader {
         self.prefetcher.prefetch(source, walk, frame, width);
         match self.refill(source, references.is_value(frame.next), at, width) {
             Some(number) => Ok(number),
-            None => read_reference(source, decoder, at, width),
+            None => read_reference(source, &mut decoder.details, at, width),
         }
     }
 }

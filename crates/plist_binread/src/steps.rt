@@ -44,23 +44,23 @@ pub fn begin<S: Source, C: DecodeCounter, V: EventVisitor>(
     requires counted { C.counts → C.count decoder.old.counter ≡ cached_in walk.old }
     // Result.
     ensures handed { HandsItem V.step visitor.old visitor.new (Some result) (λ event.
-        YieldsRoot (S.known source.old) decoder.new.bounds (result_with result decoder.new.kept) event
+        YieldsRoot (S.known source.old) decoder.new.bounds (result_with result decoder.new.details) event
         walk.new) }
     // Errors.
-    ensures fault { ErrWithin 0 (2 ^ 64) (result_with result decoder.new.kept) }
+    ensures fault { ErrWithin 0 (2 ^ 64) (result_with result decoder.new.details) }
     // State afterwards.
     ensures counted { C.counts → C.count decoder.new.counter ≡ cached_in walk.new }
     ensures bounded { IfSome (S.known source.old) (IsBounded walk.new) }
     ensures objects { IfSome (S.known source.old) (λ bytes.
-        CountsObjects bytes (result_with result decoder.new.kept) (walk_objects walk.new)) }
+        CountsObjects bytes (result_with result decoder.new.details) (walk_objects walk.new)) }
     ensures known { OnOk result (IsKnownWalk (S.known source.old) decoder.new.bounds walk.new) }
     ensures falls { OnOk result (weight_in walk.new < walk_steps (walk_objects walk.new)) }
     ensures unchanged { S.known source.new ≡ S.known source.old }
-    ensures failures { CountsIo (Some (result_with result decoder.new.kept)) (S.failures source.old)
+    ensures failures { CountsIo (Some (result_with result decoder.new.details)) (S.failures source.old)
         (S.failures source.new) }
 {
     let alloc = decoder.alloc;
-    let head = decoder.keep_error(Head::read(alloc, source))?;
+    let head = decoder.details.keep_error(Head::read(alloc, source))?;
     let tags = zero_tags(alloc, head.places.len())?;
     let Head {
         trailer,
@@ -97,15 +97,15 @@ pub fn advance<S: Source, C: DecodeCounter, V: EventVisitor>(
     // Result.
     ensures handed { HandsItem V.step visitor.old visitor.new result (λ event.
         YieldsItem (S.known source.old) decoder.old.bounds walk.old
-        (item_kept result decoder.new.kept) event walk.new) }
+        (item_kept result decoder.new.details) event walk.new) }
     // Errors.
-    ensures fault { ItemWithin 0 decoder.old.bounds.trailer (item_kept result decoder.new.kept) }
+    ensures fault { ItemWithin 0 decoder.old.bounds.trailer (item_kept result decoder.new.details) }
     // State afterwards.
     ensures kept { KeepsWalk S.known C.counts C.count (source.old, decoder.old, walk.old)
         (source.new, decoder.new, walk.new) }
     ensures references { AreRunsOf (S.known source.old) references.new }
     ensures falls { LightensNext walk.old result walk.new }
-    ensures failures { CountsIo (item_kept result decoder.new.kept) (S.failures source.old)
+    ensures failures { CountsIo (item_kept result decoder.new.details) (S.failures source.old)
         (S.failures source.new) }
 {
     match walk.next_child() {

@@ -1,5 +1,5 @@
 -- What is decoded from an object, and how an object can be faulty.
-use Rattle.std.proofs.Common.{◌≡◌, ℕ, suc, inl, inr, ◌+◌, ◌-◌, ◌*◌, ◌<◌, ◌≤◌, false, List, ◌∷◌, ◌++◌, length, take, drop, replicate, Option, Some, Err, refl, ap, sym, subst, ◌∙◌, arith}
+use Rattle.std.proofs.Common.{◌≡◌, ℕ, suc, inl, inr, ◌+◌, ◌-◌, ◌*◌, ◌<◌, ◌≤◌, false, List, ◌∷◌, ◌++◌, length, take, drop, replicate, Option, Some, ap, sym, subst, ◌∙◌, arith}
 use Rattle.std.proofs.lemmas.Bool.{cases_lt, le-leb}
 use Rattle.std.proofs.lemmas.List.{length-append, length-drop, length-take-le, drop-append-le}
 use Rattle.std.proofs.lemmas.Option.{IfSome_then}
@@ -7,68 +7,23 @@ use Rattle.std.specs.Char.Utf16.{has_unpaired_surrogate, utf16_lossy_chars}
 use Rattle.std.specs.Str.{encode_utf8_all}
 use Rattle.std.proofs.Math.ListN.{length-replicate}
 use Rattle.std.proofs.Math.Seq.{take-length}
-use Rattle.plist_base.specs.declared.error.Error.{Error}
-use Rattle.plist_base.specs.Faults.{fault_of}
-use Rattle.plist_base.specs.Sources.{CountsIo}
 use Rattle.plist_base.specs.Trees as trees
 use Rattle.plist_base.specs.Object.{Object, Scalar, length_in, object_in, text_of_units}
 use Rattle.plist_decode.specs.CountedContent.{content_means, counted_with, unit_size}
-use Rattle.plist_decode.specs.Decoded.{DecodesAt, DecodesSeen, FitsBefore, IsDecodedAs, IsObjectFault, MeansDecoded, IsLongCount}
-use Rattle.plist_decode.specs.Decoding.{IsRefusedAs}
-use Rattle.plist_decode.specs.FaultOffsets.{FailsWithin}
+use Rattle.plist_decode.specs.Decoded.{DecodesAt, DecodesSeen, FitsBefore, IsDecodedAs, MeansDecoded, IsLongCount}
 use Rattle.plist_decode.specs.Front.{IsFrontAt}
 use Rattle.plist_decode.specs.Packed.{content_bytes}
 use Rattle.plist_decode.specs.Reading.{data_of_content, object_with}
-use Rattle.plist_decode.specs.StepFaults.{error_of}
-use Rattle.plist_decode.specs.declared.step_fault.StepFault.TheVariants.{Object as Faulted}
 use Rattle.plist_decode.specs.declared.decoded.ContentKind.{ContentKind}
 use Rattle.plist_decode.specs.declared.decoded.ContentKind.TheVariants as content_kind
 use Rattle.plist_decode.specs.declared.decoded.Decoded.{Decoded}
 use Rattle.plist_decode.specs.declared.decoded.Decoded.TheVariants as decoded
-use Rattle.plist_decode.specs.declared.decoded.ObjectFault.{ObjectFault}
-use Rattle.plist_decode.specs.declared.decoded.ObjectFault.TheVariants as fault
 use Rattle.plist_decode.specs.declared.head.Bounds.{Bounds}
 use Rattle.plist_decode.specs.declared.packed.PackedKind.TheVariants as kind
 use Rattle.plist_decode.proofs.Lengths.{content_seen}
 use Rattle.plist_decode.proofs.ObjectFronts.{known_front, object_front}
 
 -- ---- faults
-
--- if the object has this fault, the error of the fault is that of the object
-pub refused_fault : (object : Object) (f : ObjectFault) (place : ℕ) (kept : Option Error)
-    → IsObjectFault object f → IsRefusedAs object place (error_of (Faulted f place) kept)
-refused_fault object fault.Overrun place kept is = (is, refl)
-refused_fault object fault.Null place kept is = (is, refl)
-refused_fault object fault.Fill place kept is = (is, refl)
-refused_fault object (fault.Unknown marker) place kept is = (is, refl)
-refused_fault object fault.OutOfRange place kept is = (is, refl)
-refused_fault object fault.NoDate place kept is = (is, refl)
-refused_fault object fault.NotUtf8 place kept is = (is, refl)
-refused_fault object fault.NotUtf16 place kept is = (is, refl)
-
--- the error of an object's fault has an offset
-pub fault_within : (f : ObjectFault) (place start end : ℕ) (kept : Option Error)
-    → FailsWithin start end (fault_of (error_of (Faulted f place) kept))
-fault_within fault.Overrun place start end kept = record { placed = tt }
-fault_within fault.Null place start end kept = record { placed = tt }
-fault_within fault.Fill place start end kept = record { placed = tt }
-fault_within (fault.Unknown marker) place start end kept = record { placed = tt }
-fault_within fault.OutOfRange place start end kept = record { placed = tt }
-fault_within fault.NoDate place start end kept = record { placed = tt }
-fault_within fault.NotUtf8 place start end kept = record { placed = tt }
-fault_within fault.NotUtf16 place start end kept = record { placed = tt }
-
--- the error of an object's fault isn't an I/O error, and leaves the count of failures unchanged
-pub fault_counts : (A : Type 0) (f : ObjectFault) (place : ℕ) (kept : Option Error) (old new : ℕ)
-    → new ≡ old → CountsIo {A = A} (Some (Err (error_of (Faulted f place) kept))) old new
-fault_counts A fault.Overrun place kept old new same = same
-fault_counts A fault.Null place kept old new same = same
-fault_counts A fault.Fill place kept old new same = same
-fault_counts A (fault.Unknown marker) place kept old new same = same
-fault_counts A fault.OutOfRange place kept old new same = same
-fault_counts A fault.NoDate place kept old new same = same
-fault_counts A fault.NotUtf8 place kept old new same = same
-fault_counts A fault.NotUtf16 place kept old new same = same
 
 -- ---- strings and data
 

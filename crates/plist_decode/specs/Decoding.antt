@@ -9,6 +9,7 @@ use Rattle.plist_base.specs.declared.event.Event.{Event}
 use Rattle.plist_decode.specs.FaultOffsets.{ErrWithin}
 use Rattle.plist_decode.specs.Packed.{is_small_event, scalar_event}
 use Rattle.plist_decode.specs.StepFaults.{result_with}
+use Rattle.plist_decode.specs.declared.step_fault.FaultDetails.{FaultDetails}
 use Rattle.plist_decode.specs.declared.step_fault.StepFault.{StepFault}
 use Rattle.plist_base.specs.Container.{number_at}
 use Rattle.plist_base.specs.Object.{Object, Scalar, Array, Dictionary, Faulty, children_of}
@@ -100,12 +101,12 @@ Decodes object place answer =
     MatchResult answer (λ event. scalar_event_in object ≡ Some (event_of event))
     (λ e. IsRefusedAs object place e)
 
--- the event of the object, which isn't small, or an error as in `Decodes`, which isn't an I/O error;
--- the decoder doesn't keep it
-pub record DecodesLarge (object : Object) (place : ℕ) (answer : Result Event StepFault) : Type 0
-  where
-    pub decoded : (kept : Option Error) → Decodes object place (result_with answer kept)
-    pub large : IsLarge answer
-    pub never_io : (kept : Option Error)
-        → IfErr (result_with answer kept) (λ error. IsNotIo (kind_of (error_kind_of error)))
-    pub fault : (kept : Option Error) (end : ℕ) → ErrWithin place end (result_with answer kept)
+-- the event of the object, which isn't small, or an error as in `Decodes` at the offset in the
+-- details, which isn't an I/O error; the error isn't kept
+pub record DecodesLarge (object : Object) (answer : Result Event StepFault) : Type 0 where
+  pub decoded : (details : FaultDetails) → Decodes object details.place (result_with answer details)
+  pub large : IsLarge answer
+  pub never_io : (details : FaultDetails)
+      → IfErr (result_with answer details) (λ error. IsNotIo (kind_of (error_kind_of error)))
+  pub fault : (details : FaultDetails) (start end : ℕ)
+      → ErrWithin start end (result_with answer details)

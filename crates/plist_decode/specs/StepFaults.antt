@@ -5,6 +5,7 @@ use Rattle.plist_base.specs.declared.error.ErrorKind.{ErrorKind}
 use Rattle.plist_base.specs.declared.error.ErrorKind.TheVariants as error_kind
 use Rattle.plist_decode.specs.declared.decoded.ObjectFault.{ObjectFault}
 use Rattle.plist_decode.specs.declared.decoded.ObjectFault.TheVariants as fault
+use Rattle.plist_decode.specs.declared.step_fault.FaultDetails.{FaultDetails}
 use Rattle.plist_decode.specs.declared.step_fault.StepFault.{StepFault}
 use Rattle.plist_decode.specs.declared.step_fault.StepFault.TheVariants as step
 
@@ -19,26 +20,29 @@ object_error_kind fault.NoDate = error_kind.OverflowOrNanDate
 object_error_kind fault.NotUtf8 = error_kind.InvalidUtf8String
 object_error_kind fault.NotUtf16 = error_kind.InvalidUtf16String
 
--- the error of a step that failed, if the decoder keeps this error; if it keeps none, `Kept` means
--- `OutOfMemory`
-abbrev pub error_of : StepFault → (kept : Option Error) → Error
-error_of (step.Object fault place) kept =
-    record { kind = object_error_kind fault; offset = Some place }
-error_of (step.Reference at) kept =
-    record { kind = error_kind.ObjectReferenceTooLarge; offset = Some at }
-error_of (step.Recursion place) kept =
-    record { kind = error_kind.RecursiveObject; offset = Some place }
-error_of step.Memory kept = record { kind = error_kind.OutOfMemory; offset = None }
-error_of step.Kept None = record { kind = error_kind.OutOfMemory; offset = None }
-error_of step.Kept (Some error) = error
+-- the error that was kept, or `OutOfMemory` if there is none
+abbrev pub kept_error : Option Error → Error
+kept_error None = record { kind = error_kind.OutOfMemory; offset = None }
+kept_error (Some error) = error
+
+-- the error of a step that failed
+abbrev pub error_of : StepFault → FaultDetails → Error
+error_of (step.Object fault) details =
+    record { kind = object_error_kind fault; offset = Some details.place }
+error_of step.Reference details =
+    record { kind = error_kind.ObjectReferenceTooLarge; offset = Some details.place }
+error_of step.Recursion details =
+    record { kind = error_kind.RecursiveObject; offset = Some details.place }
+error_of step.Memory details = record { kind = error_kind.OutOfMemory; offset = None }
+error_of step.Kept details = kept_error details.kept
 
 -- the result of a step, with the error that `error_of` returns
-abbrev pub result_with : {A : Type 0} → Result A StepFault → (kept : Option Error) → Result A Error
-result_with (Ok value) kept = Ok value
-result_with (Err fault) kept = Err (error_of fault kept)
+abbrev pub result_with : {A : Type 0} → Result A StepFault → FaultDetails → Result A Error
+result_with (Ok value) details = Ok value
+result_with (Err fault) details = Err (error_of fault details)
 
 -- the item of a step, with the error that `error_of` returns
-abbrev pub item_kept : {A : Type 0} → Option (Result A StepFault) → (kept : Option Error)
+abbrev pub item_kept : {A : Type 0} → Option (Result A StepFault) → FaultDetails
     → Option (Result A Error)
-item_kept None kept = None
-item_kept (Some answer) kept = Some (result_with answer kept)
+item_kept None details = None
+item_kept (Some answer) details = Some (result_with answer details)

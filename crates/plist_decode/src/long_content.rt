@@ -19,25 +19,24 @@ use plist_base::{Event, OwnedEvent, Source};
 use std::alloc::{AllocError, Global};
 use std::borrow::{CowSlice, CowStr};
 
-// Returns the string in these bytes, or the fault of the object at this offset if they aren't UTF-8.
-fn text_event(bytes: Vec<u8>, place: u64) -> Result<OwnedEvent, StepFault>
+// Returns the string in these bytes, or a fault if they aren't UTF-8.
+fn text_event(bytes: Vec<u8>) -> Result<OwnedEvent, StepFault>
     requires { IsLongBytes KindText bytes.items }
-    ensures { DecodesLarge (text bytes.items) place result }
+    ensures { DecodesLarge (text bytes.items) result }
 {
     match String::from_utf8(bytes) {
         Ok(string) => Ok(Event::String(CowStr::Owned(string))),
-        Err(_) => Err(StepFault::Object(ObjectFault::NotUtf8, place)),
+        Err(_) => Err(StepFault::Object(ObjectFault::NotUtf8)),
     }
 }
 
-// Returns the string in these units, or the fault of the object at this offset if they aren't
-// UTF-16.
+// Returns the string in these units, or a fault if they aren't UTF-16.
 //
 // A string of at most eight bytes in UTF-8 is decoded together with the first bytes of its object.
 // So there can be one here only if the source returned other bytes before. The fault is `Memory`
 // then.
-fn text_of_units_event(alloc: Global, units: &[u16], place: u64) -> Result<OwnedEvent, StepFault>
-    ensures { DecodesLarge (text_of_units units.now) place result }
+fn text_of_units_event(alloc: Global, units: &[u16]) -> Result<OwnedEvent, StepFault>
+    ensures { DecodesLarge (text_of_units units.now) result }
 {
     match String::from_utf16(alloc, units)? {
         Ok(string) => {
@@ -46,7 +45,7 @@ fn text_of_units_event(alloc: Global, units: &[u16], place: u64) -> Result<Owned
             }
             Ok(Event::String(CowStr::Owned(string)))
         }
-        Err(_) => Err(StepFault::Object(ObjectFault::NotUtf16, place)),
+        Err(_) => Err(StepFault::Object(ObjectFault::NotUtf16)),
     }
 }
 
@@ -64,38 +63,32 @@ fn units_in(alloc: Global, bytes: &[u8]) -> Result<Vec<u16>, AllocError>
 ///
 /// # Errors
 ///
-/// - `Object` with `NotUtf16` and the object's offset if a surrogate is unpaired.
+/// - `Object` with `NotUtf16` if a surrogate is unpaired.
 /// - `Memory` if an allocation fails, or if the string has at most eight bytes in UTF-8: it is a
 ///   small object then, which is decoded elsewhere.
-pub fn wide_text_event(alloc: Global, bytes: &[u8], place: u64) -> Result<OwnedEvent, StepFault>
+pub fn wide_text_event(alloc: Global, bytes: &[u8]) -> Result<OwnedEvent, StepFault>
     requires { AreUnits 2 bytes.now }
-    ensures { DecodesLarge (wide_text bytes.now) place result }
+    ensures { DecodesLarge (wide_text bytes.now) result }
 {
     let units = units_in(alloc, bytes)?;
-    text_of_units_event(alloc, &units, place)
+    text_of_units_event(alloc, &units)
 }
 
-// Returns the string or data in these bytes, or the fault of the object at this offset if it is
-// invalid.
+// Returns the string or data in these bytes, or a fault if it is invalid.
 //
 // The bytes of a UTF-16 string are freed before the string is allocated, in order to save memory.
-fn content_event(
-    alloc: Global,
-    kind: ContentKind,
-    bytes: Vec<u8>,
-    place: u64,
-) -> Result<OwnedEvent, StepFault>
+fn content_event(alloc: Global, kind: ContentKind, bytes: Vec<u8>) -> Result<OwnedEvent, StepFault>
     requires units { AreUnits (unit_size kind) bytes.items }
     requires long { IsLongBytes kind bytes.items }
-    ensures { DecodesLarge (content_means kind bytes.items) place result }
+    ensures { DecodesLarge (content_means kind bytes.items) result }
 {
     match kind {
         ContentKind::Data => Ok(Event::Data(CowSlice::Owned(bytes))),
-        ContentKind::Text => text_event(bytes, place),
+        ContentKind::Text => text_event(bytes),
         ContentKind::WideText => {
             let units = units_in(alloc, &bytes)?;
             drop(bytes);
-            text_of_units_event(alloc, &units, place)
+            text_of_units_event(alloc, &units)
         }
     }
 }
@@ -104,10 +97,11 @@ fn content_event(
 ///
 /// # Errors
 ///
-/// - `Object` with `NotUtf8` or `NotUtf16` and the object's offset if the string is invalid.
+/// - `Object` with `NotUtf8` or `NotUtf16` if the string is invalid. The details have the object's
+///   offset.
 /// - `Memory` if an allocation for a string in UTF-16 fails after its bytes were read.
-/// - `Kept` if the bytes can't be read. The decoder keeps `Io` if a read fails, `UnexpectedEof` if
-///   the source ends before the content does, and `OutOfMemory` if memory for the bytes can't be
+/// - `Kept` if the bytes can't be read. The error is `Io` if a read fails, `UnexpectedEof` if the
+///   source ends before the content does, or `OutOfMemory` if memory for the bytes can't be
 ///   allocated. The first two have the offset of the read that failed or returned no byte.
 pub fn read_long<S: Source, C: DecodeCounter>(
     source: &mut S,
@@ -119,20 +113,23 @@ pub fn read_long<S: Source, C: DecodeCounter>(
     requires long { IsLong content }
     // Result.
     ensures decoded { ReadsContent (S.known source.old) place content
-        (result_with result decoder.new.kept) }
+        (result_with result decoder.new.details) }
     ensures large { IsLarge result }
     // Errors.
-    ensures fault { FailsInContent place content (result_with result decoder.new.kept) }
+    ensures fault { FailsInContent place content (result_with result decoder.new.details) }
     // State afterwards.
     ensures bounds { decoder.new.bounds ≡ decoder.old.bounds }
     ensures counter { decoder.new.counter ≡ decoder.old.counter }
     ensures unchanged { S.known source.new ≡ S.known source.old }
-    ensures failures { CountsIo (Some (result_with result decoder.new.kept))
+    ensures failures { CountsIo (Some (result_with result decoder.new.details))
         (S.failures source.old) (S.failures source.new) }
 {
     let alloc = decoder.alloc;
     let start = place + u64::from(content.start);
     let size = content.count * content.kind.unit_size();
-    let bytes = decoder.keep_error(read_bytes(alloc, source, start, size as usize))?;
-    content_event(alloc, content.kind, bytes, place)
+    let bytes = decoder
+        .details
+        .keep_error(read_bytes(alloc, source, start, size as usize))?;
+    decoder.details.place = place;
+    content_event(alloc, content.kind, bytes)
 }

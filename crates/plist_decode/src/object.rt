@@ -150,22 +150,25 @@ pub fn read_object<S: Source, C: DecodeCounter>(
     // Errors.
     ensures refused { IfErr result (λ fault.
         RefusesObjectAt (S.known source.old) decoder.old.bounds place
-        (error_of fault decoder.new.kept)) }
-    ensures fault { ErrWithin place decoder.old.bounds.trailer (result_with result decoder.new.kept) }
+        (error_of fault decoder.new.details)) }
+    ensures fault { ErrWithin place decoder.old.bounds.trailer (result_with result decoder.new.details) }
     // State afterwards.
     ensures counted { CountsSmallRead C.counts C.count decoder.old.counter decoder.new.counter
         result }
     ensures bounds { decoder.new.bounds ≡ decoder.old.bounds }
     ensures unchanged { S.known source.new ≡ S.known source.old }
-    ensures failures { CountsIo (Some (result_with result decoder.new.kept)) (S.failures source.old)
+    ensures failures { CountsIo (Some (result_with result decoder.new.details)) (S.failures source.old)
         (S.failures source.new) }
 {
     if place >= decoder.bounds.trailer {
-        return Err(StepFault::Object(ObjectFault::Overrun, place));
+        decoder.details.fail_at(place);
+        return Err(StepFault::Object(ObjectFault::Overrun));
     }
     let to_trailer = decoder.bounds.trailer - place;
     let mut front = [0; FRONT];
     let seen = &mut front[..to_trailer.min(FRONT as u64) as usize];
-    decoder.keep_error(read_exact_at(source, place, seen))?;
+    decoder
+        .details
+        .keep_error(read_exact_at(source, place, seen))?;
     Ok(decode_front(decoder, place, seen))
 }

@@ -13,6 +13,7 @@ use Rattle.plist_decode.specs.Front.{IsFrontAt}
 use Rattle.plist_decode.specs.declared.decoded.Content.{Content}
 use Rattle.plist_decode.specs.declared.decoded.Decoded.{Decoded}
 use Rattle.plist_decode.specs.declared.head.Bounds.{Bounds}
+use Rattle.plist_decode.specs.declared.step_fault.FaultDetails.{FaultDetails}
 use Rattle.plist_decode.specs.declared.decoded.Decoded.TheVariants as decoded
 use Rattle.plist_decode.specs.Packed.{scalar_event, unpacked}
 use Rattle.plist_decode.specs.StepFaults.{error_of, result_with}
@@ -80,7 +81,7 @@ hand_bytes-requires-clause-long g c =
 pub returns-then-lies_in-clause-fault : goal.returns-then-lies_in-clause-fault
 returns-then-lies_in-clause-fault g c =
     err_within _ c.in-At.place c.args.decoder.now.bounds.trailer 0 c.args.decoder.now.bounds.trailer
-    (c.hand_bytes.ensures.is.fault _ c.args.decoder.now.bounds.trailer) (omega arith) (omega arith)
+    (c.hand_bytes.ensures.is.fault _ _ c.args.decoder.now.bounds.trailer) (omega arith) (omega arith)
 
 pub returns-then-lies_in-clause-falls : goal.returns-then-lies_in-clause-falls
 returns-then-lies_in-clause-falls g c =
@@ -99,7 +100,9 @@ returns-then-lies_in-clause-handed g c =
     = record { kind = c.in-Long.kind; start = c.in-Long.start; count = c.in-Long.count } in
     let long = decoded.Long c.in-Long.kind c.in-Long.start c.in-Long.count in
     let h = c.hand_bytes.ensures in
-    let answer = result_with c.hand_bytes.result c.decode_front-decoded.new.decoder.kept in
+    let details : FaultDetails
+    = record { place = c.in-At.place; kept = c.decode_front-decoded.new.decoder.details.kept } in
+    let answer = result_with c.hand_bytes.result details in
     let front = seen_front g at in
     let there = known_decoded _ bounds c.args.walk.now c.args.reference.number c.requires.known
     c.in_ok-kind.ensures.below c.in-At.place long (rw c.in-At.is at c.in_ok-kind.ensures.found)
@@ -108,7 +111,7 @@ returns-then-lies_in-clause-handed g c =
     c.decode_front-decoded.ensures.decoded)) in
     let sets = long_sets _ bounds c.in-At.place content answer h.event (long_fits g at).0
     (borrowed_sets _ c.in-At.place content c.in-Some.seen.now answer h.event front.lies
-    (c.lies_in.ensures c.if-lies_in.true) (rw c.bytes_in-bytes.ensures at (h.is.sets c.decode_front-decoded.new.decoder.kept))) in
+    (c.lies_in.ensures c.if-lies_in.true) (rw c.bytes_in-bytes.ensures at (h.is.sets details))) in
     record {
       event = h.event;
       is = (
@@ -117,7 +120,7 @@ returns-then-lies_in-clause-handed g c =
             h.event refl c.in_ok-kind.ensures.new there
             (long_opens c.args.reference.number c.in-Long.start c.in-Long.count c.in-Long.kind
             c.args.walk.now c.in_ok-kind.ensures.below (search rules)) sets (always_ok _ answer refl),
-        cached_if c.args.reference.number c.hand_bytes.result c.decode_front-decoded.new.decoder.kept
+        cached_if c.args.reference.number c.hand_bytes.result details
             h.event long
             c.args.walk.now.tags.items (large_unlike c.hand_bytes.result long h.event h.is.large)
             (λ no. absurd (cc)),
@@ -219,10 +222,10 @@ returns-clause-handed g c =
       is = (
         known_refused _ _ c.args.walk.now c.args.reference.number c.requires.known
             c.in_ok-kind.ensures.below c.args.reference.at c.in-At.place
-            (error_of Memory c.match-buffered_front.decoder.kept) c.in_ok-kind.ensures.new
+            (error_of Memory c.match-buffered_front.decoder.details) c.in_ok-kind.ensures.new
             (rw c.in-At.is at c.in_ok-kind.ensures.found)
             (known_full _ c.args.decoder.now.bounds c.in-At.place c.match-buffered_front.decoded
-            (error_of Memory c.match-buffered_front.decoder.kept) refl
+            (error_of Memory c.match-buffered_front.decoder.details) refl
             (c.cache_or_open.ensures.wanted c.if-cache_or_open.false) f.decodes),
         tt,
       );
@@ -239,11 +242,11 @@ returns-then-cache_or_open-clause-handed g c =
       is = (
         known_set _ _ c.args.walk.now c.args.reference.number c.requires.known c.in_ok-kind.ensures.below
             c.args.reference.at c.in-At.place _ c.cache_or_open.new.walk _
-            (result_with c.hand_decoded.result c.hand_decoded.new.decoder.kept) h.event
+            (result_with c.hand_decoded.result c.hand_decoded.new.decoder.details) h.event
             f.unchanged c.in_ok-kind.ensures.new (there g at)
             (c.cache_or_open.ensures.yields c.if-cache_or_open.true) (rw f.same at h.is.0)
-            (on_answer _ c.hand_decoded.result c.hand_decoded.new.decoder.kept c.hand_decoded.ensures.found),
-        cached_if c.args.reference.number c.hand_decoded.result c.hand_decoded.new.decoder.kept h.event
+            (on_answer _ c.hand_decoded.result c.hand_decoded.new.decoder.details c.hand_decoded.ensures.found),
+        cached_if c.args.reference.number c.hand_decoded.result c.hand_decoded.new.decoder.details h.event
             c.match-buffered_front.decoded c.cache_or_open.new.walk.tags.items h.is.1
             c.cache_or_open.ensures.cached,
       );

@@ -1,6 +1,6 @@
-use Rattle.std.proofs.Common.{arith, ◌<◌, length, ap, refl, sym, ◌∙◌}
+use Rattle.std.proofs.Common.{arith, ◌<◌, length, ap, sym, ◌∙◌}
 use Rattle.std.proofs.lemmas.List.{get_or_read}
-use Rattle.plist_base.specs.Faults.{RecursiveObject, fault_at}
+use Rattle.plist_base.specs.Faults.{ObjectReferenceTooLarge, RecursiveObject, fault_at}
 use Rattle.plist_decode.specs.Packed.{is_marked}
 use Rattle.plist_decode.specs.StepFaults.{error_of}
 use Rattle.plist_decode.specs.declared.step_fault.StepFault.TheVariants.{Recursion, Reference}
@@ -9,9 +9,10 @@ use Rattle.plist_binread.proofs.Tags.{found_small}
 use Rattle.plist_binread.proofs.enter.look_up.Goals as goal
 
 pub returns-then-number-len-clause-refused : goal.returns-then-number-len-clause-refused
-returns-then-number-len-clause-refused c = λ kept bytes bounds k.
+returns-then-number-len-clause-refused c = λ bytes bounds k.
     unfound_beyond bytes bounds _ _ _ k c.args.walk.now.path _ _
-    (error_of (Reference c.args.at) kept) (omega arith) refl
+    (error_of Reference c.fail_at.new.self) (omega arith)
+    (ap (fault_at ObjectReferenceTooLarge) c.fail_at.ensures)
 
 pub returns-clause-found : goal.returns-clause-found
 returns-clause-found c =
@@ -22,10 +23,10 @@ returns-clause-found c =
     (sym c.if-is_open.ensures)
 
 pub returns-then-is_open-clause-refused : goal.returns-then-is_open-clause-refused
-returns-then-is_open-clause-refused c = λ kept bytes bounds k.
+returns-then-is_open-clause-refused c = λ bytes bounds k.
     let below : c.args.number < length c.args.walk.now.tags.items = omega arith in
     let tag = get_or_read _ _ _ below c.index-tag.ensures 0 in
     let place = get_or_read c.args.walk.now.contents.items _ _ (rw c.args.walk.now.same below) c.index-content.ensures 0 in
     unfound_open bytes bounds _ _ _ k c.args.walk.now.path _ _
-    (error_of (Recursion c.index-content.result.now) kept) below
-    (ap is_marked (sym tag) ∙ sym c.if-is_open.ensures) (ap (fault_at RecursiveObject) place)
+    (error_of Recursion c.fail_at-then-is_open.new.self) below
+    (ap is_marked (sym tag) ∙ sym c.if-is_open.ensures) (ap (fault_at RecursiveObject) (c.fail_at-then-is_open.ensures ∙ place))

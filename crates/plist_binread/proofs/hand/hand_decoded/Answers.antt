@@ -14,7 +14,7 @@ returns-in-Long-clause-handed g c =
           start = c.in-Long.start;
           count = c.in-Long.count;
         })
-            (result_with c.hand_far.result c.hand_far.new.decoder.kept) h.event fits.0 h.is.0),
+            (result_with c.hand_far.result c.hand_far.new.decoder.details) h.event fits.0 h.is.0),
         large_unlike c.hand_far.result c.args.decoded h.event h.is.1,
       );
       taken = h.taken;

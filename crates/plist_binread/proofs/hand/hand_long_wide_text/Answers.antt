@@ -21,10 +21,10 @@ pub returns : goal.returns
 returns g c = record {
   event = event_of c.in_ok-event.event;
   is = record {
-    sets = λ kept. scalar_named _ _ (c.in_ok-event.ensures.decoded kept);
+    sets = λ details. scalar_named _ _ (c.in_ok-event.ensures.decoded details);
     large = c.in_ok-event.ensures.large;
-    fault = λ kept end. tt;
-    never_io = λ kept. tt;
+    fault = λ details start end. tt;
+    never_io = λ details. tt;
   };
   taken = search rules;
 }

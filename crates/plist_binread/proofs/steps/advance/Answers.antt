@@ -67,7 +67,7 @@ returns-in-Ok-clause-handed g c =
     let t = goal.at.returns-in-Ok-clause-handed g c in
     let at = c.references-location.ensures in
     let h = c.enter.ensures.handed in
-    let answer = result_with c.enter.result c.enter.new.decoder.kept in
+    let answer = result_with c.enter.result c.enter.new.decoder.details in
     record {
       event = h.event;
       is = record {

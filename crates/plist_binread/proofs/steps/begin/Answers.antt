@@ -20,7 +20,7 @@ returns-in_err-head-clause-handed g c =
     rw (passed _ c.from_residual.ensures.1) (record {
       event = EndCollection;
       is = record {
-        first = known_unread (g.S.Source.known c.args.source.now) (error_of c.in_err-head.field-0.0 c.keep_error.new.self.kept) refused;
+        first = known_unread (g.S.Source.known c.args.source.now) (error_of c.in_err-head.field-0.0 c.keep_error.new.self) refused;
         cached = IfSome-all _ (λ _. tt);
       };
       taken = refl;
@@ -31,7 +31,7 @@ returns-in_err-tags-clause-handed g c =
     rw (passed _ c.from_residual-in_err-tags.ensures.1) (record {
       event = EndCollection;
       is = record {
-        first = known_wanted (g.S.Source.known c.args.source.now) (error_of Memory c.keep_error.new.self.kept) refl;
+        first = known_wanted (g.S.Source.known c.args.source.now) (error_of Memory c.keep_error.new.self) refl;
         cached = IfSome-all _ (λ _. tt);
       };
       taken = refl;
@@ -41,13 +41,13 @@ pub returns-in_err-head-clause-objects : goal.returns-in_err-head-clause-objects
 returns-in_err-head-clause-objects g c =
     let refused = rw (← c.in_err-head.ensures.answer) at c.read.ensures.refused in
     rw (passed _ c.from_residual.ensures.1)
-    (known_uncounted (g.S.Source.known c.args.source.now) (error_of c.in_err-head.field-0.0 c.keep_error.new.self.kept)
+    (known_uncounted (g.S.Source.known c.args.source.now) (error_of c.in_err-head.field-0.0 c.keep_error.new.self)
     (length c.args.walk.now.tags.items) c.requires.empty.0 refused)
 
 pub returns-in_err-tags-clause-objects : goal.returns-in_err-tags-clause-objects
 returns-in_err-tags-clause-objects g c =
     rw (passed _ c.from_residual-in_err-tags.ensures.1)
-    (known_hidden (g.S.Source.known c.args.source.now) (error_of Memory c.keep_error.new.self.kept)
+    (known_hidden (g.S.Source.known c.args.source.now) (error_of Memory c.keep_error.new.self)
     (length c.args.walk.now.tags.items) c.requires.empty.0 refl)
 
 -- all tags are 0
@@ -64,7 +64,7 @@ count g c =
 pub returns-clause-objects : goal.returns-clause-objects
 returns-clause-objects g c =
     known_counted (g.S.Source.known c.args.source.now) c.in_ok-head.head c.enter.result
-    c.enter.new.decoder.kept c.enter.new.walk
+    c.enter.new.decoder.details c.enter.new.walk
     (c.enter.ensures.kept.size ∙ count g (goal.at.returns-clause-objects g c).In_ok-tags)
     (rw (← c.in_ok-head.ensures.answer) at c.read.ensures.value)
 
@@ -91,7 +91,7 @@ enter-requires-clause-known g c =
 pub enter-requires-clause-counted : goal.enter-requires-clause-counted
 enter-requires-clause-counted g c = λ counts.
     let there = (goal.at.enter-requires-clause-counted g c).In_ok-tags in
-    ap g.C.DecodeCounter.count c.keep_error.ensures.counter ∙ c.requires.counted counts
+    c.requires.counted counts
     ∙ cached_count-empty c.args.walk.now.tags.items c.requires.empty.0
     ∙ sym (cached_count-none c.len.result c.in_ok-tags.tags.items (none g there))
 
@@ -114,11 +114,11 @@ returns-clause-handed g c =
         first = rw c.enter.ensures.kept.bounds (known_begun
             (g.S.Source.known c.args.source.now) (g.S.Source.known c.read.new.source)
             c.in_ok-head.head (bounds g there) c.in_ok-tags.tags.items c.args.walk.now.frames
-            c.enter.new.walk.frames (result_with c.enter.result c.enter.new.decoder.kept) h.event
+            c.enter.new.walk.frames (result_with c.enter.result c.enter.new.decoder.details) h.event
             c.read.ensures.unchanged c.requires.empty.1 (count g there) refl refl
             (rw (← c.in_ok-head.ensures.answer) at c.read.ensures.value) h.is.0);
         cached = known_cached (g.S.Source.known c.args.source.now) c.in_ok-head.head _
-            (result_with c.enter.result c.enter.new.decoder.kept) h.event c.enter.new.walk.tags.items
+            (result_with c.enter.result c.enter.new.decoder.details) h.event c.enter.new.walk.tags.items
             refl (rw (← c.in_ok-head.ensures.answer) at c.read.ensures.value) h.is.1;
       };
       taken = passed_on g.V.EventVisitor.step c.new-relay.result c.enter.new.visitor _ _

@@ -7,17 +7,17 @@ use Rattle.plist_decode.proofs.long_content.text_event.Goals as goal
 
 pub returns-in-Ok : goal.returns-in-Ok
 returns-in-Ok c = record {
-  decoded = λ kept. rw (← c.in-Ok.ensures.ok)
+  decoded = λ details. rw (← c.in-Ok.ensures.ok)
       (ap scalar_event_in (text-utf8 _ (IsUtf8-had _ c.in-Ok.string.ok)));
   large = lt-leb _ 8 (rw c.in-Ok.ensures.ok c.requires);
-  never_io = λ kept. tt;
-  fault = λ kept end. tt;
+  never_io = λ details. tt;
+  fault = λ details start end. tt;
 }
 
 pub returns : goal.returns
 returns c = record {
-  decoded = λ kept. (text-not_utf8 _ (λ u. false≢true (c.in-Err.ensures.succeeds u)), refl);
+  decoded = λ details. (text-not_utf8 _ (λ u. false≢true (c.in-Err.ensures.succeeds u)), refl);
   large = tt;
-  never_io = λ kept. tt;
-  fault = λ kept end. record { placed = tt };
+  never_io = λ details. tt;
+  fault = λ details start end. record { placed = tt };
 }

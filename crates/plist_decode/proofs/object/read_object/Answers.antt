@@ -1,4 +1,4 @@
-use Rattle.std.proofs.Common.{refl, rules}
+use Rattle.std.proofs.Common.{Some, ap, rules}
 use Rattle.plist_decode.specs.Front.{IsFrontAt}
 use Rattle.plist_decode.proofs.Decoding.{seen_decodes, seen_fits}
 use Rattle.plist_decode.proofs.Markers.{object_in-beyond}
@@ -11,7 +11,7 @@ returns-then-place-decoder-clause-refused g c =
     IfSome-all (g.S.Source.known c.args.source.now) (λ bytes fits. (
       object_in-beyond bytes bounds.reference_width bounds.trailer c.args.place fits
           c.if-place-decoder.true,
-      refl,
+      ap Some c.fail_at.ensures,
     ))
 
 pub returns-clause-decoded : goal.returns-clause-decoded
@@ -23,9 +23,9 @@ returns-clause-decoded g c =
       lies = rw (← c.in_ok-keep_error.ensures.answer) at c.read_exact_at.ensures.bytes;
     } in
     seen_decodes _ c.args.decoder.now.bounds c.args.place _ c.decode_front.result front
-    (rw c.keep_error.ensures.bounds at c.decode_front.ensures.decoded)
+    c.decode_front.ensures.decoded
 
 pub returns-clause-fits : goal.returns-clause-fits
 returns-clause-fits g c =
     seen_fits c.args.decoder.now.bounds c.args.place c.read_exact_at.new.buf c.decode_front.result
-    (search rules) (rw c.keep_error.ensures.bounds at c.decode_front.ensures.decoded)
+    (search rules) c.decode_front.ensures.decoded

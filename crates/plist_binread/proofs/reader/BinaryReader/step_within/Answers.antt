@@ -15,11 +15,11 @@ use Rattle.plist_binread.proofs.reader.BinaryReader.step_within.Goals.{After-kee
 
 -- the visitor received an event that exceeds a limit
 limit : (g : _) (c : After-keep_error g) → Reached c.new-within.result c.step-item.new.visitor
-    (λ item event. Walks c.args.self.now (item_with (item_kept item c.step-item.new.self.decoder.kept) event) c.step-item.new.self)
+    (λ item event. Walks c.args.self.now (item_with (item_kept item c.step-item.new.self.decoder.details) event) c.step-item.new.self)
     c.in-Err.error
 limit g c =
     reached_limit g.V.EventVisitor.step _ _ c.step-item.result
-    (λ item event. Walks c.args.self.now (item_with (item_kept item c.step-item.new.self.decoder.kept) event) c.step-item.new.self)
+    (λ item event. Walks c.args.self.now (item_with (item_kept item c.step-item.new.self.decoder.details) event) c.step-item.new.self)
     c.in-Err.error (search rules) (search rules) c.step-item.ensures.walks
 
 pub returns-in-Err : goal.returns-in-Err
@@ -62,5 +62,5 @@ pub returns-in-Ok : goal.returns-in-Ok
 returns-in-Ok g c =
     turns_within c.args.self.now c.step-item.new.self _ c.args.limits _ c.requires refl refl refl refl
     refl g.V.EventVisitor.step c.new-within.result c.step-item.new.visitor _ _
-    c.step-item.new.self.decoder.kept c.step-item.result c.new-within.ensures.limits (search rules)
+    c.step-item.new.self.decoder.details c.step-item.result c.new-within.ensures.limits (search rules)
     (search rules) (search rules) (search rules) c.step-item.ensures.walks

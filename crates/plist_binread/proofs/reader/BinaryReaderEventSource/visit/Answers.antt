@@ -1,4 +1,4 @@
-use Rattle.std.proofs.Common.{◌≡◌, Ok, ◌∷◌, ◌++◌, [], ap, rules, ◌∙◌}
+use Rattle.std.proofs.Common.{◌≡◌, Ok, ◌∷◌, ◌++◌, [], rules}
 use Rattle.std.specs.declared.ops.ControlFlow.TheVariants.{Continue, Break}
 use Rattle.plist_base.proofs.Visits.{hands_more}
 use Rattle.plist_binread.proofs.reader.BinaryReaderEventSource.visit.Goals as goal
@@ -27,38 +27,11 @@ pub returns-in-Err : goal.returns-in-Err
 returns-in-Err g c =
     let so_far = c.loop-turn.invariant in
     let turn = rw c.in-Err.is at c.in-Some.ensures in
-    let w = turn.0.gives in
     record {
       events = so_far.0;
       left = (c.loop-turn.self, c.loop-turn.visitor);
       handed = so_far.1;
-      ended = rw c.take_error.ensures.error (
-        record {
-          gives = record {
-            unchanged = w.unchanged;
-            items = rw c.take_error.ensures.bounds w.items;
-            failures = w.failures;
-            ended = w.ended;
-            unasked = w.unasked;
-            ends = w.ends;
-            begun = w.begun;
-            faults = w.faults;
-            head = rw c.take_error.ensures.bounds w.head;
-            cached = w.cached;
-            leaves = record {
-              nested = w.leaves.nested;
-              marked = w.leaves.marked;
-              counted = λ counts. ap g.C.DecodeCounter.count c.take_error.ensures.counter
-                  ∙ w.leaves.counted counts;
-              lists = w.leaves.lists;
-            };
-            objects = w.objects;
-            kept = w.kept;
-          };
-          falls = turn.0.falls;
-        },
-        turn.1,
-      );
+      ended = rw c.take_error.ensures (search turn);
     }
 
 pub returns : goal.returns

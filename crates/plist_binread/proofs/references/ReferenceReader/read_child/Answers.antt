@@ -18,6 +18,6 @@ returns-in-Some-refill-clause-child g c =
 pub returns-in-None-clause-child : goal.returns-in-None-clause-child
 returns-in-None-clause-child g c =
     known_slot _ c.args.decoder.now.bounds _ c.args.frame.next _
-    (result_with c.read_reference.result c.read_reference.new.decoder.kept) c.requires.references
+    (result_with c.read_reference.result c.read_reference.new.details) c.requires.references
     (rw c.references-references.ensures at c.reference_place-at.ensures)
     c.read_reference.ensures.value c.read_reference.ensures.refused
