@@ -16,7 +16,7 @@ ghost use Rattle.plist_decode.specs.declared.decoded.ContentKind.TheVariants.{Te
 
 use plist_base::{Date, EventVisitor, Integer, RealBits, Source, Uid};
 use plist_decode::counter::DecodeCounter;
-use plist_decode::decoded::{CollectionKind, Content, ContentKind, Decoded, ObjectFault};
+use plist_decode::decoded::{CollectionKind, Content, ContentKind, Decoded};
 use plist_decode::decoder::Decoder;
 use plist_decode::long_content::{read_long, wide_text_event};
 use plist_decode::packed::PackedKind;
@@ -65,7 +65,7 @@ fn hand_date<V: EventVisitor>(content: u64, visitor: &mut V) -> Result<ControlFl
 {
     match Date::from_plist_real(content.to_be_bytes()) {
         Ok(date) => Ok(visitor.date(date)),
-        Err(_) => Err(StepFault::Object(ObjectFault::NoDate)),
+        Err(_) => Err(StepFault::NoDate),
     }
 }
 
@@ -78,7 +78,7 @@ fn hand_text<V: EventVisitor>(bytes: &[u8], visitor: &mut V) -> Result<ControlFl
 {
     match text_in(bytes) {
         Some(text) => Ok(visitor.string(CowStr::Borrowed(text))),
-        None => Err(StepFault::Object(ObjectFault::NotUtf8)),
+        None => Err(StepFault::NotUtf8),
     }
 }
 
@@ -122,7 +122,7 @@ fn hand_wide_text<V: EventVisitor>(
     match utf16_text_in(bytes, &mut text) {
         Some(text) if text.len() > 8 => Ok(visitor.string(CowStr::Borrowed(text))),
         Some(_) => Err(StepFault::Memory),
-        None => Err(StepFault::Object(ObjectFault::NotUtf16)),
+        None => Err(StepFault::NotUtf16),
     }
 }
 
@@ -223,9 +223,6 @@ pub fn hand_decoded<S: Source, C: DecodeCounter, V: EventVisitor>(
             hand_far(source, decoder, place, content, visitor)
         }
         Decoded::Collection(kind, _, count) => Ok(hand_start(kind, count, visitor)),
-        Decoded::Faulty(fault) => {
-            decoder.details.fail_at(place);
-            Err(StepFault::Object(fault))
-        }
+        Decoded::Faulty(fault) => Err(decoder.details.fail_object(fault, place)),
     }
 }

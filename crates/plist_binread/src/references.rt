@@ -12,7 +12,7 @@ use crate::prefetch::Prefetcher;
 use crate::walk::Walk;
 use plist_base::Source;
 use plist_decode::counter::DecodeCounter;
-use plist_decode::decoded::{CollectionKind, ObjectFault};
+use plist_decode::decoded::CollectionKind;
 use plist_decode::decoder::Decoder;
 use plist_decode::numbers::{number_from, read_number};
 use plist_decode::step_fault::{FaultDetails, StepFault};
@@ -316,7 +316,7 @@ impl ReferenceReader {
         let at = references.reference_place(frame.next, width);
         if at >= decoder.bounds.trailer || decoder.bounds.trailer - at < width as u64 {
             decoder.details.fail_at(references.place);
-            return Err(StepFault::Object(ObjectFault::Overrun));
+            return Err(StepFault::Overrun);
         }
         if let Some(number) = self.number_at(at, width) {
             return Ok(number);

@@ -1,5 +1,5 @@
 -- The errors of steps that failed.
-use Rattle.std.specs.Prelude.{Option, None, Some, Result, Ok, Err}
+use Rattle.std.specs.Prelude.{ℕ, Option, None, Some, Result, Ok, Err}
 use Rattle.plist_base.specs.declared.error.Error.{Error}
 use Rattle.plist_base.specs.declared.error.ErrorKind.{ErrorKind}
 use Rattle.plist_base.specs.declared.error.ErrorKind.TheVariants as error_kind
@@ -25,14 +25,26 @@ abbrev pub kept_error : Option Error → Error
 kept_error None = record { kind = error_kind.OutOfMemory; offset = None }
 kept_error (Some error) = error
 
+-- the error of an object with this fault at an offset
+abbrev pub object_error : ObjectFault → (place : ℕ) → Error
+object_error fault place = record { kind = object_error_kind fault; offset = Some place }
+
+-- the error of this kind at the offset in the details
+abbrev pub error_there : ErrorKind → FaultDetails → Error
+error_there kind details = record { kind = kind; offset = Some details.place }
+
 -- the error of a step that failed
 abbrev pub error_of : StepFault → FaultDetails → Error
-error_of (step.Object fault) details =
-    record { kind = object_error_kind fault; offset = Some details.place }
-error_of step.Reference details =
-    record { kind = error_kind.ObjectReferenceTooLarge; offset = Some details.place }
-error_of step.Recursion details =
-    record { kind = error_kind.RecursiveObject; offset = Some details.place }
+error_of step.Overrun details = error_there error_kind.ObjectOffsetTooLarge details
+error_of step.Null details = error_there error_kind.NullObjectUnimplemented details
+error_of step.Fill details = error_there error_kind.FillObjectUnimplemented details
+error_of step.Unknown details = error_there (error_kind.UnknownObjectType details.marker) details
+error_of step.OutOfRange details = error_there error_kind.IntegerOutOfRange details
+error_of step.NoDate details = error_there error_kind.OverflowOrNanDate details
+error_of step.NotUtf8 details = error_there error_kind.InvalidUtf8String details
+error_of step.NotUtf16 details = error_there error_kind.InvalidUtf16String details
+error_of step.Reference details = error_there error_kind.ObjectReferenceTooLarge details
+error_of step.Recursion details = error_there error_kind.RecursiveObject details
 error_of step.Memory details = record { kind = error_kind.OutOfMemory; offset = None }
 error_of step.Kept details = kept_error details.kept
 

@@ -1,11 +1,9 @@
 //! Defines what an object's first bytes decode to, and how an object can be faulty.
 
 ghost use Rattle.std.specs.Prelude.{◌≡◌, ◌<◌, ◌≤◌};
-ghost use Rattle.plist_decode.specs.StepFaults.{object_error_kind};
 ghost use Rattle.plist_decode.specs.CountedContent.{unit_size};
 
 use crate::packed::PackedKind;
-use plist_base::ErrorKind;
 
 /// How the content of a string or data is encoded.
 #[derive(Clone, Copy)]
@@ -140,22 +138,4 @@ pub enum ObjectFault {
     NotUtf8,
     /// The units of a string aren't UTF-16.
     NotUtf16,
-}
-
-impl ObjectFault {
-    /// Returns the kind of error that reports this fault.
-    pub fn kind(self) -> ErrorKind
-        ensures value { result ≡ object_error_kind self }
-    {
-        match self {
-            ObjectFault::Overrun => ErrorKind::ObjectOffsetTooLarge,
-            ObjectFault::Null => ErrorKind::NullObjectUnimplemented,
-            ObjectFault::Fill => ErrorKind::FillObjectUnimplemented,
-            ObjectFault::Unknown(marker) => ErrorKind::UnknownObjectType(marker),
-            ObjectFault::OutOfRange => ErrorKind::IntegerOutOfRange,
-            ObjectFault::NoDate => ErrorKind::OverflowOrNanDate,
-            ObjectFault::NotUtf8 => ErrorKind::InvalidUtf8String,
-            ObjectFault::NotUtf16 => ErrorKind::InvalidUtf16String,
-        }
-    }
 }

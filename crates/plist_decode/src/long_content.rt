@@ -11,7 +11,7 @@ ghost use Rattle.plist_decode.specs.StepFaults.{result_with};
 ghost use Rattle.plist_decode.specs.declared.decoded.ContentKind.TheVariants.{Text as KindText};
 
 use crate::counter::DecodeCounter;
-use crate::decoded::{Content, ContentKind, ObjectFault};
+use crate::decoded::{Content, ContentKind};
 use crate::decoder::Decoder;
 use crate::numbers::{read_bytes, write_units};
 use crate::step_fault::StepFault;
@@ -26,7 +26,7 @@ fn text_event(bytes: Vec<u8>) -> Result<OwnedEvent, StepFault>
 {
     match String::from_utf8(bytes) {
         Ok(string) => Ok(Event::String(CowStr::Owned(string))),
-        Err(_) => Err(StepFault::Object(ObjectFault::NotUtf8)),
+        Err(_) => Err(StepFault::NotUtf8),
     }
 }
 
@@ -45,7 +45,7 @@ fn text_of_units_event(alloc: Global, units: &[u16]) -> Result<OwnedEvent, StepF
             }
             Ok(Event::String(CowStr::Owned(string)))
         }
-        Err(_) => Err(StepFault::Object(ObjectFault::NotUtf16)),
+        Err(_) => Err(StepFault::NotUtf16),
     }
 }
 
@@ -63,7 +63,7 @@ fn units_in(alloc: Global, bytes: &[u8]) -> Result<Vec<u16>, AllocError>
 ///
 /// # Errors
 ///
-/// - `Object` with `NotUtf16` if a surrogate is unpaired.
+/// - `NotUtf16` if a surrogate is unpaired.
 /// - `Memory` if an allocation fails, or if the string has at most eight bytes in UTF-8: it is a
 ///   small object then, which is decoded elsewhere.
 pub fn wide_text_event(alloc: Global, bytes: &[u8]) -> Result<OwnedEvent, StepFault>
@@ -97,8 +97,7 @@ fn content_event(alloc: Global, kind: ContentKind, bytes: Vec<u8>) -> Result<Own
 ///
 /// # Errors
 ///
-/// - `Object` with `NotUtf8` or `NotUtf16` if the string is invalid. The details have the object's
-///   offset.
+/// - `NotUtf8` or `NotUtf16` if the string is invalid. The details have the object's offset.
 /// - `Memory` if an allocation for a string in UTF-16 fails after its bytes were read.
 /// - `Kept` if the bytes can't be read. The error is `Io` if a read fails, `UnexpectedEof` if the
 ///   source ends before the content does, or `OutOfMemory` if memory for the bytes can't be

@@ -162,7 +162,7 @@ pub fn read_object<S: Source, C: DecodeCounter>(
 {
     if place >= decoder.bounds.trailer {
         decoder.details.fail_at(place);
-        return Err(StepFault::Object(ObjectFault::Overrun));
+        return Err(StepFault::Overrun);
     }
     let to_trailer = decoder.bounds.trailer - place;
     let mut front = [0; FRONT];

@@ -101,7 +101,11 @@ returns-then-lies_in-clause-handed g c =
     let long = decoded.Long c.in-Long.kind c.in-Long.start c.in-Long.count in
     let h = c.hand_bytes.ensures in
     let details : FaultDetails
-    = record { place = c.in-At.place; kept = c.decode_front-decoded.new.decoder.details.kept } in
+    = record {
+      place = c.in-At.place;
+      marker = c.decode_front-decoded.new.decoder.details.marker;
+      kept = c.decode_front-decoded.new.decoder.details.kept;
+    } in
     let answer = result_with c.hand_bytes.result details in
     let front = seen_front g at in
     let there = known_decoded _ bounds c.args.walk.now c.args.reference.number c.requires.known

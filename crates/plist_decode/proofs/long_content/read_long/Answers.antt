@@ -9,7 +9,7 @@ use Rattle.plist_decode.proofs.long_content.read_long.Goals as goal
 
 -- the details with this offset
 abbrev details : (place : ℕ) → FaultDetails → FaultDetails
-details place old = record { place = place; kept = old.kept }
+details place old = record { place = place; marker = old.marker; kept = old.kept }
 
 pub content_event-requires-clause-long : goal.content_event-requires-clause-long
 content_event-requires-clause-long g c =
