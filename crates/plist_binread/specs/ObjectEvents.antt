@@ -43,8 +43,8 @@ abbrev pub SetsEvent : {A : Type 0} → Object → (place : ℕ) → Result A Er
 SetsEvent object place answer current =
     MatchResult answer (λ _. event_of_object object ≡ Some current) (IsRefusedAs object place)
 
--- the current event is the first one of the object, and isn't small; or the result is an error of the
--- object, with the offset in the details, which isn't that of a failed read; the error isn't kept
+-- the current event is the first one of the object, and isn't small; or the result is an error of
+-- the object, with the offset in the details, which isn't that of a failed read; it isn't kept
 pub record SetsLarge {A : Type 0} (object : Object) (answer : Result A StepFault)
     (current : PlainEvent) : Type 0 where
   pub sets : (details : FaultDetails)

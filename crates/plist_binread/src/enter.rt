@@ -149,17 +149,19 @@ pub fn enter<S: Source, C: DecodeCounter, V: EventVisitor>(
         IfSome (S.known source.old) (λ bytes.
         YieldsResult
         (remaining_entering bytes decoder.old.bounds walk.old reference.at reference.number)
-        (result_with result decoder.new.details) event (remaining_in bytes decoder.old.bounds walk.new))
+        (result_with result decoder.new.details) event
+        (remaining_in bytes decoder.old.bounds walk.new))
         × IsCachedIfSmall (λ _. event) (Some reference.number)
         (Some (result_with result decoder.new.details)) walk.new.tags.items) }
     // Errors.
-    ensures fault { ErrWithin 0 decoder.old.bounds.trailer (result_with result decoder.new.details) }
+    ensures fault { ErrWithin 0 decoder.old.bounds.trailer
+        (result_with result decoder.new.details) }
     // State afterwards.
     ensures kept { KeepsWalk S.known C.counts C.count (source.old, decoder.old, walk.old)
         (source.new, decoder.new, walk.new) }
     ensures falls { OnOk result (IsLighterEntered walk.old walk.new) }
-    ensures failures { CountsIo (Some (result_with result decoder.new.details)) (S.failures source.old)
-        (S.failures source.new) }
+    ensures failures { CountsIo (Some (result_with result decoder.new.details))
+        (S.failures source.old) (S.failures source.new) }
 {
     let place = match look_up(&mut decoder.details, walk, reference.at, reference.number)? {
         Known::Small(kind, content) => {

@@ -160,7 +160,8 @@ fn hand_far<S: Source, C: DecodeCounter, V: EventVisitor>(
     requires long { IsLong content }
     // Result.
     ensures handed { HandsItem V.step visitor.old visitor.new (Some result) (λ event.
-        SetsContentAt (S.known source.old) place content (result_with result decoder.new.details) event
+        SetsContentAt (S.known source.old) place content
+        (result_with result decoder.new.details) event
         × OnOk result (is_small_event event ≡ false)) }
     // Errors.
     ensures fault { FailsInContent place content (result_with result decoder.new.details) }
@@ -204,13 +205,14 @@ pub fn hand_decoded<S: Source, C: DecodeCounter, V: EventVisitor>(
         × OnOk result (is_small_event event ≡ true → small_count decoded ≡ 1)) }
     ensures found { OnOk result (is_refused decoded ≡ false) }
     // Errors.
-    ensures fault { ErrWithin place decoder.old.bounds.trailer (result_with result decoder.new.details) }
+    ensures fault { ErrWithin place decoder.old.bounds.trailer
+        (result_with result decoder.new.details) }
     // State afterwards.
     ensures unchanged { S.known source.new ≡ S.known source.old }
     ensures bounds { decoder.new.bounds ≡ decoder.old.bounds }
     ensures counter { decoder.new.counter ≡ decoder.old.counter }
-    ensures failures { CountsIo (Some (result_with result decoder.new.details)) (S.failures source.old)
-        (S.failures source.new) }
+    ensures failures { CountsIo (Some (result_with result decoder.new.details))
+        (S.failures source.old) (S.failures source.new) }
 {
     match decoded {
         Decoded::Small(kind, content) => Ok(hand_small(kind, content, visitor)),

@@ -44,8 +44,8 @@ pub fn begin<S: Source, C: DecodeCounter, V: EventVisitor>(
     requires counted { C.counts → C.count decoder.old.counter ≡ cached_in walk.old }
     // Result.
     ensures handed { HandsItem V.step visitor.old visitor.new (Some result) (λ event.
-        YieldsRoot (S.known source.old) decoder.new.bounds (result_with result decoder.new.details) event
-        walk.new) }
+        YieldsRoot (S.known source.old) decoder.new.bounds
+        (result_with result decoder.new.details) event walk.new) }
     // Errors.
     ensures fault { ErrWithin 0 (2 ^ 64) (result_with result decoder.new.details) }
     // State afterwards.
@@ -56,8 +56,8 @@ pub fn begin<S: Source, C: DecodeCounter, V: EventVisitor>(
     ensures known { OnOk result (IsKnownWalk (S.known source.old) decoder.new.bounds walk.new) }
     ensures falls { OnOk result (weight_in walk.new < walk_steps (walk_objects walk.new)) }
     ensures unchanged { S.known source.new ≡ S.known source.old }
-    ensures failures { CountsIo (Some (result_with result decoder.new.details)) (S.failures source.old)
-        (S.failures source.new) }
+    ensures failures { CountsIo (Some (result_with result decoder.new.details))
+        (S.failures source.old) (S.failures source.new) }
 {
     let alloc = decoder.alloc;
     let head = decoder.details.keep_error(Head::read(alloc, source))?;

@@ -151,14 +151,15 @@ pub fn read_object<S: Source, C: DecodeCounter>(
     ensures refused { IfErr result (λ fault.
         RefusesObjectAt (S.known source.old) decoder.old.bounds place
         (error_of fault decoder.new.details)) }
-    ensures fault { ErrWithin place decoder.old.bounds.trailer (result_with result decoder.new.details) }
+    ensures fault { ErrWithin place decoder.old.bounds.trailer
+        (result_with result decoder.new.details) }
     // State afterwards.
     ensures counted { CountsSmallRead C.counts C.count decoder.old.counter decoder.new.counter
         result }
     ensures bounds { decoder.new.bounds ≡ decoder.old.bounds }
     ensures unchanged { S.known source.new ≡ S.known source.old }
-    ensures failures { CountsIo (Some (result_with result decoder.new.details)) (S.failures source.old)
-        (S.failures source.new) }
+    ensures failures { CountsIo (Some (result_with result decoder.new.details))
+        (S.failures source.old) (S.failures source.new) }
 {
     if place >= decoder.bounds.trailer {
         decoder.details.fail_at(place);
