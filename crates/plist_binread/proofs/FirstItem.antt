@@ -17,12 +17,12 @@ use Rattle.plist_base.specs.Unfolding.{table_of, items_of, unfolding_of, until_f
 use Rattle.plist_decode.specs.declared.head.Bounds.{Bounds}
 use Rattle.plist_binread.specs.Remaining.{path_of, remaining_items, entries_of, places_with, places_of, CountsObjects, IsHeld, MatchesFile, SomeRemain, AllocatesFirst}
 use Rattle.plist_binread.specs.Step.{RefusesFirst, YieldsResult}
-use Rattle.plist_decode.specs.declared.fault_slot.FaultSlot.{FaultSlot}
-use Rattle.plist_decode.specs.declared.fault_slot.StepError.{StepError}
+use Rattle.plist_decode.specs.declared.step_fault.FaultDetails.{FaultDetails}
+use Rattle.plist_decode.specs.declared.step_fault.StepFault.{StepFault}
 use Rattle.plist_binread.specs.Walking.{IsCachedIfSmall, root_with, walk_objects}
 use Rattle.plist_binread.specs.declared.walk.Walk.{Walk}
 use Rattle.plist_decode.specs.Packed.{is_marked}
-use Rattle.plist_decode.specs.Slot.{result_in}
+use Rattle.plist_decode.specs.StepFaults.{error_of, result_with}
 use Rattle.plist_decode.specs.inner.Heads.{head_seen}
 use Rattle.plist_binread.proofs.WalkSteps.{items_beyond, items_step, remaining_at}
 use Rattle.plist_base.proofs.Tables.{slice_get-within, slice_get-beyond}
@@ -164,15 +164,15 @@ known_begun known now head bounds tags fs gs answer current same len count trail
 -- ---- the number of objects
 
 pub known_counted : (known : Option (List ℕ)) (head : code.Head)
-    (answer : Result Flow StepError) (slot : FaultSlot) (walk : Walk)
+    (answer : Result Flow StepFault) (details : FaultDetails) (walk : Walk)
     → walk_objects walk ≡ length head.places.items
     → IfSome known (λ bytes. head_of bytes ≡ Ok (head_seen head))
-    → IfSome known (λ bytes. CountsObjects bytes (result_in answer slot) (walk_objects walk))
-known_counted known head (Ok value) slot walk count read = IfSome_then known read (λ bytes is.
+    → IfSome known (λ bytes. CountsObjects bytes (result_with answer details) (walk_objects walk))
+known_counted known head (Ok value) details walk count read = IfSome_then known read (λ bytes is.
     count ∙ sym (ap (λ head. length (places_with head)) is))
-known_counted known head (Err refused) slot walk count read = IfSome_then known read (λ bytes is.
+known_counted known head (Err fault) details walk count read = IfSome_then known read (λ bytes is.
     let counted = count ∙ sym (ap (λ head. length (places_with head)) is) in
-    MatchFault-all (kind_of (error_kind_of slot.fault)) (inl counted) (inl counted) counted)
+    MatchFault-all (kind_of (error_kind_of (error_of fault details))) (inl counted) (inl counted) counted)
 
 -- if the head isn't read, the reader counts no objects
 pub known_uncounted : (known : Option (List ℕ)) (e : Error) (count : ℕ) → count ≡ 0

@@ -14,10 +14,10 @@ use Rattle.plist_binread.specs.BinaryReader.{HasEndedBinary, Steps, Walks, has_l
 use Rattle.plist_decode.specs.FaultOffsets.{ItemGivenWithin, MatchGiven}
 use Rattle.plist_binread.specs.Handovers.{HandsItem, TakesWithin}
 use Rattle.plist_binread.specs.Remaining.{AllocatesFirst, AllocatesNext, SomeRemain, cached_count}
-use Rattle.plist_decode.specs.Slot.{item_in}
+use Rattle.plist_decode.specs.StepFaults.{error_of, item_kept}
 use Rattle.plist_decode.specs.declared.counter.DecodeCounter.{Ghosts as CounterGhosts}
-use Rattle.plist_decode.specs.declared.fault_slot.FaultSlot.{FaultSlot}
-use Rattle.plist_decode.specs.declared.fault_slot.StepError.{StepError}
+use Rattle.plist_decode.specs.declared.step_fault.FaultDetails.{FaultDetails}
+use Rattle.plist_decode.specs.declared.step_fault.StepFault.{StepFault}
 use Rattle.plist_binread.specs.declared.reader.BinaryReader.{BinaryReader}
 use Rattle.plist_binread.specs.declared.visitors.Within.{Within}
 
@@ -148,20 +148,20 @@ module _ {R C : Type 0} {g : Ghosts R} {h : CounterGhosts C} (old mid new : Bina
 
   -- the visitor takes what the walk yields, if it takes it within the limits
   pub turns_within : {V : Type 0} (step : V → PlainEvent → Flow → V → Type 0)
-      (before after : Within V) (visitor visited : V) (slot : FaultSlot)
-      (item : Option (Result Flow StepError)) → before.limiter.now ≡ limits
+      (before after : Within V) (visitor visited : V) (details : FaultDetails)
+      (item : Option (Result Flow StepFault)) → before.limiter.now ≡ limits
       → after.limiter.now ≡ next → after.reached.now ≡ Ok tt → before.visitor.now ≡ visitor
       → visited ≡ after.visitor.now → HandsItem (TakesWithin step) before after item
-      (λ event. Walks old (item_with (item_in item slot) event) mid)
-      → TakesTurn Steps step (old, visitor) (item_in item slot) (new, visited)
-  turns_within step before after visitor visited slot None first last unreached from to hands =
+      (λ event. Walks old (item_with (item_kept item details) event) mid)
+      → TakesTurn Steps step (old, visitor) (item_kept item details) (new, visited)
+  turns_within step before after visitor visited details None first last unreached from to hands =
       (steps_within None tt hands.is, to ∙ ap (λ w. w.visitor.now) hands.taken ∙ from)
-  turns_within step before after visitor visited slot (Some (Err refused)) first last unreached
+  turns_within step before after visitor visited details (Some (Err fault)) first last unreached
       from to hands = (
-        steps_within (Some (Err slot.fault)) tt hands.is,
+        steps_within (Some (Err (error_of fault details))) tt hands.is,
         to ∙ ap (λ w. w.visitor.now) hands.taken ∙ from,
       )
-  turns_within step before after visitor visited slot (Some (Ok flow)) first last unreached from to
+  turns_within step before after visitor visited details (Some (Ok flow)) first last unreached from to
       hands = elim hands.taken.takes [
         | inl admitted ↦ (
           hands.event,

@@ -7,9 +7,9 @@ use Rattle.plist_decode.specs.Reading.{object_at}
 use Rattle.plist_decode.specs.declared.decoded.ContentKind.{ContentKind}
 use Rattle.plist_decode.specs.declared.decoded.Decoded.{Decoded}
 use Rattle.plist_decode.specs.declared.decoded.Decoded.TheVariants as decoded
-use Rattle.plist_decode.specs.declared.fault_slot.FaultSlot.{FaultSlot}
-use Rattle.plist_decode.specs.declared.fault_slot.StepError.{StepError}
-use Rattle.plist_decode.specs.Slot.{result_in}
+use Rattle.plist_decode.specs.declared.step_fault.FaultDetails.{FaultDetails}
+use Rattle.plist_decode.specs.declared.step_fault.StepFault.{StepFault}
+use Rattle.plist_decode.specs.StepFaults.{result_with}
 use Rattle.std.specs.Prelude.{OnOk}
 use Rattle.plist_decode.specs.declared.head.Bounds.{Bounds}
 use Rattle.plist_binread.specs.declared.walk.Walk.{Walk}
@@ -58,12 +58,11 @@ pub always_ok : {A E : Type 0} (P : Type 0) (answer : Result A E) → P → OnOk
 always_ok P (Ok value) p = p
 always_ok P (Err error) p = tt
 
--- what is true after `Ok` is true of the result with the error that the slot stores
-pub on_answer : {A : Type 0} (P : Type 0) (answer : Result A StepError) (slot : FaultSlot)
-    → OnOk answer P
-    → OnOk (result_in answer slot) P
-on_answer P (Ok value) slot h = h
-on_answer P (Err refused) slot h = tt
+-- what is true after `Ok` is true of the result with its error
+pub on_answer : {A : Type 0} (P : Type 0) (answer : Result A StepFault) (details : FaultDetails)
+    → OnOk answer P → OnOk (result_with answer details) P
+on_answer P (Ok value) details h = h
+on_answer P (Err fault) details h = tt
 
 module _ (known : Option (List ℕ)) (bounds : Bounds) (walk : Walk) (number : ℕ)
     (k : IsKnownWalk known bounds walk) (h : number < walk_objects walk) where

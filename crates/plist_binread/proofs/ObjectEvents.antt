@@ -17,14 +17,14 @@ use Rattle.plist_binread.specs.ObjectEvents.{FitsWalk, SetsContentAt, SetsDecode
 use Rattle.plist_decode.specs.Decoding.{IsCollection, scalar_event_in}
 use Rattle.plist_decode.specs.Packed.{is_small_event, unmarked}
 use Rattle.plist_binread.specs.Walking.{IsCachedIfSmall}
-use Rattle.plist_decode.specs.Slot.{result_in}
+use Rattle.plist_decode.specs.StepFaults.{result_with}
 use Rattle.plist_decode.specs.declared.decoded.Content.{Content}
 use Rattle.plist_decode.specs.declared.decoded.ContentKind.{ContentKind}
 use Rattle.plist_decode.specs.declared.decoded.ContentKind.TheVariants as content_kind
 use Rattle.plist_decode.specs.declared.decoded.Decoded.{Decoded}
 use Rattle.plist_decode.specs.declared.decoded.Decoded.TheVariants as decoded
-use Rattle.plist_decode.specs.declared.fault_slot.FaultSlot.{FaultSlot}
-use Rattle.plist_decode.specs.declared.fault_slot.StepError.{StepError}
+use Rattle.plist_decode.specs.declared.step_fault.FaultDetails.{FaultDetails}
+use Rattle.plist_decode.specs.declared.step_fault.StepFault.{StepFault}
 use Rattle.plist_decode.specs.declared.head.Bounds.{Bounds}
 use Rattle.plist_decode.proofs.NumberRuns.{take-drop-take}
 
@@ -38,6 +38,11 @@ fits_walk bounds place (decoded.Collection kind start count) h =
     let small = bounds.small in (omega (arith, h.0, small), h.1)
 
 -- ---- the event of an object
+
+pub scalar_named : (object : Object) (event : PlainEvent) → scalar_event_in object ≡ Some event
+    → event_of_object object ≡ Some event
+scalar_named (Scalar scalar) event is = is
+scalar_named object event is = absurd (cc)
 
 pub named-scalar : (object : Object) (scalar : trees.Scalar) (event : PlainEvent)
     → object ≡ Scalar scalar → event_of_object object ≡ Some event
@@ -146,10 +151,10 @@ large_unlike (Ok value) d current large = λ small. absurd (false≢true (sym la
 large_unlike (Err error) d current large = tt
 
 -- if the event is that of a small scalar, the object is cached
-pub cached_if : {A : Type 0} (number : ℕ) (answer : Result A StepError) (slot : FaultSlot)
+pub cached_if : {A : Type 0} (number : ℕ) (answer : Result A StepFault) (details : FaultDetails)
     (current : PlainEvent) (d : Decoded) (tags : List ℕ)
     → OnOk answer (is_small_event current ≡ true → small_count d ≡ 1)
     → (small_count d ≡ 1 → 0 < unmarked (get_or tags number 0))
-    → IsCachedIfSmall (λ _. current) (Some number) (Some (result_in answer slot)) tags
-cached_if number (Ok value) slot current d tags small caches = λ is. caches (small is)
-cached_if number (Err error) slot current d tags small caches = tt
+    → IsCachedIfSmall (λ _. current) (Some number) (Some (result_with answer details)) tags
+cached_if number (Ok value) details current d tags small caches = λ is. caches (small is)
+cached_if number (Err fault) details current d tags small caches = tt

@@ -17,9 +17,9 @@ use Rattle.plist_decode.specs.FaultOffsets.{ErrWithin, ItemWithin}
 use Rattle.plist_binread.specs.Step.{LightensNext, YieldsItem, YieldsNext, YieldsRoot}
 use Rattle.plist_base.specs.Events.{PlainEvent}
 use Rattle.plist_base.specs.Visits.{Flow, item_with}
-use Rattle.plist_decode.specs.declared.fault_slot.StepError.{StepError}
+use Rattle.plist_decode.specs.declared.step_fault.StepFault.{StepFault}
 use Rattle.plist_base.specs.Sources.{CountsIo}
-use Rattle.plist_decode.specs.Slot.{result_in, item_in}
+use Rattle.plist_decode.specs.StepFaults.{error_of, item_kept, result_with}
 use Rattle.plist_base.proofs.Refusals.{MatchFault-all}
 use Rattle.plist_decode.proofs.FaultOffsets.{from_within}
 use Rattle.plist_decode.proofs.UnknownBytes.{IfSome-all, IfSome-never}
@@ -57,18 +57,18 @@ module _ {R C : Type 0} {g : Ghosts R} {h : CounterGhosts C} (old new : BinaryRe
     (same : g.known new.source ≡ g.known old.source)
     (counted : h.counts → h.count new.decoder.counter ≡ cached_in new.walk)
     (limiter : new.limiter ≡ old.limiter) where
-  pub first_walks : (noted : Result Flow StepError) (event : PlainEvent) → old.state ≡ Fresh
+  pub first_walks : (noted : Result Flow StepFault) (event : PlainEvent) → old.state ≡ Fresh
       → new.state ≡ state_after (Some noted)
-      → YieldsRoot (g.known old.source) new.decoder.bounds (result_in noted new.decoder.slot) event new.walk
-      → ErrWithin 0 (2 ^ 64) (result_in noted new.decoder.slot)
+      → YieldsRoot (g.known old.source) new.decoder.bounds (result_with noted new.decoder.details) event new.walk
+      → ErrWithin 0 (2 ^ 64) (result_with noted new.decoder.details)
       → IfSome (g.known old.source) (IsBounded new.walk)
       → IfSome (g.known old.source)
-      (λ bytes. CountsObjects bytes (result_in noted new.decoder.slot) (walk_objects new.walk))
+      (λ bytes. CountsObjects bytes (result_with noted new.decoder.details) (walk_objects new.walk))
       → OnOk noted (IsKnownWalk (g.known old.source) new.decoder.bounds new.walk)
       → OnOk noted (weight_in new.walk < walk_steps (walk_objects new.walk))
-      → CountsIo (Some (result_in noted new.decoder.slot)) (g.failures old.source)
+      → CountsIo (Some (result_with noted new.decoder.details)) (g.failures old.source)
       (g.failures new.source)
-      → Walks old (item_with (item_in (Some noted) new.decoder.slot) event) new
+      → Walks old (item_with (item_kept (Some noted) new.decoder.details) event) new
   first_walks (Ok value) event fresh is yields within bounded objects held falls failures = record {
     gives = record {
       unchanged = same;
@@ -94,7 +94,7 @@ module _ {R C : Type 0} {g : Ghosts R} {h : CounterGhosts C} (old new : BinaryRe
     gives = record {
       unchanged = same;
       items = simp (fresh, is) (IfSome_then (g.known old.source) yields.first
-          (λ bytes. yields_error (λ event. event) true (items_of_file bytes) new.decoder.slot.fault));
+          (λ bytes. yields_error (λ event. event) true (items_of_file bytes) (error_of r new.decoder.details)));
       failures = failures;
       ended = λ e. absurd (cc);
       unasked = λ e. absurd (cc);
@@ -110,20 +110,20 @@ module _ {R C : Type 0} {g : Ghosts R} {h : CounterGhosts C} (old new : BinaryRe
     falls = simp (fresh, is) (omega arith);
   }
 
-  item_walks_at : (noted : Option (Result Flow StepError)) (event : PlainEvent) → old.state ≡ Walking
+  item_walks_at : (noted : Option (Result Flow StepFault)) (event : PlainEvent) → old.state ≡ Walking
       → new.state ≡ state_after noted
       → IfSome (g.known old.source) (λ bytes. YieldsNext (remaining_in bytes old.decoder.bounds old.walk)
-      (item_in noted new.decoder.slot) event (remaining_in bytes new.decoder.bounds new.walk))
-      → ItemWithin 0 old.decoder.bounds.trailer (item_in noted new.decoder.slot)
+      (item_kept noted new.decoder.details) event (remaining_in bytes new.decoder.bounds new.walk))
+      → ItemWithin 0 old.decoder.bounds.trailer (item_kept noted new.decoder.details)
       → walk_objects new.walk ≡ walk_objects old.walk
       → IfSome (g.known old.source) (IsBounded old.walk)
       → IsKnownWalk (g.known old.source) new.decoder.bounds new.walk
       → IfSome (g.known old.source) (λ bytes. IsCachedIfSmall (λ _. event) (next_number
-      (entries_of bytes old.decoder.bounds) (open_in old.walk)) (item_in noted new.decoder.slot)
+      (entries_of bytes old.decoder.bounds) (open_in old.walk)) (item_kept noted new.decoder.details)
       new.walk.tags.items)
       → LightensNext old.walk noted new.walk
-      → CountsIo (item_in noted new.decoder.slot) (g.failures old.source) (g.failures new.source)
-      → Walks old (item_with (item_in noted new.decoder.slot) event) new
+      → CountsIo (item_kept noted new.decoder.details) (g.failures old.source) (g.failures new.source)
+      → Walks old (item_with (item_kept noted new.decoder.details) event) new
   item_walks_at None event walking is yields within size bounded held kept falls failures = record {
     gives = record {
       unchanged = same;
@@ -166,7 +166,7 @@ module _ {R C : Type 0} {g : Ghosts R} {h : CounterGhosts C} (old new : BinaryRe
       unchanged = same;
       items = simp (walking, is) (IfSome_then (g.known old.source) yields
           (λ bytes. yields_error (λ event. event) false
-          (until_fault (remaining_in bytes old.decoder.bounds old.walk)) new.decoder.slot.fault));
+          (until_fault (remaining_in bytes old.decoder.bounds old.walk)) (error_of r new.decoder.details)));
       failures = failures;
       ended = λ e. absurd (cc);
       unasked = λ e. absurd (cc);
@@ -177,24 +177,24 @@ module _ {R C : Type 0} {g : Ghosts R} {h : CounterGhosts C} (old new : BinaryRe
       head = holds_head (g.known old.source) new.decoder.bounds new.walk (is_walking new.state ≡ true) held;
       cached = IfSome-all (g.known old.source) (λ bytes. tt);
       leaves = left_behind old new counted (rw (size, IsBounded) bounded);
-      objects = tells_fault (g.known old.source) new.decoder.slot.fault (walk_objects new.walk)
+      objects = tells_fault (g.known old.source) (error_of r new.decoder.details) (walk_objects new.walk)
           (IfSome_then (g.known old.source) held (λ bytes held. sym held.size));
       kept = (ap is_some limiter, λ _. size);
     };
     falls = simp (walking, is) falls.0;
   }
 
-  pub item_walks : (noted : Option (Result Flow StepError)) (event : PlainEvent) → old.state ≡ Walking
+  pub item_walks : (noted : Option (Result Flow StepFault)) (event : PlainEvent) → old.state ≡ Walking
       → new.decoder.bounds ≡ old.decoder.bounds → new.state ≡ state_after noted
-      → YieldsItem (g.known old.source) old.decoder.bounds old.walk (item_in noted new.decoder.slot)
+      → YieldsItem (g.known old.source) old.decoder.bounds old.walk (item_kept noted new.decoder.details)
       event new.walk
-      → ItemWithin 0 old.decoder.bounds.trailer (item_in noted new.decoder.slot)
+      → ItemWithin 0 old.decoder.bounds.trailer (item_kept noted new.decoder.details)
       → walk_objects new.walk ≡ walk_objects old.walk
       → IfSome (g.known old.source) (IsBounded old.walk)
       → IsKnownWalk (g.known old.source) old.decoder.bounds new.walk
       → LightensNext old.walk noted new.walk
-      → CountsIo (item_in noted new.decoder.slot) (g.failures old.source) (g.failures new.source)
-      → Walks old (item_with (item_in noted new.decoder.slot) event) new
+      → CountsIo (item_kept noted new.decoder.details) (g.failures old.source) (g.failures new.source)
+      → Walks old (item_with (item_kept noted new.decoder.details) event) new
   item_walks noted event walking bounds is yields within size bounded held falls failures =
       item_walks_at noted event walking is (rw bounds yields.first) within size bounded (rw bounds held)
       yields.cached falls failures

@@ -7,13 +7,13 @@ use Rattle.plist_base.specs.Limits.{Refuses, RefusesAny}
 use Rattle.plist_base.specs.declared.limits.LimitCounter.{LimitCounter}
 use Rattle.plist_base.specs.Visits.{Flow}
 use Rattle.plist_binread.specs.Handovers.{HandsItem, PassesOn, TakesIfAny, TakesWithin}
-use Rattle.plist_decode.specs.declared.fault_slot.StepError.{StepError}
+use Rattle.plist_decode.specs.declared.step_fault.StepFault.{StepFault}
 use Rattle.plist_binread.specs.declared.visitors.Relay.{Relay}
 use Rattle.plist_binread.specs.declared.visitors.Within.{Within}
 
 -- the walk yielded an event that exceeds a limit, with this error
 pub record Reached {V : Type 0} (old new : Within V)
-    (P : Option (Result Flow StepError) → PlainEvent → Type 0) (error : Error) : Type 0 where
+    (P : Option (Result Flow StepFault) → PlainEvent → Type 0) (error : Error) : Type 0 where
   pub flow : Flow
   pub event : PlainEvent
   pub is : P (Some (Ok flow)) event
@@ -21,7 +21,7 @@ pub record Reached {V : Type 0} (old new : Within V)
   pub untaken : new.visitor.now ≡ old.visitor.now
 
 pub reached_limit : {V : Type 0} (step : V → PlainEvent → Flow → V → Type 0) (old new : Within V)
-    (item : Option (Result Flow StepError)) (P : Option (Result Flow StepError) → PlainEvent → Type 0)
+    (item : Option (Result Flow StepFault)) (P : Option (Result Flow StepFault) → PlainEvent → Type 0)
     (error : Error)
     → old.reached.now ≡ Ok tt → new.reached.now ≡ Err error
     → HandsItem (TakesWithin step) old new item (P item) → Reached old new P error
@@ -52,7 +52,7 @@ refuses_any limiter limits now event fault given is at same refused =
 
 -- what a visitor passes on is taken by the visitor in it
 pub passed_on : {V : Type 0} (step : V → PlainEvent → Flow → V → Type 0) (old new : Relay V)
-    (before after : V) (answer : Result Flow StepError) (event : PlainEvent)
+    (before after : V) (answer : Result Flow StepFault) (event : PlainEvent)
     → old.visitor.now ≡ before → after ≡ new.visitor.now
     → TakesIfAny (PassesOn step) old new (Some answer) event
     → TakesIfAny step before after (Some answer) event

@@ -1,5 +1,5 @@
 -- What is handed over to a visitor.
-use Rattle.std.specs.Prelude.{◌≡◌, ◌⊎◌, Option, Some, Result, Ok, Err, MatchOption, MatchResult}
+use Rattle.std.specs.Prelude.{◌≡◌, ◌⊎◌, Option, Some, Result, Ok, Err, MatchOption}
 use Rattle.std.specs.declared.ops.ControlFlow.TheVariants.{Break}
 use Rattle.plist_base.specs.declared.error.Error.{Error}
 use Rattle.plist_base.specs.declared.event.Event.{Event}
@@ -7,16 +7,10 @@ use Rattle.plist_base.specs.Events.{PlainEvent, event_of, IsTextOrDataEvent}
 use Rattle.plist_base.specs.Faults.{fault_of}
 use Rattle.plist_base.specs.Limits.{Admits, Refuses}
 use Rattle.plist_base.specs.Visits.{Flow}
-use Rattle.plist_decode.specs.declared.fault_slot.StepError.{StepError}
+use Rattle.plist_decode.specs.declared.step_fault.StepFault.{StepFault}
 use Rattle.plist_binread.specs.declared.visitors.FirstEvent.{FirstEvent}
 use Rattle.plist_binread.specs.declared.visitors.Relay.{Relay}
 use Rattle.plist_binread.specs.declared.visitors.Within.{Within}
-
--- the event is the one that was read, or the result is the error of the read
-abbrev pub HandsRead : {A : Type 0} → Result Event Error → (answer : Result A Error) → PlainEvent
-    → Type 0
-HandsRead (Ok read) answer event = MatchResult answer (λ _. event ≡ event_of read) (λ _. ⊥)
-HandsRead (Err error) answer event = answer ≡ Err error
 
 -- the visitor that keeps one event stores it, or an allocation for its string or data failed
 abbrev pub KeepsEvent : PlainEvent → Flow → FirstEvent → Type 0
@@ -25,12 +19,12 @@ KeepsEvent event flow visitor = (flow ≡ Break tt) × MatchOption visitor.kept
 
 module _ {V : Type 0} (step : V → PlainEvent → Flow → V → Type 0) (old new : V) where
   -- the visitor took this event, or is unchanged after an error or if there is no item
-  abbrev pub TakesIfAny : Option (Result Flow StepError) → PlainEvent → Type 0
+  abbrev pub TakesIfAny : Option (Result Flow StepFault) → PlainEvent → Type 0
   TakesIfAny (Some (Ok flow)) event = step old event flow new
   TakesIfAny other event = new ≡ old
 
   -- an event satisfies `P`, and the visitor took it unless there is an error or no item
-  pub record HandsItem (item : Option (Result Flow StepError)) (P : PlainEvent → Type 0) : Type 0
+  pub record HandsItem (item : Option (Result Flow StepFault)) (P : PlainEvent → Type 0) : Type 0
     where
       pub event : PlainEvent
       pub is : P event

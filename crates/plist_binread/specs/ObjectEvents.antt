@@ -10,12 +10,12 @@ use Rattle.plist_decode.specs.Decoding.{IsRefusedAs, child_count}
 use Rattle.plist_decode.specs.FaultOffsets.{ErrWithin}
 use Rattle.plist_decode.specs.Packed.{is_packed, is_small_event}
 use Rattle.plist_decode.specs.Reading.{object_at}
-use Rattle.plist_decode.specs.Slot.{result_in}
+use Rattle.plist_decode.specs.StepFaults.{result_with}
 use Rattle.plist_decode.specs.declared.decoded.Content.{Content}
 use Rattle.plist_decode.specs.declared.decoded.Decoded.{Decoded}
 use Rattle.plist_decode.specs.declared.decoded.Decoded.TheVariants as decoded
-use Rattle.plist_decode.specs.declared.fault_slot.FaultSlot.{FaultSlot}
-use Rattle.plist_decode.specs.declared.fault_slot.StepError.{StepError}
+use Rattle.plist_decode.specs.declared.step_fault.FaultDetails.{FaultDetails}
+use Rattle.plist_decode.specs.declared.step_fault.StepFault.{StepFault}
 use Rattle.plist_decode.specs.declared.head.Bounds.{Bounds}
 
 -- whether the object is faulty, so that it has no event
@@ -43,14 +43,17 @@ abbrev pub SetsEvent : {A : Type 0} → Object → (place : ℕ) → Result A Er
 SetsEvent object place answer current =
     MatchResult answer (λ _. event_of_object object ≡ Some current) (IsRefusedAs object place)
 
--- the current event is the first one of the object, and isn't small; or the slot stores an error of
--- the object, which isn't that of a failed read
-pub record SetsLarge {A : Type 0} (object : Object) (place : ℕ) (answer : Result A StepError)
-    (slot : FaultSlot) (current : PlainEvent) : Type 0 where
-  pub sets : SetsEvent object place (result_in answer slot) current
+-- the current event is the first one of the object, and isn't small; or the result is an error of
+-- the object, with the offset in the details, which isn't that of a failed read; it isn't kept
+pub record SetsLarge {A : Type 0} (object : Object) (answer : Result A StepFault)
+    (current : PlainEvent) : Type 0 where
+  pub sets : (details : FaultDetails)
+      → SetsEvent object details.place (result_with answer details) current
   pub large : OnOk answer (is_small_event current ≡ false)
-  pub fault : (end : ℕ) → ErrWithin place end (result_in answer slot)
-  pub never_io : IfErr (result_in answer slot) (λ error. IsNotIo (kind_of (error_kind_of error)))
+  pub fault : (details : FaultDetails) (start end : ℕ)
+      → ErrWithin start end (result_with answer details)
+  pub never_io : (details : FaultDetails)
+      → IfErr (result_with answer details) (λ error. IsNotIo (kind_of (error_kind_of error)))
 
 -- if the content lies within known bytes, the current event is that of its object
 abbrev pub SetsContentAt : {A : Type 0} → (known : Option (List ℕ)) → (place : ℕ) → Content

@@ -11,8 +11,9 @@ use Rattle.plist_decode.specs.Packed.{cached, is_marked, is_packed, open_kind, o
 use Rattle.plist_decode.specs.Reading.{bytes_at}
 use Rattle.plist_decode.specs.declared.decoded.Decoded.{Decoded}
 use Rattle.plist_decode.specs.declared.decoded.Decoded.TheVariants as decoded
-use Rattle.plist_decode.specs.declared.fault_slot.FaultSlot.{FaultSlot}
-use Rattle.plist_decode.specs.declared.fault_slot.StepError.{StepError}
+use Rattle.plist_decode.specs.StepFaults.{error_of}
+use Rattle.plist_decode.specs.declared.step_fault.FaultDetails.{FaultDetails}
+use Rattle.plist_decode.specs.declared.step_fault.StepFault.{StepFault}
 use Rattle.plist_decode.specs.declared.head.Bounds.{Bounds}
 use Rattle.plist_binread.specs.declared.enter.Known.{Known}
 use Rattle.plist_binread.specs.declared.enter.Known.TheVariants as looked
@@ -106,11 +107,12 @@ IsFound tag content (looked.Small kind packed) = (0 < unmarked tag)
     × (cached tag content ≡ Some (unpacked kind packed)) × (is_packed kind packed ≡ true)
 IsFound tag content (looked.At place) = (unmarked tag ≡ 0) × (place ≡ content)
 
--- the object of this number can't be entered, because of the error in the slot
-abbrev pub RefusesEntering : Walk → (at number : ℕ) → FaultSlot → StepError → Type 0
-RefusesEntering walk at number slot refused =
-    (bytes : List ℕ) (bounds : Bounds) → IsWalkOf bytes bounds walk →
-    Explains (until_fault (remaining_entering bytes bounds walk at number)) slot.fault
+-- the object of this number can't be entered because of this fault
+abbrev pub RefusesEntering : Walk → (at number : ℕ) → FaultDetails → StepFault → Type 0
+RefusesEntering walk at number details fault =
+    (bytes : List ℕ) (bounds : Bounds) → IsWalkOf bytes bounds walk
+    → Explains (until_fault (remaining_entering bytes bounds walk at number))
+    (error_of fault details)
 
 -- the object's first event is the first item that remained, and the walk has entered the object
 abbrev pub OpensObject : (number : ℕ) → Decoded → (old new : Walk) → Type 0

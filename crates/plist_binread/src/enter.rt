@@ -1,7 +1,7 @@
 //! Enters an object: decodes it and hands its first event to a visitor.
 
 ghost use Rattle.std.specs.Prelude.{◌≡◌, ◌+◌, ◌<◌, slice_index, true, false, Some, IfOk, IfErr, OnOk, IfSome};
-ghost use Rattle.plist_base.specs.Faults.{IsNotIo, ObjectReferenceTooLarge, RecursiveObject, error_kind_of, fault_at, fault_of, kind_of};
+ghost use Rattle.plist_base.specs.Faults.{IsNotIo, error_kind_of, kind_of};
 ghost use Rattle.plist_decode.specs.Packed.{is_marked, unmarked};
 ghost use Rattle.plist_binread.specs.Walking.{IsCachedIfSmall, IsKnownWalk, KeepsWalk, cached_in, remaining_entering, remaining_in, walk_objects};
 ghost use Rattle.plist_binread.specs.Step.{YieldsResult, IsFound, IsLighterEntered, IsUnchanged, IsCollectionStart, OpensObject, RefusesEntering};
@@ -11,39 +11,20 @@ ghost use Rattle.plist_binread.specs.ObjectEvents.{FitsWalk};
 ghost use Rattle.plist_binread.specs.Handovers.{HandsItem};
 ghost use Rattle.plist_decode.specs.declared.decoded.Decoded.TheVariants.{Collection as OpenCollection};
 ghost use Rattle.plist_base.specs.Sources.{CountsIo};
-ghost use Rattle.plist_decode.specs.Slot.{result_in};
+ghost use Rattle.plist_decode.specs.StepFaults.{result_with};
 
 use crate::hand::{hand_bytes, hand_decoded, hand_small};
 use crate::references::Reference;
 use crate::visitors::Relay;
 use crate::walk::Walk;
-use plist_base::{ErrorKind, EventVisitor, Source};
+use plist_base::{EventVisitor, Source};
 use plist_decode::counter::DecodeCounter;
 use plist_decode::decoded::{CollectionKind, Content, Decoded};
 use plist_decode::decoder::Decoder;
-use plist_decode::fault_slot::{FaultSlot, StepError};
 use plist_decode::object::{buffered_front, decode_front, read_object};
 use plist_decode::packed::{PackedKind, cache, is_open, mark_open};
+use plist_decode::step_fault::{FaultDetails, StepFault};
 use std::ops::ControlFlow;
-
-// Stores the error of a reference whose number no object has. `at` is the offset of the collection
-// that contains the reference, or of the trailer for the root.
-#[cold]
-#[inline(never)]
-fn refuse_number(slot: &mut FaultSlot, at: u64) -> StepError
-    ensures { fault_of slot.new.fault ≡ fault_at ObjectReferenceTooLarge at }
-{
-    slot.refuse(ErrorKind::ObjectReferenceTooLarge.with_byte_offset(at))
-}
-
-// Stores the error of the object at this offset, which is open already and so contains itself.
-#[cold]
-#[inline(never)]
-fn refuse_open(slot: &mut FaultSlot, place: u64) -> StepError
-    ensures { fault_of slot.new.fault ≡ fault_at RecursiveObject place }
-{
-    slot.refuse(ErrorKind::RecursiveObject.with_byte_offset(place))
-}
 
 // What the walk has stored about an object that is about to be entered.
 #[derive(Clone, Copy)]
@@ -57,20 +38,27 @@ enum Known {
 // Looks up an object that is about to be entered. `at` is the offset of the collection that refers
 // to the object, or of the trailer for the root.
 #[inline(always)]
-fn look_up(walk: &Walk, slot: &mut FaultSlot, at: u64, number: u64) -> Result<Known, StepError>
+fn look_up(
+    details: &mut FaultDetails,
+    walk: &Walk,
+    at: u64,
+    number: u64,
+) -> Result<Known, StepFault>
     // Result.
     ensures found { IfOk result (IsFound (slice_index walk.now.tags.items number)
         (slice_index walk.now.contents.items number)) }
     // Errors.
-    ensures refused { IfErr result (RefusesEntering walk.now at number slot.new) }
-    ensures never_io { IfErr result (λ _. IsNotIo (kind_of (error_kind_of slot.new.fault))) }
-    ensures fault { ErrWithin 0 0 (result_in result slot.new) }
-    // State afterwards.
+    ensures refused { IfErr result (RefusesEntering walk.now at number details.new) }
+    ensures never_io { IfErr (result_with result details.new) (λ error.
+        IsNotIo (kind_of (error_kind_of error))) }
+    ensures fault { ErrWithin 0 0 (result_with result details.new) }
+    // State.
     ensures below { IfOk result (λ _. number < walk_objects walk.now) }
     ensures new { IfOk result (λ _. is_marked (slice_index walk.now.tags.items number) ≡ false) }
 {
     if number >= walk.tags.len() as u64 {
-        return Err(refuse_number(slot, at));
+        details.fail_at(at);
+        return Err(StepFault::Reference);
     }
     let tag = walk.tags[number as usize];
     let content = walk.contents[number as usize];
@@ -78,7 +66,8 @@ fn look_up(walk: &Walk, slot: &mut FaultSlot, at: u64, number: u64) -> Result<Kn
         return Ok(Known::At(content));
     }
     if is_open(tag) {
-        return Err(refuse_open(slot, content));
+        details.fail_at(content);
+        return Err(StepFault::Recursion);
     }
     Ok(Known::Small(PackedKind::of_tag(tag), content))
 }
@@ -152,7 +141,7 @@ pub fn enter<S: Source, C: DecodeCounter, V: EventVisitor>(
     walk: &mut Walk,
     reference: Reference,
     visitor: &mut V,
-) -> Result<ControlFlow<()>, StepError>
+) -> Result<ControlFlow<()>, StepFault>
     requires known { IsKnownWalk (S.known source.old) decoder.old.bounds walk.old }
     requires counted { C.counts → C.count decoder.old.counter ≡ cached_in walk.old }
     // Result.
@@ -160,19 +149,21 @@ pub fn enter<S: Source, C: DecodeCounter, V: EventVisitor>(
         IfSome (S.known source.old) (λ bytes.
         YieldsResult
         (remaining_entering bytes decoder.old.bounds walk.old reference.at reference.number)
-        (result_in result decoder.new.slot) event (remaining_in bytes decoder.old.bounds walk.new))
+        (result_with result decoder.new.details) event
+        (remaining_in bytes decoder.old.bounds walk.new))
         × IsCachedIfSmall (λ _. event) (Some reference.number)
-        (Some (result_in result decoder.new.slot)) walk.new.tags.items) }
+        (Some (result_with result decoder.new.details)) walk.new.tags.items) }
     // Errors.
-    ensures fault { ErrWithin 0 decoder.old.bounds.trailer (result_in result decoder.new.slot) }
+    ensures fault { ErrWithin 0 decoder.old.bounds.trailer
+        (result_with result decoder.new.details) }
     // State afterwards.
     ensures kept { KeepsWalk S.known C.counts C.count (source.old, decoder.old, walk.old)
         (source.new, decoder.new, walk.new) }
     ensures falls { OnOk result (IsLighterEntered walk.old walk.new) }
-    ensures failures { CountsIo (Some (result_in result decoder.new.slot)) (S.failures source.old)
-        (S.failures source.new) }
+    ensures failures { CountsIo (Some (result_with result decoder.new.details))
+        (S.failures source.old) (S.failures source.new) }
 {
-    let place = match look_up(walk, &mut decoder.slot, reference.at, reference.number)? {
+    let place = match look_up(&mut decoder.details, walk, reference.at, reference.number)? {
         Known::Small(kind, content) => {
             let mut relay = Relay::new(visitor);
             return Ok(hand_small(kind, content, &mut relay));
@@ -186,7 +177,8 @@ pub fn enter<S: Source, C: DecodeCounter, V: EventVisitor>(
                 let content = Content { kind, start, count };
                 if content.lies_in(seen) {
                     let bytes = content.bytes_in(seen);
-                    return hand_bytes(kind, bytes, place, &mut decoder.slot, visitor);
+                    decoder.details.place = place;
+                    return hand_bytes(decoder.alloc, kind, bytes, visitor);
                 }
             }
             decoded
@@ -196,5 +188,5 @@ pub fn enter<S: Source, C: DecodeCounter, V: EventVisitor>(
     if cache_or_open(walk, reference.number, decoded) {
         return hand_decoded(source, decoder, place, decoded, visitor);
     }
-    Err(decoder.slot.refuse_memory())
+    Err(StepFault::Memory)
 }

@@ -8,21 +8,22 @@ ghost use Rattle.plist_binread.specs.ObjectEvents.{SetsContentAt, SetsDecoded, S
 ghost use Rattle.plist_decode.specs.Decoding.{start_event};
 ghost use Rattle.plist_decode.specs.FaultOffsets.{ErrWithin};
 ghost use Rattle.plist_base.specs.Events.{ScalarEvent};
-ghost use Rattle.plist_binread.specs.Handovers.{HandsItem, HandsRead};
+ghost use Rattle.plist_binread.specs.Handovers.{HandsItem};
 ghost use Rattle.plist_decode.specs.Packed.{content_bytes, is_packed, is_small_event, unpacked};
 ghost use Rattle.plist_base.specs.Sources.{CountsIo};
-ghost use Rattle.plist_decode.specs.Slot.{result_in};
+ghost use Rattle.plist_decode.specs.StepFaults.{result_with};
 ghost use Rattle.plist_decode.specs.declared.decoded.ContentKind.TheVariants.{Text as KindText};
 
-use plist_base::{Date, Error, EventVisitor, Integer, OwnedEvent, RealBits, Source, Uid};
+use plist_base::{Date, EventVisitor, Integer, RealBits, Source, Uid};
 use plist_decode::counter::DecodeCounter;
-use plist_decode::decoded::{CollectionKind, Content, ContentKind, Decoded, ObjectFault};
+use plist_decode::decoded::{CollectionKind, Content, ContentKind, Decoded};
 use plist_decode::decoder::Decoder;
-use plist_decode::fault_slot::{FaultSlot, StepError};
 use plist_decode::long_content::{read_long, wide_text_event};
 use plist_decode::packed::PackedKind;
+use plist_decode::step_fault::StepFault;
 use plist_decode::utf8::text_in;
 use plist_decode::utf16::{MAX_UNITS, utf16_text_in};
+use std::alloc::Global;
 use std::borrow::{CowSlice, CowStr};
 use std::ops::ControlFlow;
 
@@ -56,151 +57,123 @@ pub fn hand_small<V: EventVisitor>(
     }
 }
 
-// Hands over the date in these eight bytes, or stores the error of the object at this offset if the
-// date is out of range.
+// Hands over the date in these eight bytes, or returns a fault if the date is out of range.
 #[inline(never)]
-fn hand_date<V: EventVisitor>(
-    content: u64,
-    place: u64,
-    slot: &mut FaultSlot,
-    visitor: &mut V,
-) -> Result<ControlFlow<()>, StepError>
+fn hand_date<V: EventVisitor>(content: u64, visitor: &mut V) -> Result<ControlFlow<()>, StepFault>
     ensures { HandsItem V.step visitor.old visitor.new (Some result)
-        (SetsLarge (date (content_bytes content)) place result slot.new) }
+        (SetsLarge (date (content_bytes content)) result) }
 {
     match Date::from_plist_real(content.to_be_bytes()) {
         Ok(date) => Ok(visitor.date(date)),
-        Err(_) => Err(slot.refuse_object(ObjectFault::NoDate, place)),
+        Err(_) => Err(StepFault::NoDate),
     }
 }
 
-// Hands over an event that was read, or stores the error of the read.
-fn hand_read<V: EventVisitor>(
-    read: Result<OwnedEvent, Error>,
-    slot: &mut FaultSlot,
-    visitor: &mut V,
-) -> Result<ControlFlow<()>, StepError>
-    ensures { HandsItem V.step visitor.old visitor.new (Some result)
-        (HandsRead read.entry (result_in result slot.new)) }
-{
-    match read {
-        Ok(event) => Ok(visitor.event(event)),
-        Err(error) => Err(slot.refuse(error)),
-    }
-}
-
-// Hands over a string that isn't small, or stores the error of the object at this offset if the
-// bytes aren't UTF-8.
+// Hands over a string that isn't small, or returns a fault if the bytes aren't UTF-8.
 #[inline(always)]
-fn hand_text<V: EventVisitor>(
-    bytes: &[u8],
-    place: u64,
-    slot: &mut FaultSlot,
-    visitor: &mut V,
-) -> Result<ControlFlow<()>, StepError>
+fn hand_text<V: EventVisitor>(bytes: &[u8], visitor: &mut V) -> Result<ControlFlow<()>, StepFault>
     requires { IsLongBytes KindText bytes.now }
     ensures { HandsItem V.step visitor.old visitor.new (Some result)
-        (SetsLarge (text bytes.now) place result slot.new) }
+        (SetsLarge (text bytes.now) result) }
 {
     match text_in(bytes) {
         Some(text) => Ok(visitor.string(CowStr::Borrowed(text))),
-        None => Err(slot.refuse_object(ObjectFault::NotUtf8, place)),
+        None => Err(StepFault::NotUtf8),
     }
 }
 
-// Decodes a string in UTF-16 of any length into memory of its own, and hands it over. Stores the
-// error of the object at this offset if the string is invalid.
+// Decodes a string in UTF-16 of any length into memory of its own, and hands it over. Returns a
+// fault if the string is invalid.
 #[cold]
 #[inline(never)]
 fn hand_long_wide_text<V: EventVisitor>(
+    alloc: Global,
     bytes: &[u8],
-    place: u64,
-    slot: &mut FaultSlot,
     visitor: &mut V,
-) -> Result<ControlFlow<()>, StepError>
+) -> Result<ControlFlow<()>, StepFault>
     requires { AreUnits 2 bytes.now }
     ensures { HandsItem V.step visitor.old visitor.new (Some result)
-        (SetsLarge (wide_text bytes.now) place result slot.new) }
+        (SetsLarge (wide_text bytes.now) result) }
 {
-    let read = wide_text_event(slot.alloc, bytes, place);
-    hand_read(read, slot, visitor)
+    let event = wide_text_event(alloc, bytes)?;
+    Ok(visitor.event(event))
 }
 
-// Hands over a string in UTF-16, or stores the error of the object at this offset if it is invalid.
+// Hands over a string in UTF-16, or returns a fault if it is invalid.
 // A string of at most `MAX_UNITS` units is decoded on the stack.
 //
 // A string of at most eight bytes in UTF-8 is decoded together with the first bytes of its object.
-// So there can be one here only if the source returned other bytes before. The error is
-// `OutOfMemory` then.
+// So there can be one here only if the source returned other bytes before. The fault is `Memory`
+// then.
 #[inline(never)]
 fn hand_wide_text<V: EventVisitor>(
+    alloc: Global,
     bytes: &[u8],
-    place: u64,
-    slot: &mut FaultSlot,
     visitor: &mut V,
-) -> Result<ControlFlow<()>, StepError>
+) -> Result<ControlFlow<()>, StepFault>
     requires { AreUnits 2 bytes.now }
     ensures { HandsItem V.step visitor.old visitor.new (Some result)
-        (SetsLarge (wide_text bytes.now) place result slot.new) }
+        (SetsLarge (wide_text bytes.now) result) }
 {
     if bytes.len() > 2 * MAX_UNITS {
-        return hand_long_wide_text(bytes, place, slot, visitor);
+        return hand_long_wide_text(alloc, bytes, visitor);
     }
     let mut text = [0; 3 * MAX_UNITS];
     match utf16_text_in(bytes, &mut text) {
         Some(text) if text.len() > 8 => Ok(visitor.string(CowStr::Borrowed(text))),
-        Some(_) => Err(slot.refuse_memory()),
-        None => Err(slot.refuse_object(ObjectFault::NotUtf16, place)),
+        Some(_) => Err(StepFault::Memory),
+        None => Err(StepFault::NotUtf16),
     }
 }
 
-/// Hands over the string or data in these bytes, or stores the error of the object at this offset
-/// if a string is invalid.
+/// Hands over the string or data in these bytes, or returns a fault if a string is invalid.
 #[inline(always)]
 pub fn hand_bytes<V: EventVisitor>(
+    alloc: Global,
     kind: ContentKind,
     bytes: &[u8],
-    place: u64,
-    slot: &mut FaultSlot,
     visitor: &mut V,
-) -> Result<ControlFlow<()>, StepError>
+) -> Result<ControlFlow<()>, StepFault>
     requires units { AreUnits (unit_size kind) bytes.now }
     requires long { IsLongBytes kind bytes.now }
     ensures { HandsItem V.step visitor.old visitor.new (Some result)
-        (SetsLarge (content_means kind bytes.now) place result slot.new) }
+        (SetsLarge (content_means kind bytes.now) result) }
 {
     match kind {
         ContentKind::Data => Ok(visitor.data(CowSlice::Borrowed(bytes))),
-        ContentKind::Text => hand_text(bytes, place, slot, visitor),
-        ContentKind::WideText => hand_wide_text(bytes, place, slot, visitor),
+        ContentKind::Text => hand_text(bytes, visitor),
+        ContentKind::WideText => hand_wide_text(alloc, bytes, visitor),
     }
 }
 
-// Reads a string or data that isn't buffered, and hands it over. The object lies at this offset.
+// Reads the string or data of the object at this offset, which isn't buffered, and hands it over.
 #[cold]
 #[inline(never)]
-fn hand_far<S: Source, V: EventVisitor>(
+fn hand_far<S: Source, C: DecodeCounter, V: EventVisitor>(
     source: &mut S,
+    decoder: &mut Decoder<C>,
     place: u64,
     content: Content,
-    slot: &mut FaultSlot,
     visitor: &mut V,
-) -> Result<ControlFlow<()>, StepError>
+) -> Result<ControlFlow<()>, StepFault>
     requires fits { EndsIn64Bits place content }
     requires long { IsLong content }
     // Result.
     ensures handed { HandsItem V.step visitor.old visitor.new (Some result) (λ event.
-        SetsContentAt (S.known source.old) place content (result_in result slot.new) event
+        SetsContentAt (S.known source.old) place content
+        (result_with result decoder.new.details) event
         × OnOk result (is_small_event event ≡ false)) }
     // Errors.
-    ensures fault { FailsInContent place content (result_in result slot.new) }
+    ensures fault { FailsInContent place content (result_with result decoder.new.details) }
     // State afterwards.
+    ensures bounds { decoder.new.bounds ≡ decoder.old.bounds }
+    ensures counter { decoder.new.counter ≡ decoder.old.counter }
     ensures unchanged { S.known source.new ≡ S.known source.old }
-    ensures failures { CountsIo (Some (result_in result slot.new)) (S.failures source.old)
-        (S.failures source.new) }
+    ensures failures { CountsIo (Some (result_with result decoder.new.details))
+        (S.failures source.old) (S.failures source.new) }
 {
-    let read = read_long(slot.alloc, source, place, content);
-    hand_read(read, slot, visitor)
+    let event = read_long(source, decoder, place, content)?;
+    Ok(visitor.event(event))
 }
 
 // Hands over the start of a collection of this many items or pairs.
@@ -214,8 +187,8 @@ fn hand_start<V: EventVisitor>(kind: CollectionKind, count: u64, visitor: &mut V
     }
 }
 
-/// Hands over the first event of the object at this offset, or stores its error if it is faulty. A
-/// long string or long data is read into new memory.
+/// Hands over the first event of the object at this offset, or returns a fault. A long string or
+/// long data is read into new memory.
 #[inline(always)]
 pub fn hand_decoded<S: Source, C: DecodeCounter, V: EventVisitor>(
     source: &mut S,
@@ -223,31 +196,35 @@ pub fn hand_decoded<S: Source, C: DecodeCounter, V: EventVisitor>(
     place: u64,
     decoded: Decoded,
     visitor: &mut V,
-) -> Result<ControlFlow<()>, StepError>
+) -> Result<ControlFlow<()>, StepFault>
     requires { FitsBefore decoder.old.bounds.trailer place decoded }
     // Result.
     ensures handed { HandsItem V.step visitor.old visitor.new (Some result) (λ event.
         SetsDecoded (S.known source.old) decoder.old.bounds place decoded
-        (result_in result decoder.new.slot) event
+        (result_with result decoder.new.details) event
         × OnOk result (is_small_event event ≡ true → small_count decoded ≡ 1)) }
     ensures found { OnOk result (is_refused decoded ≡ false) }
     // Errors.
-    ensures fault { ErrWithin place decoder.old.bounds.trailer (result_in result decoder.new.slot) }
+    ensures fault { ErrWithin place decoder.old.bounds.trailer
+        (result_with result decoder.new.details) }
     // State afterwards.
     ensures unchanged { S.known source.new ≡ S.known source.old }
     ensures bounds { decoder.new.bounds ≡ decoder.old.bounds }
     ensures counter { decoder.new.counter ≡ decoder.old.counter }
-    ensures failures { CountsIo (Some (result_in result decoder.new.slot)) (S.failures source.old)
-        (S.failures source.new) }
+    ensures failures { CountsIo (Some (result_with result decoder.new.details))
+        (S.failures source.old) (S.failures source.new) }
 {
     match decoded {
         Decoded::Small(kind, content) => Ok(hand_small(kind, content, visitor)),
-        Decoded::Date(content) => hand_date(content, place, &mut decoder.slot, visitor),
+        Decoded::Date(content) => {
+            decoder.details.place = place;
+            hand_date(content, visitor)
+        }
         Decoded::Long(kind, start, count) => {
             let content = Content { kind, start, count };
-            hand_far(source, place, content, &mut decoder.slot, visitor)
+            hand_far(source, decoder, place, content, visitor)
         }
         Decoded::Collection(kind, _, count) => Ok(hand_start(kind, count, visitor)),
-        Decoded::Faulty(fault) => Err(decoder.slot.refuse_object(fault, place)),
+        Decoded::Faulty(fault) => Err(decoder.details.fail_object(fault, place)),
     }
 }

@@ -5,7 +5,7 @@ ghost use Rattle.plist_base.specs.Outcomes.{DecodesBy, IfRefused};
 ghost use Rattle.plist_base.specs.Container.{number_at};
 ghost use Rattle.plist_decode.specs.FaultOffsets.{ErrWithin};
 ghost use Rattle.plist_base.specs.Sources.{CountsIo, IsIoWithin};
-ghost use Rattle.plist_decode.specs.Slot.{result_in};
+ghost use Rattle.plist_decode.specs.StepFaults.{result_with};
 
 use crate::frames::Frame;
 use crate::prefetch::Prefetcher;
@@ -14,8 +14,8 @@ use plist_base::Source;
 use plist_decode::counter::DecodeCounter;
 use plist_decode::decoded::CollectionKind;
 use plist_decode::decoder::Decoder;
-use plist_decode::fault_slot::{FaultSlot, StepError};
 use plist_decode::numbers::{number_from, read_number};
+use plist_decode::step_fault::{FaultDetails, StepFault};
 
 // The largest number of bytes in a run.
 const RUN: usize = 32;
@@ -192,25 +192,25 @@ impl References {
 #[inline(never)]
 fn read_reference<S: Source>(
     source: &mut S,
+    details: &mut FaultDetails,
     place: u64,
     width: usize,
-    slot: &mut FaultSlot,
-) -> Result<u64, StepError>
+) -> Result<u64, StepFault>
     requires width { width ≤ 8 }
     requires fits { place + width < 2 ^ 64 }
     // Result.
-    ensures value { DecodesBy (result_in result slot.new) (S.known source.old)
+    ensures value { DecodesBy (result_with result details.new) (S.known source.old)
         (λ bytes. number_at bytes place width) }
     // Errors.
-    ensures refused { IfRefused (result_in result slot.new) (S.known source.old)
+    ensures refused { IfRefused (result_with result details.new) (S.known source.old)
         (IsIoWithin place width) }
-    ensures fault { ErrWithin place (place + width) (result_in result slot.new) }
+    ensures fault { ErrWithin place (place + width) (result_with result details.new) }
     // State afterwards.
     ensures unchanged { S.known source.new ≡ S.known source.old }
-    ensures failures { CountsIo (Some (result_in result slot.new)) (S.failures source.old)
+    ensures failures { CountsIo (Some (result_with result details.new)) (S.failures source.old)
         (S.failures source.new) }
 {
-    slot.keep_error(read_number(source, place, width))
+    details.keep_error(read_number(source, place, width))
 }
 
 /// Reads the references of collections.
@@ -235,7 +235,7 @@ impl ReferenceReader {
     ghost use Rattle.plist_binread.specs.Step.{stored_references};
     ghost use Rattle.plist_binread.specs.Walking.{walk_objects};
     ghost use Rattle.plist_base.specs.Sources.{CountsIo};
-    ghost use Rattle.plist_decode.specs.Slot.{result_in};
+    ghost use Rattle.plist_decode.specs.StepFaults.{result_with};
 
     /// Creates a reader that hasn't read any references yet.
     pub fn new() -> Self
@@ -291,31 +291,32 @@ impl ReferenceReader {
         decoder: &mut Decoder<C>,
         walk: &Walk,
         frame: Frame,
-    ) -> Result<u64, StepError>
+    ) -> Result<u64, StepFault>
         requires object { frame.object < walk_objects walk.now }
         requires next { frame.next < frame.count }
         requires references { AreReferencesOf (S.known source.old) decoder.old.bounds
             (stored_references walk.now frame) }
         requires runs { AreRunsOf (S.known source.old) self.old }
         // Result.
-        ensures child { ReadsChildAt (result_in result decoder.new.slot) (S.known source.old)
+        ensures child { ReadsChildAt (result_with result decoder.new.details) (S.known source.old)
             decoder.old.bounds (stored_references walk.now frame).place frame.next }
         // Errors.
         ensures fault { ErrWithin 0 decoder.old.bounds.trailer
-            (result_in result decoder.new.slot) }
+            (result_with result decoder.new.details) }
         // State afterwards.
         ensures runs { AreRunsOf (S.known source.old) self.new }
         ensures bounds { decoder.new.bounds ≡ decoder.old.bounds }
         ensures counter { decoder.new.counter ≡ decoder.old.counter }
         ensures unchanged { S.known source.new ≡ S.known source.old }
-        ensures failures { CountsIo (Some (result_in result decoder.new.slot))
+        ensures failures { CountsIo (Some (result_with result decoder.new.details))
             (S.failures source.old) (S.failures source.new) }
     {
         let width = decoder.bounds.reference_width;
         let references = walk.references(frame);
         let at = references.reference_place(frame.next, width);
         if at >= decoder.bounds.trailer || decoder.bounds.trailer - at < width as u64 {
-            return Err(decoder.slot.refuse_overrun(references.place));
+            decoder.details.fail_at(references.place);
+            return Err(StepFault::Overrun);
         }
         if let Some(number) = self.number_at(at, width) {
             return Ok(number);
@@ -323,7 +324,7 @@ impl ReferenceReader {
         self.prefetcher.prefetch(source, walk, frame, width);
         match self.refill(source, references.is_value(frame.next), at, width) {
             Some(number) => Ok(number),
-            None => read_reference(source, at, width, &mut decoder.slot),
+            None => read_reference(source, &mut decoder.details, at, width),
         }
     }
 }

@@ -1,12 +1,11 @@
 //! Takes the steps of a walk: reads the head and enters the root, or advances by one event.
 
 ghost use Rattle.std.specs.Prelude.{◌≡◌, ◌^◌, ◌<◌, Some, replicate, IfOk, IfSome, OnOk};
-ghost use Rattle.plist_base.specs.Outcomes.{OnlyMemory};
 ghost use Rattle.plist_binread.specs.Remaining.{CountsObjects, walk_steps};
 ghost use Rattle.plist_decode.specs.FaultOffsets.{ErrWithin, ItemWithin};
 ghost use Rattle.plist_binread.specs.Handovers.{HandsItem};
 ghost use Rattle.plist_base.specs.Sources.{CountsIo};
-ghost use Rattle.plist_decode.specs.Slot.{result_in, item_in};
+ghost use Rattle.plist_decode.specs.StepFaults.{item_kept, result_with};
 ghost use Rattle.plist_binread.specs.Walking.{IsBounded, IsEmptyWalk, IsKnownWalk, KeepsWalk, cached_in, walk_objects, weight_in};
 ghost use Rattle.plist_binread.specs.Step.{LightensNext, YieldsItem, YieldsRoot};
 ghost use Rattle.plist_binread.specs.References.{AreRunsOf};
@@ -16,18 +15,17 @@ use crate::frames::NextChild;
 use crate::references::{Reference, ReferenceReader};
 use crate::visitors::Relay;
 use crate::walk::Walk;
-use plist_base::{Error, EventVisitor, Source};
+use plist_base::{EventVisitor, Source};
 use plist_decode::counter::DecodeCounter;
 use plist_decode::decoder::Decoder;
-use plist_decode::fault_slot::StepError;
 use plist_decode::head::{Bounds, Head};
-use std::alloc::Global;
+use plist_decode::step_fault::StepFault;
+use std::alloc::{AllocError, Global};
 use std::ops::ControlFlow;
 
 // Allocates a tag of zero for each object, since no object is cached or open at first.
-fn zero_tags(alloc: Global, count: usize) -> Result<Vec<u8>, Error>
+fn zero_tags(alloc: Global, count: usize) -> Result<Vec<u8>, AllocError>
     ensures tags { IfOk result (λ tags. tags.items ≡ replicate count 0) }
-    ensures memory { OnlyMemory result }
 {
     let tags = vec![in alloc; 0u8; count]?;
     Ok(tags)
@@ -41,31 +39,29 @@ pub fn begin<S: Source, C: DecodeCounter, V: EventVisitor>(
     decoder: &mut Decoder<C>,
     walk: &mut Walk,
     visitor: &mut V,
-) -> Result<ControlFlow<()>, StepError>
+) -> Result<ControlFlow<()>, StepFault>
     requires empty { IsEmptyWalk walk.old }
     requires counted { C.counts → C.count decoder.old.counter ≡ cached_in walk.old }
     // Result.
     ensures handed { HandsItem V.step visitor.old visitor.new (Some result) (λ event.
-        YieldsRoot (S.known source.old) decoder.new.bounds (result_in result decoder.new.slot) event
-        walk.new) }
+        YieldsRoot (S.known source.old) decoder.new.bounds
+        (result_with result decoder.new.details) event walk.new) }
     // Errors.
-    ensures fault { ErrWithin 0 (2 ^ 64) (result_in result decoder.new.slot) }
+    ensures fault { ErrWithin 0 (2 ^ 64) (result_with result decoder.new.details) }
     // State afterwards.
     ensures counted { C.counts → C.count decoder.new.counter ≡ cached_in walk.new }
     ensures bounded { IfSome (S.known source.old) (IsBounded walk.new) }
     ensures objects { IfSome (S.known source.old) (λ bytes.
-        CountsObjects bytes (result_in result decoder.new.slot) (walk_objects walk.new)) }
+        CountsObjects bytes (result_with result decoder.new.details) (walk_objects walk.new)) }
     ensures known { OnOk result (IsKnownWalk (S.known source.old) decoder.new.bounds walk.new) }
     ensures falls { OnOk result (weight_in walk.new < walk_steps (walk_objects walk.new)) }
     ensures unchanged { S.known source.new ≡ S.known source.old }
-    ensures failures { CountsIo (Some (result_in result decoder.new.slot)) (S.failures source.old)
-        (S.failures source.new) }
+    ensures failures { CountsIo (Some (result_with result decoder.new.details))
+        (S.failures source.old) (S.failures source.new) }
 {
-    let alloc = decoder.slot.alloc;
-    let head = decoder.slot.keep_error(Head::read(alloc, source))?;
-    let tags = decoder
-        .slot
-        .keep_error(zero_tags(alloc, head.places.len()))?;
+    let alloc = decoder.alloc;
+    let head = decoder.details.keep_error(Head::read(alloc, source))?;
+    let tags = zero_tags(alloc, head.places.len())?;
     let Head {
         trailer,
         reference_width,
@@ -94,22 +90,22 @@ pub fn advance<S: Source, C: DecodeCounter, V: EventVisitor>(
     walk: &mut Walk,
     references: &mut ReferenceReader,
     visitor: &mut V,
-) -> Option<Result<ControlFlow<()>, StepError>>
+) -> Option<Result<ControlFlow<()>, StepFault>>
     requires known { IsKnownWalk (S.known source.old) decoder.old.bounds walk.old }
     requires counted { C.counts → C.count decoder.old.counter ≡ cached_in walk.old }
     requires references { AreRunsOf (S.known source.old) references.old }
     // Result.
     ensures handed { HandsItem V.step visitor.old visitor.new result (λ event.
         YieldsItem (S.known source.old) decoder.old.bounds walk.old
-        (item_in result decoder.new.slot) event walk.new) }
+        (item_kept result decoder.new.details) event walk.new) }
     // Errors.
-    ensures fault { ItemWithin 0 decoder.old.bounds.trailer (item_in result decoder.new.slot) }
+    ensures fault { ItemWithin 0 decoder.old.bounds.trailer (item_kept result decoder.new.details) }
     // State afterwards.
     ensures kept { KeepsWalk S.known C.counts C.count (source.old, decoder.old, walk.old)
         (source.new, decoder.new, walk.new) }
     ensures references { AreRunsOf (S.known source.old) references.new }
     ensures falls { LightensNext walk.old result walk.new }
-    ensures failures { CountsIo (item_in result decoder.new.slot) (S.failures source.old)
+    ensures failures { CountsIo (item_kept result decoder.new.details) (S.failures source.old)
         (S.failures source.new) }
 {
     match walk.next_child() {
@@ -125,7 +121,7 @@ pub fn advance<S: Source, C: DecodeCounter, V: EventVisitor>(
                     };
                     Some(enter(source, decoder, walk, reference, visitor))
                 }
-                Err(refused) => Some(Err(refused)),
+                Err(fault) => Some(Err(fault)),
             }
         }
     }

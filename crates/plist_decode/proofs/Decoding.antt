@@ -1,6 +1,5 @@
 -- What is decoded from an object, and how an object can be faulty.
 use Rattle.std.proofs.Common.{◌≡◌, ℕ, suc, inl, inr, ◌+◌, ◌-◌, ◌*◌, ◌<◌, ◌≤◌, false, List, ◌∷◌, ◌++◌, length, take, drop, replicate, Option, Some, ap, sym, subst, ◌∙◌, arith}
-use Rattle.std.specs.Prelude.{⊤}
 use Rattle.std.proofs.lemmas.Bool.{cases_lt, le-leb}
 use Rattle.std.proofs.lemmas.List.{length-append, length-drop, length-take-le, drop-append-le}
 use Rattle.std.proofs.lemmas.Option.{IfSome_then}
@@ -8,15 +7,10 @@ use Rattle.std.specs.Char.Utf16.{has_unpaired_surrogate, utf16_lossy_chars}
 use Rattle.std.specs.Str.{encode_utf8_all}
 use Rattle.std.proofs.Math.ListN.{length-replicate}
 use Rattle.std.proofs.Math.Seq.{take-length}
-use Rattle.plist_base.specs.declared.error.Error.{Error}
-use Rattle.plist_base.specs.Faults.{FaultKind, IsNotIo, MatchFault, error_kind_of, fault_at, fault_of, kind_of}
-use Rattle.plist_base.specs.Faults as faults
 use Rattle.plist_base.specs.Trees as trees
-use Rattle.plist_base.specs.Object.{Object, Scalar, Faulty, length_in, object_in, text_of_units}
+use Rattle.plist_base.specs.Object.{Object, Scalar, length_in, object_in, text_of_units}
 use Rattle.plist_decode.specs.CountedContent.{content_means, counted_with, unit_size}
-use Rattle.plist_decode.specs.Decoded.{DecodesAt, DecodesSeen, FitsBefore, IsDecodedAs, IsObjectFault, MeansDecoded, IsLongCount, kind_of_object_fault}
-use Rattle.plist_decode.specs.Decoding.{IsRefusedAs}
-use Rattle.plist_decode.specs.FaultOffsets.{FailsWithin, MatchReader}
+use Rattle.plist_decode.specs.Decoded.{DecodesAt, DecodesSeen, FitsBefore, IsDecodedAs, MeansDecoded, IsLongCount}
 use Rattle.plist_decode.specs.Front.{IsFrontAt}
 use Rattle.plist_decode.specs.Packed.{content_bytes}
 use Rattle.plist_decode.specs.Reading.{data_of_content, object_with}
@@ -24,49 +18,12 @@ use Rattle.plist_decode.specs.declared.decoded.ContentKind.{ContentKind}
 use Rattle.plist_decode.specs.declared.decoded.ContentKind.TheVariants as content_kind
 use Rattle.plist_decode.specs.declared.decoded.Decoded.{Decoded}
 use Rattle.plist_decode.specs.declared.decoded.Decoded.TheVariants as decoded
-use Rattle.plist_decode.specs.declared.decoded.ObjectFault.{ObjectFault}
-use Rattle.plist_decode.specs.declared.decoded.ObjectFault.TheVariants as fault
 use Rattle.plist_decode.specs.declared.head.Bounds.{Bounds}
 use Rattle.plist_decode.specs.declared.packed.PackedKind.TheVariants as kind
-use Rattle.plist_decode.proofs.Contents.{refused_as}
 use Rattle.plist_decode.proofs.Lengths.{content_seen}
-use Rattle.plist_decode.proofs.FaultOffsets.{from_fault, other_kind}
 use Rattle.plist_decode.proofs.ObjectFronts.{known_front, object_front}
 
 -- ---- faults
-
-by_kind : (kind : FaultKind) (place : ℕ) (e : Error) → fault_of e ≡ fault_at kind place
-    → MatchFault kind ⊥ ⊥ ⊤ → MatchReader kind ⊥ ⊥ ⊤
-    → ((object : Object) → object ≡ Faulty kind → IsRefusedAs object place e)
-    × ((end : ℕ) → FailsWithin place end (fault_of e)) × IsNotIo (kind_of (error_kind_of e))
-by_kind kind place e is inside reader = (
-  λ object h. refused_as object place e kind is inside h,
-  λ end. from_fault _ kind place place end is reader,
-  other_kind e kind place is inside,
-)
-
--- the error that reports an object's fault is the error of the object, with an offset, and isn't an
--- I/O error
-pub fault_there : (f : ObjectFault) (kind : FaultKind) (place : ℕ) (e : Error)
-    → kind ≡ kind_of_object_fault f → fault_of e ≡ fault_at kind place
-    → ((object : Object) → IsObjectFault object f → IsRefusedAs object place e)
-    × ((end : ℕ) → FailsWithin place end (fault_of e)) × IsNotIo (kind_of (error_kind_of e))
-fault_there fault.Overrun kind place e same is =
-    by_kind faults.ObjectOffsetTooLarge place e (is ∙ ap (λ k. fault_at k place) same) tt tt
-fault_there fault.Null kind place e same is =
-    by_kind faults.NullObjectUnimplemented place e (is ∙ ap (λ k. fault_at k place) same) tt tt
-fault_there fault.Fill kind place e same is =
-    by_kind faults.FillObjectUnimplemented place e (is ∙ ap (λ k. fault_at k place) same) tt tt
-fault_there (fault.Unknown marker) kind place e same is =
-    by_kind (faults.UnknownObjectType marker) place e (is ∙ ap (λ k. fault_at k place) same) tt tt
-fault_there fault.OutOfRange kind place e same is =
-    by_kind faults.IntegerOutOfRange place e (is ∙ ap (λ k. fault_at k place) same) tt tt
-fault_there fault.NoDate kind place e same is =
-    by_kind faults.OverflowOrNanDate place e (is ∙ ap (λ k. fault_at k place) same) tt tt
-fault_there fault.NotUtf8 kind place e same is =
-    by_kind faults.InvalidUtf8String place e (is ∙ ap (λ k. fault_at k place) same) tt tt
-fault_there fault.NotUtf16 kind place e same is =
-    by_kind faults.InvalidUtf16String place e (is ∙ ap (λ k. fault_at k place) same) tt tt
 
 -- ---- strings and data
 

@@ -1,7 +1,7 @@
 -- What is decoded from the bytes at an object's front, whatever follows them.
 use Rattle.std.specs.Prelude.{◌≡◌, ℕ, ◌+◌, ◌*◌, ◌^◌, ◌<◌, ◌≤◌, List, ◌∷◌, ◌++◌, length, take, drop, true, Option, Result, IfSome, MatchResult, ⊤}
 use Rattle.plist_base.specs.declared.error.Error.{Error}
-use Rattle.plist_base.specs.Faults.{FaultKind, ObjectOffsetTooLarge, NullObjectUnimplemented, FillObjectUnimplemented, UnknownObjectType, IntegerOutOfRange, OverflowOrNanDate, InvalidUtf8String, InvalidUtf16String}
+use Rattle.plist_base.specs.Faults.{kind_of}
 use Rattle.plist_base.specs.Object.{Object, Scalar, Faulty, date, meaning_of_front, object_in}
 use Rattle.plist_decode.specs.CountedContent.{content_means, unit_size}
 use Rattle.plist_base.specs.declared.event.Event.{Event}
@@ -9,32 +9,21 @@ use Rattle.plist_decode.specs.Decoding.{AreReferencesAt, Decodes, IsCollection, 
 use Rattle.plist_decode.specs.Reading.{bytes_at, object_at}
 use Rattle.plist_decode.specs.Packed.{content_bytes, is_packed, unpacked}
 use Rattle.plist_decode.specs.FaultOffsets.{ErrWithin}
+use Rattle.plist_decode.specs.StepFaults.{object_error_kind}
 use Rattle.plist_decode.specs.declared.decoded.Content.{Content}
 use Rattle.plist_decode.specs.declared.decoded.ContentKind.{ContentKind}
 use Rattle.plist_decode.specs.declared.decoded.ContentKind.TheVariants as content_kind
 use Rattle.plist_decode.specs.declared.decoded.Decoded.{Decoded}
 use Rattle.plist_decode.specs.declared.decoded.Decoded.TheVariants as decoded
 use Rattle.plist_decode.specs.declared.decoded.ObjectFault.{ObjectFault}
-use Rattle.plist_decode.specs.declared.decoded.ObjectFault.TheVariants as fault
 use Rattle.plist_decode.specs.declared.after_marker.AfterMarker.{AfterMarker}
 use Rattle.plist_decode.specs.declared.head.Bounds.{Bounds}
 
 -- ---- faults of an object
 
--- the kind of error that reports an object's fault
-abbrev pub kind_of_object_fault : ObjectFault → FaultKind
-kind_of_object_fault fault.Overrun = ObjectOffsetTooLarge
-kind_of_object_fault fault.Null = NullObjectUnimplemented
-kind_of_object_fault fault.Fill = FillObjectUnimplemented
-kind_of_object_fault (fault.Unknown marker) = UnknownObjectType marker
-kind_of_object_fault fault.OutOfRange = IntegerOutOfRange
-kind_of_object_fault fault.NoDate = OverflowOrNanDate
-kind_of_object_fault fault.NotUtf8 = InvalidUtf8String
-kind_of_object_fault fault.NotUtf16 = InvalidUtf16String
-
 -- the object has this fault
 abbrev pub IsObjectFault : Object → ObjectFault → Type 0
-IsObjectFault object fault = object ≡ Faulty (kind_of_object_fault fault)
+IsObjectFault object fault = object ≡ Faulty (kind_of (object_error_kind fault))
 
 -- ---- what is decoded
 

@@ -8,6 +8,9 @@ use Rattle.plist_base.specs.Trees.{Data, String}
 use Rattle.plist_base.specs.declared.event.Event.{Event}
 use Rattle.plist_decode.specs.FaultOffsets.{ErrWithin}
 use Rattle.plist_decode.specs.Packed.{is_small_event, scalar_event}
+use Rattle.plist_decode.specs.StepFaults.{result_with}
+use Rattle.plist_decode.specs.declared.step_fault.FaultDetails.{FaultDetails}
+use Rattle.plist_decode.specs.declared.step_fault.StepFault.{StepFault}
 use Rattle.plist_base.specs.Container.{number_at}
 use Rattle.plist_base.specs.Object.{Object, Scalar, Array, Dictionary, Faulty, children_of}
 use Rattle.plist_decode.specs.declared.decoded.CollectionKind.{CollectionKind}
@@ -72,7 +75,7 @@ AreReferencesAt width bytes children kind start = (index : ℕ) → index < leng
 -- ---- what is decoded
 
 -- the result isn't the event of a small scalar
-abbrev pub IsLarge : Result Event Error → Type 0
+abbrev pub IsLarge : {E : Type 0} → Result Event E → Type 0
 IsLarge answer = IfOk answer (λ event. is_small_event (event_of event) ≡ false)
 
 -- the object needs memory: it is a collection, data, or a string, which may be invalid
@@ -98,9 +101,12 @@ Decodes object place answer =
     MatchResult answer (λ event. scalar_event_in object ≡ Some (event_of event))
     (λ e. IsRefusedAs object place e)
 
--- the event of the object, which isn't small, or an error as in `Decodes`, which isn't an I/O error
-pub record DecodesLarge (object : Object) (place : ℕ) (answer : Result Event Error) : Type 0 where
-  pub decoded : Decodes object place answer
+-- the event of the object, which isn't small, or an error as in `Decodes` at the offset in the
+-- details, which isn't an I/O error; the error isn't kept
+pub record DecodesLarge (object : Object) (answer : Result Event StepFault) : Type 0 where
+  pub decoded : (details : FaultDetails) → Decodes object details.place (result_with answer details)
   pub large : IsLarge answer
-  pub never_io : IfErr answer (λ error. IsNotIo (kind_of (error_kind_of error)))
-  pub fault : ErrWithin place place answer
+  pub never_io : (details : FaultDetails)
+      → IfErr (result_with answer details) (λ error. IsNotIo (kind_of (error_kind_of error)))
+  pub fault : (details : FaultDetails) (start end : ℕ)
+      → ErrWithin start end (result_with answer details)

@@ -6,5 +6,5 @@ pub mod Decoded
 pub mod CountedContent
 pub mod Front
 pub mod Packed
-pub mod Slot
+pub mod StepFaults
 pub mod inner

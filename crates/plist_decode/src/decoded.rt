@@ -1,15 +1,9 @@
 //! Defines what an object's first bytes decode to, and how an object can be faulty.
 
-ghost use Rattle.std.specs.Prelude.{ℕ, ◌≡◌, ◌<◌, ◌≤◌};
-ghost use Rattle.plist_base.specs.Faults.{IsNotIo, error_kind_of, fault_of, kind_of};
-ghost use Rattle.plist_base.specs.Object.{Object};
-ghost use Rattle.plist_decode.specs.Decoded.{IsObjectFault, kind_of_object_fault};
-ghost use Rattle.plist_decode.specs.Decoding.{IsRefusedAs};
-ghost use Rattle.plist_decode.specs.FaultOffsets.{FailsWithin};
+ghost use Rattle.std.specs.Prelude.{◌≡◌, ◌<◌, ◌≤◌};
 ghost use Rattle.plist_decode.specs.CountedContent.{unit_size};
 
 use crate::packed::PackedKind;
-use plist_base::{Error, ErrorKind};
 
 /// How the content of a string or data is encoded.
 #[derive(Clone, Copy)]
@@ -144,34 +138,4 @@ pub enum ObjectFault {
     NotUtf8,
     /// The units of a string aren't UTF-16.
     NotUtf16,
-}
-
-impl ObjectFault {
-    // Returns the kind of error that reports this fault.
-    fn kind(self) -> ErrorKind
-        ensures value { kind_of result ≡ kind_of_object_fault self }
-    {
-        match self {
-            ObjectFault::Overrun => ErrorKind::ObjectOffsetTooLarge,
-            ObjectFault::Null => ErrorKind::NullObjectUnimplemented,
-            ObjectFault::Fill => ErrorKind::FillObjectUnimplemented,
-            ObjectFault::Unknown(marker) => ErrorKind::UnknownObjectType(marker),
-            ObjectFault::OutOfRange => ErrorKind::IntegerOutOfRange,
-            ObjectFault::NoDate => ErrorKind::OverflowOrNanDate,
-            ObjectFault::NotUtf8 => ErrorKind::InvalidUtf8String,
-            ObjectFault::NotUtf16 => ErrorKind::InvalidUtf16String,
-        }
-    }
-
-    /// Returns the error of the object at this offset.
-    #[cold]
-    #[inline(never)]
-    pub fn at(self, place: u64) -> Error
-        ensures refused { (object : Object) → IsObjectFault object self
-            → IsRefusedAs object place result }
-        ensures fault { (end : ℕ) → FailsWithin place end (fault_of result) }
-        ensures never_io { IsNotIo (kind_of (error_kind_of result)) }
-    {
-        self.kind().with_byte_offset(place)
-    }
 }

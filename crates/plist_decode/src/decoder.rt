@@ -3,8 +3,8 @@
 ghost use Rattle.std.specs.Prelude.{◌≡◌};
 
 use crate::counter::DecodeCounter;
-use crate::fault_slot::FaultSlot;
 use crate::head::Bounds;
+use crate::step_fault::FaultDetails;
 use std::alloc::Global;
 
 /// Everything that is needed to decode the objects of a file, except for the source.
@@ -14,8 +14,10 @@ pub struct Decoder<C: DecodeCounter> {
     pub counter: C,
     /// Where the objects of the file end, and how wide its references are.
     pub bounds: Bounds,
-    /// Stores the error of a step that failed.
-    pub slot: FaultSlot,
+    /// The allocator for strings and data.
+    pub alloc: Global,
+    /// What the error of a step that failed contains besides its fault.
+    pub details: FaultDetails,
 }
 
 impl<C: DecodeCounter> Decoder<C> {
@@ -26,7 +28,8 @@ impl<C: DecodeCounter> Decoder<C> {
         Decoder {
             counter,
             bounds: Bounds::new(),
-            slot: FaultSlot::new(alloc),
+            alloc,
+            details: FaultDetails::new(),
         }
     }
 }

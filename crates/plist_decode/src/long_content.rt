@@ -1,56 +1,58 @@
 //! Reads strings and data that aren't decoded together with the first bytes of their object.
 
 ghost use Rattle.std.specs.Prelude.{◌≡◌, IfOk, Some};
-ghost use Rattle.plist_base.specs.Outcomes.{OnlyMemory};
 ghost use Rattle.plist_base.specs.Sources.{CountsIo};
 ghost use Rattle.plist_base.specs.Container.{numbers_spelled};
 ghost use Rattle.plist_base.specs.Object.{text, text_of_units, wide_text};
 ghost use Rattle.plist_decode.specs.Decoding.{DecodesLarge, IsLarge};
 ghost use Rattle.plist_decode.specs.Decoded.{EndsIn64Bits, FailsInContent, IsLong, IsLongBytes, ReadsContent};
 ghost use Rattle.plist_decode.specs.CountedContent.{AreUnits, content_means, unit_size};
+ghost use Rattle.plist_decode.specs.StepFaults.{result_with};
 ghost use Rattle.plist_decode.specs.declared.decoded.ContentKind.TheVariants.{Text as KindText};
 
+use crate::counter::DecodeCounter;
 use crate::decoded::{Content, ContentKind};
+use crate::decoder::Decoder;
 use crate::numbers::{read_bytes, write_units};
-use plist_base::{Error, ErrorKind, Event, OwnedEvent, Source};
-use std::alloc::Global;
+use crate::step_fault::StepFault;
+use plist_base::{Event, OwnedEvent, Source};
+use std::alloc::{AllocError, Global};
 use std::borrow::{CowSlice, CowStr};
 
-// Returns the string in these bytes, or an error with the object's offset if they aren't UTF-8.
-fn text_event(bytes: Vec<u8>, place: u64) -> Result<OwnedEvent, Error>
+// Returns the string in these bytes, or a fault if they aren't UTF-8.
+fn text_event(bytes: Vec<u8>) -> Result<OwnedEvent, StepFault>
     requires { IsLongBytes KindText bytes.items }
-    ensures { DecodesLarge (text bytes.items) place result }
+    ensures { DecodesLarge (text bytes.items) result }
 {
     match String::from_utf8(bytes) {
         Ok(string) => Ok(Event::String(CowStr::Owned(string))),
-        Err(_) => Err(ErrorKind::InvalidUtf8String.with_byte_offset(place)),
+        Err(_) => Err(StepFault::NotUtf8),
     }
 }
 
-// Returns the string in these units, or an error with the object's offset if they aren't UTF-16.
+// Returns the string in these units, or a fault if they aren't UTF-16.
 //
 // A string of at most eight bytes in UTF-8 is decoded together with the first bytes of its object.
-// So there can be one here only if the source returned other bytes before. The error is
-// `OutOfMemory` then.
-fn text_of_units_event(alloc: Global, units: &[u16], place: u64) -> Result<OwnedEvent, Error>
-    ensures { DecodesLarge (text_of_units units.now) place result }
+// So there can be one here only if the source returned other bytes before. The fault is `Memory`
+// then.
+fn text_of_units_event(alloc: Global, units: &[u16]) -> Result<OwnedEvent, StepFault>
+    ensures { DecodesLarge (text_of_units units.now) result }
 {
     match String::from_utf16(alloc, units)? {
         Ok(string) => {
             if string.len() <= 8 {
-                return Err(ErrorKind::OutOfMemory.without_position());
+                return Err(StepFault::Memory);
             }
             Ok(Event::String(CowStr::Owned(string)))
         }
-        Err(_) => Err(ErrorKind::InvalidUtf16String.with_byte_offset(place)),
+        Err(_) => Err(StepFault::NotUtf16),
     }
 }
 
 // Returns the units that these bytes encode. Each unit has two bytes.
-fn units_in(alloc: Global, bytes: &[u8]) -> Result<Vec<u16>, Error>
+fn units_in(alloc: Global, bytes: &[u8]) -> Result<Vec<u16>, AllocError>
     requires { AreUnits 2 bytes.now }
     ensures units { IfOk result (λ units. units.items ≡ numbers_spelled 2 bytes.now) }
-    ensures memory { OnlyMemory result }
 {
     let mut units = vec![in alloc; 0u16; bytes.len() / 2]?;
     write_units(bytes, &mut units);
@@ -61,37 +63,32 @@ fn units_in(alloc: Global, bytes: &[u8]) -> Result<Vec<u16>, Error>
 ///
 /// # Errors
 ///
-/// - `InvalidUtf16String`, with the object's offset, if a surrogate is unpaired.
-/// - `OutOfMemory`, without an offset, if an allocation fails, or if the string has at most eight
-///   bytes in UTF-8: it is a small object then, which is decoded elsewhere.
-pub fn wide_text_event(alloc: Global, bytes: &[u8], place: u64) -> Result<OwnedEvent, Error>
+/// - `NotUtf16` if a surrogate is unpaired.
+/// - `Memory` if an allocation fails, or if the string has at most eight bytes in UTF-8: it is a
+///   small object then, which is decoded elsewhere.
+pub fn wide_text_event(alloc: Global, bytes: &[u8]) -> Result<OwnedEvent, StepFault>
     requires { AreUnits 2 bytes.now }
-    ensures { DecodesLarge (wide_text bytes.now) place result }
+    ensures { DecodesLarge (wide_text bytes.now) result }
 {
     let units = units_in(alloc, bytes)?;
-    text_of_units_event(alloc, &units, place)
+    text_of_units_event(alloc, &units)
 }
 
-// Returns the string or data in these bytes, or an error with the object's offset if it is invalid.
+// Returns the string or data in these bytes, or a fault if it is invalid.
 //
 // The bytes of a UTF-16 string are freed before the string is allocated, in order to save memory.
-fn content_event(
-    alloc: Global,
-    kind: ContentKind,
-    bytes: Vec<u8>,
-    place: u64,
-) -> Result<OwnedEvent, Error>
+fn content_event(alloc: Global, kind: ContentKind, bytes: Vec<u8>) -> Result<OwnedEvent, StepFault>
     requires units { AreUnits (unit_size kind) bytes.items }
     requires long { IsLongBytes kind bytes.items }
-    ensures { DecodesLarge (content_means kind bytes.items) place result }
+    ensures { DecodesLarge (content_means kind bytes.items) result }
 {
     match kind {
         ContentKind::Data => Ok(Event::Data(CowSlice::Owned(bytes))),
-        ContentKind::Text => text_event(bytes, place),
+        ContentKind::Text => text_event(bytes),
         ContentKind::WideText => {
             let units = units_in(alloc, &bytes)?;
             drop(bytes);
-            text_of_units_event(alloc, &units, place)
+            text_of_units_event(alloc, &units)
         }
     }
 }
@@ -100,30 +97,38 @@ fn content_event(
 ///
 /// # Errors
 ///
-/// - `InvalidUtf8String` or `InvalidUtf16String`, with the object's offset, if the string is
-///   invalid.
-/// - `Io` if a read fails, and `UnexpectedEof` if the source ends before the content does. Both
-///   have the offset of the read that failed or returned no byte.
-/// - `OutOfMemory`, without an offset, if an allocation fails.
-pub fn read_long<S: Source>(
-    alloc: Global,
+/// - `NotUtf8` or `NotUtf16` if the string is invalid. The details have the object's offset.
+/// - `Memory` if an allocation for a string in UTF-16 fails after its bytes were read.
+/// - `Kept` if the bytes can't be read. The error is `Io` if a read fails, `UnexpectedEof` if the
+///   source ends before the content does, or `OutOfMemory` if memory for the bytes can't be
+///   allocated. The first two have the offset of the read that failed or returned no byte.
+pub fn read_long<S: Source, C: DecodeCounter>(
     source: &mut S,
+    decoder: &mut Decoder<C>,
     place: u64,
     content: Content,
-) -> Result<OwnedEvent, Error>
+) -> Result<OwnedEvent, StepFault>
     requires fits { EndsIn64Bits place content }
     requires long { IsLong content }
     // Result.
-    ensures decoded { ReadsContent (S.known source.old) place content result }
+    ensures decoded { ReadsContent (S.known source.old) place content
+        (result_with result decoder.new.details) }
     ensures large { IsLarge result }
     // Errors.
-    ensures fault { FailsInContent place content result }
+    ensures fault { FailsInContent place content (result_with result decoder.new.details) }
     // State afterwards.
+    ensures bounds { decoder.new.bounds ≡ decoder.old.bounds }
+    ensures counter { decoder.new.counter ≡ decoder.old.counter }
     ensures unchanged { S.known source.new ≡ S.known source.old }
-    ensures failures { CountsIo (Some result) (S.failures source.old) (S.failures source.new) }
+    ensures failures { CountsIo (Some (result_with result decoder.new.details))
+        (S.failures source.old) (S.failures source.new) }
 {
+    let alloc = decoder.alloc;
     let start = place + u64::from(content.start);
     let size = content.count * content.kind.unit_size();
-    let bytes = read_bytes(alloc, source, start, size as usize)?;
-    content_event(alloc, content.kind, bytes, place)
+    let bytes = decoder
+        .details
+        .keep_error(read_bytes(alloc, source, start, size as usize))?;
+    decoder.details.place = place;
+    content_event(alloc, content.kind, bytes)
 }

@@ -12,20 +12,20 @@ ghost use Rattle.plist_decode.specs.Front.{IsFront, IsFrontAt};
 ghost use Rattle.plist_decode.specs.Reading.{object_with};
 ghost use Rattle.plist_decode.specs.FaultOffsets.{ErrWithin};
 ghost use Rattle.plist_base.specs.Sources.{CountsIo};
-ghost use Rattle.plist_decode.specs.Slot.{result_in};
+ghost use Rattle.plist_decode.specs.StepFaults.{error_of, result_with};
 
 use crate::after_marker::AfterMarker;
 use crate::counted_content::{decode_collection, decode_data, decode_text, decode_wide_text};
 use crate::counter::DecodeCounter;
 use crate::decoded::{CollectionKind, Decoded, ObjectFault};
 use crate::decoder::Decoder;
-use crate::fault_slot::StepError;
 use crate::fixed_content::{
     decode_date, decode_real, decode_short_real, decode_signed, decode_uid, decode_unsigned,
     decode_wide_integer,
 };
 use crate::head::Bounds;
 use crate::packed::PackedKind;
+use crate::step_fault::StepFault;
 use plist_base::marker::{CountedKind, Marker};
 use plist_base::{Source, read_exact_at};
 
@@ -135,38 +135,41 @@ pub fn buffered_front<'a, S: Source>(source: &'a S, bounds: &Bounds, place: u64)
 }
 
 /// Reads the first bytes of the object at an offset, and decodes it. If the offset isn't before the
-/// trailer, or if the read fails, the slot stores the error.
+/// trailer, this is its fault. If the read fails, the decoder keeps the error.
 #[cold]
 #[inline(never)]
 pub fn read_object<S: Source, C: DecodeCounter>(
     source: &mut S,
     decoder: &mut Decoder<C>,
     place: u64,
-) -> Result<Decoded, StepError>
+) -> Result<Decoded, StepFault>
     // Result.
     ensures decoded { IfOk result
         (DecodesAt (S.known source.old) decoder.old.bounds place) }
     ensures fits { IfOk result (FitsBefore decoder.old.bounds.trailer place) }
     // Errors.
-    ensures refused { IfErr result (λ _.
-        RefusesObjectAt (S.known source.old) decoder.old.bounds place decoder.new.slot.fault) }
-    ensures fault { ErrWithin place decoder.old.bounds.trailer (result_in result decoder.new.slot) }
+    ensures refused { IfErr result (λ fault.
+        RefusesObjectAt (S.known source.old) decoder.old.bounds place
+        (error_of fault decoder.new.details)) }
+    ensures fault { ErrWithin place decoder.old.bounds.trailer
+        (result_with result decoder.new.details) }
     // State afterwards.
     ensures counted { CountsSmallRead C.counts C.count decoder.old.counter decoder.new.counter
         result }
     ensures bounds { decoder.new.bounds ≡ decoder.old.bounds }
     ensures unchanged { S.known source.new ≡ S.known source.old }
-    ensures failures { CountsIo (Some (result_in result decoder.new.slot)) (S.failures source.old)
-        (S.failures source.new) }
+    ensures failures { CountsIo (Some (result_with result decoder.new.details))
+        (S.failures source.old) (S.failures source.new) }
 {
     if place >= decoder.bounds.trailer {
-        return Err(decoder.slot.refuse_overrun(place));
+        decoder.details.fail_at(place);
+        return Err(StepFault::Overrun);
     }
     let to_trailer = decoder.bounds.trailer - place;
     let mut front = [0; FRONT];
     let seen = &mut front[..to_trailer.min(FRONT as u64) as usize];
-    match read_exact_at(source, place, seen) {
-        Ok(()) => Ok(decode_front(decoder, place, seen)),
-        Err(error) => Err(decoder.slot.refuse(error)),
-    }
+    decoder
+        .details
+        .keep_error(read_exact_at(source, place, seen))?;
+    Ok(decode_front(decoder, place, seen))
 }

@@ -13,9 +13,11 @@ use Rattle.plist_decode.specs.Front.{IsFrontAt}
 use Rattle.plist_decode.specs.declared.decoded.Content.{Content}
 use Rattle.plist_decode.specs.declared.decoded.Decoded.{Decoded}
 use Rattle.plist_decode.specs.declared.head.Bounds.{Bounds}
+use Rattle.plist_decode.specs.declared.step_fault.FaultDetails.{FaultDetails}
 use Rattle.plist_decode.specs.declared.decoded.Decoded.TheVariants as decoded
 use Rattle.plist_decode.specs.Packed.{scalar_event, unpacked}
-use Rattle.plist_decode.specs.Slot.{result_in}
+use Rattle.plist_decode.specs.StepFaults.{error_of, result_with}
+use Rattle.plist_decode.specs.declared.step_fault.StepFault.TheVariants.{Memory}
 use Rattle.plist_binread.proofs.enter.enter.Goals as goal
 use Rattle.plist_binread.proofs.enter.enter.Goals.{After-cache_or_open, In-Long, in-Some+in-Long+else-lies_in, in-Some+in_default, in-None+in_ok-decoded-in-None}
 
@@ -79,7 +81,7 @@ hand_bytes-requires-clause-long g c =
 pub returns-then-lies_in-clause-fault : goal.returns-then-lies_in-clause-fault
 returns-then-lies_in-clause-fault g c =
     err_within _ c.in-At.place c.args.decoder.now.bounds.trailer 0 c.args.decoder.now.bounds.trailer
-    (c.hand_bytes.ensures.is.fault c.args.decoder.now.bounds.trailer) (omega arith) (omega arith)
+    (c.hand_bytes.ensures.is.fault _ _ c.args.decoder.now.bounds.trailer) (omega arith) (omega arith)
 
 pub returns-then-lies_in-clause-falls : goal.returns-then-lies_in-clause-falls
 returns-then-lies_in-clause-falls g c =
@@ -98,7 +100,13 @@ returns-then-lies_in-clause-handed g c =
     = record { kind = c.in-Long.kind; start = c.in-Long.start; count = c.in-Long.count } in
     let long = decoded.Long c.in-Long.kind c.in-Long.start c.in-Long.count in
     let h = c.hand_bytes.ensures in
-    let answer = result_in c.hand_bytes.result c.hand_bytes.new.slot in
+    let details : FaultDetails
+    = record {
+      place = c.in-At.place;
+      marker = c.decode_front-decoded.new.decoder.details.marker;
+      kept = c.decode_front-decoded.new.decoder.details.kept;
+    } in
+    let answer = result_with c.hand_bytes.result details in
     let front = seen_front g at in
     let there = known_decoded _ bounds c.args.walk.now c.args.reference.number c.requires.known
     c.in_ok-kind.ensures.below c.in-At.place long (rw c.in-At.is at c.in_ok-kind.ensures.found)
@@ -107,7 +115,7 @@ returns-then-lies_in-clause-handed g c =
     c.decode_front-decoded.ensures.decoded)) in
     let sets = long_sets _ bounds c.in-At.place content answer h.event (long_fits g at).0
     (borrowed_sets _ c.in-At.place content c.in-Some.seen.now answer h.event front.lies
-    (c.lies_in.ensures c.if-lies_in.true) (rw c.bytes_in-bytes.ensures at h.is.sets)) in
+    (c.lies_in.ensures c.if-lies_in.true) (rw c.bytes_in-bytes.ensures at (h.is.sets details))) in
     record {
       event = h.event;
       is = (
@@ -116,7 +124,8 @@ returns-then-lies_in-clause-handed g c =
             h.event refl c.in_ok-kind.ensures.new there
             (long_opens c.args.reference.number c.in-Long.start c.in-Long.count c.in-Long.kind
             c.args.walk.now c.in_ok-kind.ensures.below (search rules)) sets (always_ok _ answer refl),
-        cached_if c.args.reference.number c.hand_bytes.result c.hand_bytes.new.slot h.event long
+        cached_if c.args.reference.number c.hand_bytes.result details
+            h.event long
             c.args.walk.now.tags.items (large_unlike c.hand_bytes.result long h.event h.is.large)
             (λ no. absurd (cc)),
       );
@@ -216,10 +225,11 @@ returns-clause-handed g c =
       event = EndCollection;
       is = (
         known_refused _ _ c.args.walk.now c.args.reference.number c.requires.known
-            c.in_ok-kind.ensures.below c.args.reference.at c.in-At.place _ c.in_ok-kind.ensures.new
+            c.in_ok-kind.ensures.below c.args.reference.at c.in-At.place
+            (error_of Memory c.match-buffered_front.decoder.details) c.in_ok-kind.ensures.new
             (rw c.in-At.is at c.in_ok-kind.ensures.found)
             (known_full _ c.args.decoder.now.bounds c.in-At.place c.match-buffered_front.decoded
-            c.refuse_memory.new.self.fault c.refuse_memory.ensures.fault
+            (error_of Memory c.match-buffered_front.decoder.details) refl
             (c.cache_or_open.ensures.wanted c.if-cache_or_open.false) f.decodes),
         tt,
       );
@@ -236,11 +246,11 @@ returns-then-cache_or_open-clause-handed g c =
       is = (
         known_set _ _ c.args.walk.now c.args.reference.number c.requires.known c.in_ok-kind.ensures.below
             c.args.reference.at c.in-At.place _ c.cache_or_open.new.walk _
-            (result_in c.hand_decoded.result c.hand_decoded.new.decoder.slot) h.event
+            (result_with c.hand_decoded.result c.hand_decoded.new.decoder.details) h.event
             f.unchanged c.in_ok-kind.ensures.new (there g at)
             (c.cache_or_open.ensures.yields c.if-cache_or_open.true) (rw f.same at h.is.0)
-            (on_answer _ c.hand_decoded.result c.hand_decoded.new.decoder.slot c.hand_decoded.ensures.found),
-        cached_if c.args.reference.number c.hand_decoded.result c.hand_decoded.new.decoder.slot h.event
+            (on_answer _ c.hand_decoded.result c.hand_decoded.new.decoder.details c.hand_decoded.ensures.found),
+        cached_if c.args.reference.number c.hand_decoded.result c.hand_decoded.new.decoder.details h.event
             c.match-buffered_front.decoded c.cache_or_open.new.walk.tags.items h.is.1
             c.cache_or_open.ensures.cached,
       );

@@ -1,4 +1,4 @@
-use Rattle.plist_decode.specs.Slot.{result_in}
+use Rattle.plist_decode.specs.StepFaults.{result_with}
 use Rattle.plist_binread.proofs.ObjectEvents.{large_unlike, long_sets}
 use Rattle.plist_binread.proofs.hand.hand_decoded.Goals as goal
 
@@ -14,7 +14,7 @@ returns-in-Long-clause-handed g c =
           start = c.in-Long.start;
           count = c.in-Long.count;
         })
-            (result_in c.hand_far.result c.hand_far.new.slot) h.event fits.0 h.is.0),
+            (result_with c.hand_far.result c.hand_far.new.decoder.details) h.event fits.0 h.is.0),
         large_unlike c.hand_far.result c.args.decoded h.event h.is.1,
       );
       taken = h.taken;

@@ -13,10 +13,10 @@ returns-in-Some g c =
     record {
       event = ScalarEvent (String c.in-Some.text.now);
       is = record {
-        sets = is;
+        sets = λ details. is;
         large = large_text c.args.bytes.now _ c.requires is;
-        fault = λ end. tt;
-        never_io = tt;
+        fault = λ details start end. tt;
+        never_io = λ details. tt;
       };
       taken = c.string.ensures;
     }
@@ -25,10 +25,10 @@ pub returns-in-None : goal.returns-in-None
 returns-in-None g c = record {
   event = EndCollection;
   is = record {
-    sets = c.refuse_object.ensures.refused _ (text-not_utf8 c.args.bytes.now c.in-None.ensures);
+    sets = λ details. (text-not_utf8 c.args.bytes.now c.in-None.ensures, refl);
     large = tt;
-    fault = c.refuse_object.ensures.fault;
-    never_io = c.refuse_object.ensures.never_io;
+    fault = λ details start end. record { placed = tt };
+    never_io = λ details. tt;
   };
   taken = refl;
 }

@@ -2,7 +2,7 @@ use Rattle.std.proofs.Common.{arith, ◌<◌, length, ◌-◌, reverse, IfSome, 
 use Rattle.std.proofs.lemmas.Result.{on_ok_weaker}
 use Rattle.plist_binread.specs.declared.frames.NextChild.TheVariants.{Child}
 use Rattle.plist_base.specs.Events.{EndCollection}
-use Rattle.plist_decode.specs.Slot.{result_in}
+use Rattle.plist_decode.specs.StepFaults.{result_with}
 use Rattle.plist_decode.proofs.UnknownBytes.{IfSome-all}
 use Rattle.plist_binread.specs.Walking.{weight_in}
 use Rattle.plist_binread.proofs.WalkSteps.{steps_positive}
@@ -67,7 +67,7 @@ returns-in-Ok-clause-handed g c =
     let t = goal.at.returns-in-Ok-clause-handed g c in
     let at = c.references-location.ensures in
     let h = c.enter.ensures.handed in
-    let answer = result_in c.enter.result c.enter.new.decoder.slot in
+    let answer = result_with c.enter.result c.enter.new.decoder.details in
     record {
       event = h.event;
       is = record {

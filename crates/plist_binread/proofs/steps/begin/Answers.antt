@@ -3,7 +3,8 @@ use Rattle.std.proofs.Math.ListN.{length-replicate}
 use Rattle.plist_decode.proofs.FaultOffsets.{passed}
 use Rattle.plist_decode.specs.declared.head.Bounds.{Bounds}
 use Rattle.plist_base.specs.Events.{EndCollection}
-use Rattle.plist_decode.specs.Slot.{result_in}
+use Rattle.plist_decode.specs.StepFaults.{error_of, result_with}
+use Rattle.plist_decode.specs.declared.step_fault.StepFault.TheVariants.{Memory}
 use Rattle.plist_decode.proofs.UnknownBytes.{IfSome-all}
 use Rattle.plist_binread.proofs.OpenObjects.{IsOpen-none, cached_count-none, cached_count-empty}
 use Rattle.plist_binread.proofs.FirstItem.{known_unread, known_wanted, known_opens, known_begun, known_cached, known_counted, known_hidden, known_uncounted}
@@ -19,7 +20,7 @@ returns-in_err-head-clause-handed g c =
     rw (passed _ c.from_residual.ensures.1) (record {
       event = EndCollection;
       is = record {
-        first = known_unread (g.S.Source.known c.args.source.now) c.keep_error.new.self.fault refused;
+        first = known_unread (g.S.Source.known c.args.source.now) (error_of c.in_err-head.field-0.0 c.keep_error.new.self) refused;
         cached = IfSome-all _ (λ _. tt);
       };
       taken = refl;
@@ -27,11 +28,10 @@ returns-in_err-head-clause-handed g c =
 
 pub returns-in_err-tags-clause-handed : goal.returns-in_err-tags-clause-handed
 returns-in_err-tags-clause-handed g c =
-    let memory = rw (← c.in_err-tags.ensures.answer) at c.zero_tags.ensures.memory in
     rw (passed _ c.from_residual-in_err-tags.ensures.1) (record {
       event = EndCollection;
       is = record {
-        first = known_wanted (g.S.Source.known c.args.source.now) c.keep_error-2.new.self.fault memory;
+        first = known_wanted (g.S.Source.known c.args.source.now) (error_of Memory c.keep_error.new.self) refl;
         cached = IfSome-all _ (λ _. tt);
       };
       taken = refl;
@@ -41,19 +41,18 @@ pub returns-in_err-head-clause-objects : goal.returns-in_err-head-clause-objects
 returns-in_err-head-clause-objects g c =
     let refused = rw (← c.in_err-head.ensures.answer) at c.read.ensures.refused in
     rw (passed _ c.from_residual.ensures.1)
-    (known_uncounted (g.S.Source.known c.args.source.now) c.keep_error.new.self.fault
+    (known_uncounted (g.S.Source.known c.args.source.now) (error_of c.in_err-head.field-0.0 c.keep_error.new.self)
     (length c.args.walk.now.tags.items) c.requires.empty.0 refused)
 
 pub returns-in_err-tags-clause-objects : goal.returns-in_err-tags-clause-objects
 returns-in_err-tags-clause-objects g c =
-    let memory = rw (← c.in_err-tags.ensures.answer) at c.zero_tags.ensures.memory in
     rw (passed _ c.from_residual-in_err-tags.ensures.1)
-    (known_hidden (g.S.Source.known c.args.source.now) c.keep_error-2.new.self.fault
-    (length c.args.walk.now.tags.items) c.requires.empty.0 memory)
+    (known_hidden (g.S.Source.known c.args.source.now) (error_of Memory c.keep_error.new.self)
+    (length c.args.walk.now.tags.items) c.requires.empty.0 refl)
 
 -- all tags are 0
 none : (g : _) (c : In_ok-tags g) → c.in_ok-tags.tags.items ≡ replicate c.len.result 0
-none g c = rw (← c.in_ok-tags.ensures.answer) at c.zero_tags.ensures.tags
+none g c = c.in_ok-tags.ensures.tags
 
 -- there are as many tags as offsets
 count : (g : _) (c : In_ok-tags g)
@@ -65,7 +64,7 @@ count g c =
 pub returns-clause-objects : goal.returns-clause-objects
 returns-clause-objects g c =
     known_counted (g.S.Source.known c.args.source.now) c.in_ok-head.head c.enter.result
-    c.enter.new.decoder.slot c.enter.new.walk
+    c.enter.new.decoder.details c.enter.new.walk
     (c.enter.ensures.kept.size ∙ count g (goal.at.returns-clause-objects g c).In_ok-tags)
     (rw (← c.in_ok-head.ensures.answer) at c.read.ensures.value)
 
@@ -115,11 +114,11 @@ returns-clause-handed g c =
         first = rw c.enter.ensures.kept.bounds (known_begun
             (g.S.Source.known c.args.source.now) (g.S.Source.known c.read.new.source)
             c.in_ok-head.head (bounds g there) c.in_ok-tags.tags.items c.args.walk.now.frames
-            c.enter.new.walk.frames (result_in c.enter.result c.enter.new.decoder.slot) h.event
+            c.enter.new.walk.frames (result_with c.enter.result c.enter.new.decoder.details) h.event
             c.read.ensures.unchanged c.requires.empty.1 (count g there) refl refl
             (rw (← c.in_ok-head.ensures.answer) at c.read.ensures.value) h.is.0);
         cached = known_cached (g.S.Source.known c.args.source.now) c.in_ok-head.head _
-            (result_in c.enter.result c.enter.new.decoder.slot) h.event c.enter.new.walk.tags.items
+            (result_with c.enter.result c.enter.new.decoder.details) h.event c.enter.new.walk.tags.items
             refl (rw (← c.in_ok-head.ensures.answer) at c.read.ensures.value) h.is.1;
       };
       taken = passed_on g.V.EventVisitor.step c.new-relay.result c.enter.new.visitor _ _

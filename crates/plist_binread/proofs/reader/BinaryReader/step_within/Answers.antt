@@ -5,34 +5,35 @@ use Rattle.plist_base.specs.Limits.{RefusesAny}
 use Rattle.plist_base.specs.Visits.{item_with}
 use Rattle.plist_binread.specs.BinaryReader.{Walks, binary_source, is_new, unlimited_items}
 use Rattle.plist_binread.proofs.LimitedSteps.{turns_within}
-use Rattle.plist_decode.specs.Slot.{item_in}
+use Rattle.plist_decode.specs.StepFaults.{item_kept}
 use Rattle.plist_binread.proofs.ReaderLimits.{limit-current, refused-given, refused-other}
 use Rattle.plist_decode.proofs.UnknownBytes.{IfSome-all, IfSome-never}
 use Rattle.plist_binread.proofs.UnlimitedSteps.{tells_fault}
 use Rattle.plist_binread.proofs.VisitorLimits.{Reached, reached_limit, refuses_any}
 use Rattle.plist_binread.proofs.reader.BinaryReader.step_within.Goals as goal
-use Rattle.plist_binread.proofs.reader.BinaryReader.step_within.Goals.{After-refuse}
+use Rattle.plist_binread.proofs.reader.BinaryReader.step_within.Goals.{After-keep_error}
 
 -- the visitor received an event that exceeds a limit
-limit : (g : _) (c : After-refuse g) → Reached c.new-within.result c.step-item.new.visitor
-    (λ item event. Walks c.args.self.now (item_with (item_in item c.step-item.new.self.decoder.slot) event) c.step-item.new.self)
+limit : (g : _) (c : After-keep_error g) → Reached c.new-within.result c.step-item.new.visitor
+    (λ item event. Walks c.args.self.now (item_with (item_kept item c.step-item.new.self.decoder.details) event) c.step-item.new.self)
     c.in-Err.error
 limit g c =
     reached_limit g.V.EventVisitor.step _ _ c.step-item.result
-    (λ item event. Walks c.args.self.now (item_with (item_in item c.step-item.new.self.decoder.slot) event) c.step-item.new.self)
+    (λ item event. Walks c.args.self.now (item_with (item_kept item c.step-item.new.self.decoder.details) event) c.step-item.new.self)
     c.in-Err.error (search rules) (search rules) c.step-item.ensures.walks
 
 pub returns-in-Err : goal.returns-in-Err
 returns-in-Err g c =
     let old = c.args.self.now in
     let mid = c.step-item.new.self in
-    let error = c.refuse.new.self.fault in
-    let l = limit g (goal.at.returns-in-Err g c).After-refuse in
+    let error = c.in-Err.error in
+    let l = limit g (goal.at.returns-in-Err g c).After-keep_error in
     let walks = l.is in
     let w = walks.gives in
     let r : RefusesAny old.limiter l.event (fault_of error) =
     refuses_any old.limiter c.args.limits _ l.event (fault_of error) (fault_of c.in-Err.error)
-    c.requires c.new-within.ensures.limits (ap fault_of (sym c.refuse.ensures.fault)) l.refused in (
+    c.requires c.new-within.ensures.limits refl l.refused in
+    rw c.keep_error.ensures.answer (
       record {
         gives = record {
           unchanged = w.unchanged;
@@ -61,5 +62,5 @@ pub returns-in-Ok : goal.returns-in-Ok
 returns-in-Ok g c =
     turns_within c.args.self.now c.step-item.new.self _ c.args.limits _ c.requires refl refl refl refl
     refl g.V.EventVisitor.step c.new-within.result c.step-item.new.visitor _ _
-    c.step-item.new.self.decoder.slot c.step-item.result c.new-within.ensures.limits (search rules)
+    c.step-item.new.self.decoder.details c.step-item.result c.new-within.ensures.limits (search rules)
     (search rules) (search rules) (search rules) c.step-item.ensures.walks

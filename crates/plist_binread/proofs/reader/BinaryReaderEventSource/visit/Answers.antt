@@ -31,7 +31,7 @@ returns-in-Err g c =
       events = so_far.0;
       left = (c.loop-turn.self, c.loop-turn.visitor);
       handed = so_far.1;
-      ended = rw c.take_fault.ensures (search turn);
+      ended = rw c.take_error.ensures (search turn);
     }
 
 pub returns : goal.returns

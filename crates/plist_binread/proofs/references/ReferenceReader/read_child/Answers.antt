@@ -1,5 +1,5 @@
 use Rattle.std.proofs.Common.{Ok}
-use Rattle.plist_decode.specs.Slot.{result_in}
+use Rattle.plist_decode.specs.StepFaults.{result_with}
 use Rattle.plist_binread.proofs.ChildReferences.{known_slot}
 use Rattle.plist_binread.proofs.references.ReferenceReader.read_child.Goals as goal
 
@@ -18,6 +18,6 @@ returns-in-Some-refill-clause-child g c =
 pub returns-in-None-clause-child : goal.returns-in-None-clause-child
 returns-in-None-clause-child g c =
     known_slot _ c.args.decoder.now.bounds _ c.args.frame.next _
-    (result_in c.read_reference.result c.read_reference.new.slot) c.requires.references
+    (result_with c.read_reference.result c.read_reference.new.details) c.requires.references
     (rw c.references-references.ensures at c.reference_place-at.ensures)
     c.read_reference.ensures.value c.read_reference.ensures.refused
