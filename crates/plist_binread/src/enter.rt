@@ -52,7 +52,7 @@ fn look_up(
     ensures never_io { IfErr (result_with result details.new) (λ error.
         IsNotIo (kind_of (error_kind_of error))) }
     ensures fault { ErrWithin 0 0 (result_with result details.new) }
-    // State.
+    // State afterwards.
     ensures below { IfOk result (λ _. number < walk_objects walk.now) }
     ensures new { IfOk result (λ _. is_marked (slice_index walk.now.tags.items number) ≡ false) }
 {

@@ -134,8 +134,12 @@ pub fn buffered_front<'a, S: Source>(source: &'a S, bounds: &Bounds, place: u64)
     None
 }
 
-/// Reads the first bytes of the object at an offset, and decodes it. If the offset isn't before the
-/// trailer, this is its fault. If the read fails, the decoder keeps the error.
+/// Reads the first bytes of the object at an offset, and decodes it.
+///
+/// # Errors
+///
+/// - `Overrun` if the offset isn't before the trailer.
+/// - `Kept` if the read fails. The details have the error.
 #[cold]
 #[inline(never)]
 pub fn read_object<S: Source, C: DecodeCounter>(

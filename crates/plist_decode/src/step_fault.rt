@@ -105,7 +105,8 @@ impl FaultDetails {
         }
     }
 
-    /// Makes the error of a step that failed, or takes it out if it is kept.
+    /// Makes the error of a step that failed, or takes it out if it is kept. If the fault is `Kept`
+    /// and no error is kept, the error is `OutOfMemory`.
     #[cold]
     #[inline(never)]
     pub fn take_error(&mut self, fault: StepFault) -> Error
