@@ -132,14 +132,6 @@ FitsBefore trailer place (decoded.Faulty fault) = ⊤
 abbrev pub EndsIn64Bits : (place : ℕ) → Content → Type 0
 EndsIn64Bits place content = place + content.start + content_size content < 2 ^ 64
 
--- if the content lies within known bytes, the result is the event of its object
-abbrev pub ReadsContent : (known : Option (List ℕ)) → (place : ℕ) → Content → Result Event Error
-    → Type 0
-ReadsContent known place content answer = IfSome known (λ bytes.
-    place + content.start + content_size content ≤ length bytes
-    → Decodes (content_means content.kind
-    (take (content_size content) (drop (place + content.start) bytes))) place answer)
-
 -- if a read fails, the error's offset lies between the object's offset and the content's end
 abbrev pub FailsInContent : {A : Type 0} → (place : ℕ) → Content → Result A Error → Type 0
 FailsInContent place content answer =
