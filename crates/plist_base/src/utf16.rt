@@ -1,6 +1,6 @@
 //! Strings in UTF-16.
 
-ghost use Rattle.std.specs.Prelude.{◌≡◌, ◌+◌, ◌*◌, ◌/◌, ◌<◌, ◌≤◌, false, true, drop, length, MatchOption};
+ghost use Rattle.std.specs.Prelude.{◌≡◌, ◌+◌, ◌*◌, ◌/◌, ◌<◌, ◌≤◌, false, true, drop, length, IfSome, MatchOption};
 ghost use Rattle.std.proofs.Props.{props};
 ghost use Rattle.std.specs.Char.Utf16.{has_unpaired_surrogate};
 ghost use Rattle.plist_base.specs.Container.{numbers_spelled};
@@ -130,8 +130,9 @@ impl<'a> Utf16Str<'a> {
     /// Returns the string whose units these bytes are, or `None` if a surrogate is unpaired.
     pub fn new(bytes: &'a [u8]) -> Option<Utf16Str<'a>>
         requires { length bytes.now % 2 ≡ 0 }
-        ensures { MatchOption result (wide_text bytes.now ≡ Faulty InvalidUtf16String)
+        ensures string { MatchOption result (wide_text bytes.now ≡ Faulty InvalidUtf16String)
             (λ text. wide_text bytes.now ≡ Scalar (String (string_of_utf16 text))) }
+        ensures bytes { IfSome result (λ text. text.bytes.now ≡ bytes.now) }
     {
         if all_pass::<BelowSurrogates>(bytes) || all_paired(bytes) {
             return Some(Utf16Str { bytes });

@@ -4,8 +4,7 @@ use Rattle.plist_base.specs.declared.error.Error.{Error}
 use Rattle.plist_base.specs.Faults.{kind_of}
 use Rattle.plist_base.specs.Object.{Object, Scalar, Faulty, date, meaning_of_front, object_in}
 use Rattle.plist_decode.specs.CountedContent.{content_means, unit_size}
-use Rattle.plist_base.specs.declared.event.Event.{Event}
-use Rattle.plist_decode.specs.Decoding.{AreReferencesAt, Decodes, IsCollection, IsRefusedAs, child_count, children_in, start_event}
+use Rattle.plist_decode.specs.Decoding.{AreReferencesAt, IsCollection, IsRefusedAs, child_count, children_in, start_event}
 use Rattle.plist_decode.specs.Reading.{bytes_at, object_at}
 use Rattle.plist_decode.specs.Packed.{content_bytes, is_packed, unpacked}
 use Rattle.plist_decode.specs.FaultOffsets.{ErrWithin}

@@ -84,7 +84,11 @@ pub fn wide_text_event(alloc: Global, bytes: &[u8]) -> Result<OwnedEvent, StepFa
 /// - `NotUtf8` or `NotUtf16` if the string is invalid.
 /// - `Memory` if an allocation for a string in UTF-16 fails, or if such a string has at most eight
 ///   bytes in UTF-8: it is a small object then, which is decoded elsewhere.
-pub fn content_event(alloc: Global, kind: ContentKind, bytes: Vec<u8>) -> Result<OwnedEvent, StepFault>
+pub fn content_event(
+    alloc: Global,
+    kind: ContentKind,
+    bytes: Vec<u8>,
+) -> Result<OwnedEvent, StepFault>
     requires units { AreUnits (unit_size kind) bytes.items }
     requires long { IsLongBytes kind bytes.items }
     ensures { DecodesLarge (content_means kind bytes.items) result }
