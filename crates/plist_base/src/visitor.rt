@@ -1,6 +1,6 @@
 //! Visitors, which take the events of a property list one by one.
 
-use crate::{Date, Error, Event, Integer, RealBits, Uid};
+use crate::{Date, Error, Event, Integer, RealBits, Uid, Utf16Str};
 use std::borrow::{CowSlice, CowStr};
 use std::ops::ControlFlow;
 
@@ -13,7 +13,10 @@ use std::ops::ControlFlow;
 /// Only [`EventVisitor::event`] is required. Each of the other methods takes the event that it
 /// names; a fast visitor implements those for the events that are frequent.
 pub trait EventVisitor {
-    ghost use Rattle.plist_base.specs.Events.{EndCollection, PlainEvent, StartArray, StartDictionary, event_of};
+    ghost use Rattle.std.specs.Prelude.{◌≡◌, None, IfSome};
+    ghost use Rattle.plist_base.specs.Events.{EndCollection, PlainEvent, ScalarEvent, StartArray, StartDictionary, event_of};
+    ghost use Rattle.plist_base.specs.Trees.{String};
+    ghost use Rattle.plist_base.specs.Utf16Strings.{string_of_utf16};
     ghost use Rattle.plist_base.specs.Visits.{Flow};
 
     /// Relates the visitor before a call, the event that the call takes, its result, and the
@@ -94,6 +97,18 @@ pub trait EventVisitor {
         ensures { step self.old (event_of (Event.String text.entry)) result self.new }
     {
         self.event(Event::String(text))
+    }
+
+    /// Takes a string in UTF-16, which may be a key, and returns whether the next event is wanted.
+    /// Returns `None` and changes nothing if the string is to be handed over by
+    /// [`EventVisitor::string`] instead. A visitor that needs the string in UTF-8 returns `None`.
+    #[inline(always)]
+    fn utf16_string(&mut self, text: Utf16Str<'_>) -> Option<ControlFlow<()>>
+        ensures taken { IfSome result (λ flow.
+            step self.old (ScalarEvent (String (string_of_utf16 text.entry))) flow self.new) }
+        ensures declined { result ≡ None → self.new ≡ self.old }
+    {
+        None
     }
 
     /// Takes the number of an object in a keyed archive.

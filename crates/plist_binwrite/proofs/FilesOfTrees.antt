@@ -7,7 +7,8 @@ use Rattle.plist_base.specs.Trees.{Leaf, Array, Dictionary, trees_of, members_of
 use Rattle.plist_base.specs.Container.{head_of}
 use Rattle.plist_base.specs.Object.{object_in}
 use Rattle.plist_base.specs.Unfolding.{visits_of, visits}
-use Rattle.plist_binwrite.specs.Forms.{least_width, length_form, units_of, scalar_form}
+use Rattle.plist_base.specs.Utf16.{units_of}
+use Rattle.plist_binwrite.specs.Forms.{least_width, length_form, scalar_form}
 use Rattle.plist_binwrite.specs.Sizes.{object_count, file_size}
 
 -- ---- objects

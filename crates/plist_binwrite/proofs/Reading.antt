@@ -7,7 +7,8 @@ use Rattle.std.proofs.lemmas.Grind.{flat_map-append}
 use Rattle.std.proofs.lemmas.Str.{chars_past_char, chars-nil, length-encode, is_utf8-from_IsUtf8, chars-encodes, utf16_chars-nil, utf16_chars_lone, utf16_chars_pair}
 use Rattle.std.proofs.lemmas.List.{nil_from_length}
 use Rattle.plist_base.specs.declared.marker.CountedKind.TheVariants as kind
-use Rattle.plist_binwrite.specs.Forms.{units_of, is_ascii_text, length_form, scalar_form, table_form, form, key_numbers, value_numbers, IsWritableScalar, AllFit, IsWritable}
+use Rattle.plist_base.specs.Utf16.{units_of}
+use Rattle.plist_binwrite.specs.Forms.{is_ascii_text, length_form, scalar_form, table_form, form, key_numbers, value_numbers, IsWritableScalar, AllFit, IsWritable}
 use Rattle.std.specs.Int.{bytes_high_first}
 use Rattle.std.specs.List.{zip, list_any}
 use Rattle.std.specs.Str.{encode_utf8_all}
@@ -18,6 +19,7 @@ use Rattle.std.proofs.Math.Seq.{take-append_seam, drop-append_seam}
 use Rattle.plist_base.specs.declared.real.RealBits.TheVariants.{Four, Eight}
 use Rattle.plist_base.specs.Trees as trees
 use Rattle.plist_base.specs.Object.{Object, Scalar, Array, Dictionary, Faulty, object_in, text, text_of_units, dictionary, date, date_if_any}
+use Rattle.plist_base.proofs.Utf16Forms.{text_of_chars}
 use Rattle.plist_base.proofs.Layouts.{layout-data, layout-text, layout-wide_text, layout-array, layout-dictionary}
 use Rattle.plist_buffer.proofs.Uniques.{all_both}
 use Rattle.plist_binwrite.proofs.ReadingNumbers.{counted, front, integer_read, length-table, numbers_back, uid_read}
@@ -85,52 +87,6 @@ few_units_in (c ∷ cs) =
           (flat_map encode_utf16 cs),
       length-append (encode_utf8 c) (encode_utf8_all cs),
     )
-
--- ---- UTF-16
-
-lone_is : (c : ℕ) → scalar c ≡ true → lone_unit_char c ≡ Some c
-lone_is c s =
-    elim (scalar_cases c s) [
-      | inl a ↦ rw (lt-leb _ c a) refl
-      | inr a ↦ rw (le-leb 0xD800 c (omega (arith, a.0)), le-ltb c _ a.0) refl
-    ]
-
-pair_is : (c : ℕ) → 0x1_0000 ≤ c → surrogate_pair_char (0xD800 + (c - 0x1_0000) / 0x400)
-    (0xDC00 + (c - 0x1_0000) % 0x400) ≡ c
-pair_is c high = omega arith
-
-units_back : (cs : List ℕ) → scalars cs ≡ true
-    → utf16_chars (flat_map encode_utf16 cs) ≡ map Some cs
-units_back [] s = utf16_chars-nil
-units_back (c ∷ cs) s =
-    let k = and_parts (scalar c) (scalars cs) s in
-    let rest = units_back cs k.1 in
-    elim (cases_lt c _) [
-      | inl low ↦ rw (lt-ltb c 0x1_0000 low)
-          (utf16_chars_lone c _ (λ p. elim (scalar_cases c k.0) [
-            | inl l ↦ omega arith
-            | inr l ↦ omega (arith, l.0, p.1)
-          ])
-          ∙ (λ i. lone_is c k.0 i ∷ rest i))
-      | inr high ↦ rw (le-ltb c 0x1_0000 high)
-          (utf16_chars_pair (0xD800 + (c - 0x1_0000) / 0x400) (0xDC00 + (c - 0x1_0000) % 0x400)
-          (flat_map encode_utf16 cs) (elim (scalar_cases c k.0) [
-            | inl a ↦ absurd (omega arith)
-            | inr a ↦ (omega arith, omega (arith, a.1), omega arith, omega arith)
-          ]) ∙ (λ i. Some (pair_is c high i) ∷ rest i))
-    ]
-
-all_paired : (cs : List ℕ) → list_any (λ o. not (is_some o)) (map Some cs) ≡ false
-all_paired [] = refl
-all_paired (c ∷ cs) = all_paired cs
-
-none_lost : (cs : List ℕ) → map (λ o. unwrap_or o 0xFFFD) (map Some cs) ≡ cs
-none_lost [] = refl
-none_lost (c ∷ cs) = ap (λ l. c ∷ l) (none_lost cs)
-
-text_of_chars : (cs : List ℕ) → scalars cs ≡ true
-    → text_of_units (flat_map encode_utf16 cs) ≡ Scalar (trees.String (encode_utf8_all cs))
-text_of_chars cs s = rw (units_back cs s, all_paired cs, none_lost cs) refl
 
 pub units_are : (text cs : List ℕ) → scalars cs ≡ true → encode_utf8_all cs ≡ text
     → units_of text ≡ flat_map encode_utf16 cs

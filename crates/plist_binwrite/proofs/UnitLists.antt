@@ -9,7 +9,8 @@ use Rattle.std.proofs.lemmas.Grind.{flat_map-append}
 use Rattle.std.proofs.lemmas.Str.{IsUtf8-past_char}
 use Rattle.plist_base.specs.Sinks.{buffered, room}
 use Rattle.plist_base.specs.declared.fixed_buffer.FixedBuffer.{FixedBuffer}
-use Rattle.plist_binwrite.specs.Forms.{table_form, units_of}
+use Rattle.plist_base.specs.Utf16.{units_of}
+use Rattle.plist_binwrite.specs.Forms.{table_form}
 use Rattle.plist_binwrite.specs.inner.Layout.{PushesUnits}
 use Rattle.plist_binwrite.proofs.Reading.{units_step}
 

@@ -10,6 +10,5 @@ pub mod ObjectFronts
 pub mod Markers
 pub mod UnknownBytes
 pub mod PackedScalars
-pub mod Utf16Chars
 pub mod Fronts
 mod FormatsOfInputs

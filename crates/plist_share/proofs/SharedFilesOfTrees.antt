@@ -2,7 +2,8 @@
 use Rattle.std.specs.Prelude.{◌≡◌, [], ◌∷◌, pos, refl}
 use Rattle.std.specs.Str.{chars}
 use Rattle.plist_base.specs.Trees.{Tree, Leaf, Array, Dictionary, String, Integer, trees_of, members_of}
-use Rattle.plist_binwrite.specs.Forms.{least_width, length_form, units_of}
+use Rattle.plist_base.specs.Utf16.{units_of}
+use Rattle.plist_binwrite.specs.Forms.{least_width, length_form}
 use Rattle.plist_share.specs.SharedFiles.{distinct_subtrees, shared_file_size}
 
 -- ---- [["x"], ["x"]]

@@ -16,7 +16,8 @@ use Rattle.plist_buffer.specs.declared.children.Half.TheVariants.{Keys, Values}
 use Rattle.plist_base.specs.declared.marker.CountedKind.{CountedKind}
 use Rattle.plist_binwrite.specs.Classes.{Describes, IsFileBy, object_of}
 use Rattle.plist_binwrite.specs.EventClasses.{events_in, class_in}
-use Rattle.plist_binwrite.specs.Forms.{form, length_form, reference_width, table_form, units_of}
+use Rattle.plist_base.specs.Utf16.{units_of}
+use Rattle.plist_binwrite.specs.Forms.{form, length_form, reference_width, table_form}
 use Rattle.plist_binwrite.specs.Sizes.{object_size, size_with}
 use Rattle.plist_binwrite.specs.Written.{Laid, laid_out}
 use Rattle.plist_binwrite.specs.declared.plan.FilePlan.{FilePlan}

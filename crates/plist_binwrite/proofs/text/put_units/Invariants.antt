@@ -1,7 +1,8 @@
 use Rattle.std.proofs.Common.{◌≡◌, ◌++◌, ℕ, List, IsUtf8, Ok, length}
 use Rattle.std.specs.Str.Iter.{chars_rest}
 use Rattle.plist_base.specs.Sinks.{PutsBytes}
-use Rattle.plist_binwrite.specs.Forms.{table_form, units_of}
+use Rattle.plist_base.specs.Utf16.{units_of}
+use Rattle.plist_binwrite.specs.Forms.{table_form}
 use Rattle.plist_binwrite.proofs.text.put_units.Given as goal
 
 abbrev pub invariant-loop-sink : goal.invariant-loop-sink

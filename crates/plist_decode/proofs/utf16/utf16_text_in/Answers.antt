@@ -3,7 +3,7 @@ use Rattle.std.proofs.lemmas.Str.{IsUtf8-append, IsUtf8-encode}
 use Rattle.std.proofs.str.Utf16.{utf16_chars-drop_all}
 use Rattle.plist_base.specs.Container.{numbers_spelled}
 use Rattle.plist_decode.proofs.Decoding.{units_text}
-use Rattle.plist_decode.proofs.Utf16Chars.{units_length}
+use Rattle.plist_base.proofs.Utf16Units.{units_length}
 use Rattle.plist_decode.proofs.utf16.utf16_text_in.Goals as goal
 
 pub loop-at-preserved : goal.loop-at-preserved

@@ -1,9 +1,9 @@
 use Rattle.std.proofs.Common.{◌+◌, arith, get_or}
 use Rattle.std.proofs.str.Utf16.{IsPair}
 use Rattle.plist_base.specs.Container.{numbers_spelled}
-use Rattle.plist_decode.specs.inner.Utf16.{unit_at}
-use Rattle.plist_decode.proofs.Utf16Chars.{last_unpaired, next_pair, nth_unit, unpaired}
-use Rattle.plist_decode.proofs.utf16.pair_at.Goals as goal
+use Rattle.plist_base.specs.Utf16.{unit_at}
+use Rattle.plist_base.proofs.Utf16Units.{last_unpaired, next_pair, nth_unit, unpaired}
+use Rattle.plist_base.proofs.utf16.pair_at.Goals as goal
 
 pub returns-then-high-ge56320 : goal.returns-then-high-ge56320
 returns-then-high-ge56320 c =

@@ -1,7 +1,7 @@
 use Rattle.std.proofs.Common.{◌+◌, ◌<◌, ◌≤◌, ◌⊎◌, inl, inr, arith, sym, subst, ◌∙◌}
-use Rattle.plist_decode.specs.inner.Utf16.{IsNextChar}
-use Rattle.plist_decode.proofs.Utf16Chars.{next_lone, scalar_of}
-use Rattle.plist_decode.proofs.utf16.char_at.Goals as goal
+use Rattle.plist_base.specs.Utf16.{IsNextChar}
+use Rattle.plist_base.proofs.Utf16Units.{next_lone, scalar_of}
+use Rattle.plist_base.proofs.utf16.char_at.Goals as goal
 
 pub from_u32_unchecked-requires : goal.from_u32_unchecked-requires
 from_u32_unchecked-requires c =

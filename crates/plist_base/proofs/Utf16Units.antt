@@ -9,7 +9,7 @@ use Rattle.std.proofs.str.Utf16.{IsPair, lone_unit_char_high, lone_unit_char_low
 use Rattle.std.specs.Char.{IsScalar, len_utf8}
 use Rattle.std.specs.Char.Utf16.{lone_unit_char, surrogate_pair_char, utf16_chars}
 use Rattle.plist_base.specs.Container.{number_at, numbers_spelled}
-use Rattle.plist_decode.specs.inner.Utf16.{IsNextChar, IsUnpaired, unit_at}
+use Rattle.plist_base.specs.Utf16.{IsNextChar, IsUnpaired, unit_at}
 
 -- the code of a character that isn't below the surrogates
 high_scalar : (c : ℕ) → 57344 ≤ c → c < 1114112 → IsScalar c

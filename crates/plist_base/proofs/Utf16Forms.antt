@@ -1,0 +1,303 @@
+-- A string in UTF-16 has one form, and is read back from it.
+use Rattle.std.proofs.Common.{◌≡◌, ℕ, zero, suc, ◌+◌, ◌-◌, ◌*◌, ◌/◌, ◌%◌, ◌<◌, ◌≤◌, ◌⊎◌, inl, inr, Bool, true, false, List, [], ◌∷◌, ◌++◌, length, get_or, drop, map, flat_map, Some, ap, sym, refl, subst, ◌∙◌, arith, cond, zero-add, not, is_some, chars, IsUtf8}
+use Rattle.std.specs.Char.Escape.{encode_utf16}
+use Rattle.std.specs.Char.Utf16.{has_unpaired_surrogate, is_high_surrogate, is_low_surrogate, lone_unit_char, surrogate_pair_char, utf16_chars, utf16_lossy_chars}
+use Rattle.std.specs.Int.{byte_at, bytes_high_first}
+use Rattle.std.specs.List.{list_any, range_with_len}
+use Rattle.std.specs.Option.{unwrap_or}
+use Rattle.std.specs.Str.{encode_utf8_all}
+use Rattle.std.proofs.Math.Utf8.{scalar, scalar_cases, scalars}
+use Rattle.std.proofs.lemmas.Bool.{cases_lt, lt-ltb, le-ltb, le-leb, lt-leb, and_parts}
+use Rattle.std.proofs.lemmas.List.FromFn.{fill_by_all, get_or-map-range_with_len, length-map-range_with_len}
+use Rattle.std.proofs.lemmas.Str.{chars-encodes, utf16_chars-nil, utf16_chars_lone, utf16_chars_pair}
+use Rattle.std.proofs.str.Utf16.{IsPair, lone_unit_char_high, lone_unit_char_low, lone_unit_char_surrogate, one_unit, pair_units, two_units, utf16_chars-drop_all}
+use Rattle.plist_base.specs.ByteTests.{EachByte}
+use Rattle.plist_base.specs.Container.{number_at, number_of, numbers_spelled}
+use Rattle.plist_base.specs.Object.{Scalar, text_of_units}
+use Rattle.plist_base.specs.Trees.{String}
+use Rattle.plist_base.specs.Utf16.{ArePaired, IsUtf16, units_of, utf16_form, utf8_of_utf16}
+use Rattle.plist_base.specs.Utf16.{unit_at}
+use Rattle.plist_base.proofs.Utf16Units.{next_lone, scalar_of, units_length}
+
+-- ---- the bytes of units
+
+-- each is a byte
+abbrev pub IsBytes : List ℕ → Type 0
+IsBytes bytes = (i : ℕ) → get_or bytes i 0 < 256
+
+-- the units in two bytes and those that follow
+units-two : (a b : ℕ) (rest : List ℕ)
+    → numbers_spelled 2 (a ∷ b ∷ rest) ≡ number_of (a ∷ b ∷ []) ∷ numbers_spelled 2 rest
+units-two a b rest =
+    let n = length rest / 2 in
+    let long : length (a ∷ b ∷ rest) / 2 ≡ suc n = omega arith in
+    sym (fill_by_all (λ i. number_at (a ∷ b ∷ rest) (i * 2) 2)
+    (number_of (a ∷ b ∷ []) ∷ numbers_spelled 2 rest) (suc n) 0
+    (ap suc (units_length rest)) each
+    ∙ ap (λ k. map (λ i. number_at (a ∷ b ∷ rest) (i * 2) 2) (range_with_len 0 k)) (sym long))
+  where
+    each : (k : ℕ) → k < suc (length rest / 2)
+        → get_or (number_of (a ∷ b ∷ []) ∷ numbers_spelled 2 rest) k 0
+        ≡ number_at (a ∷ b ∷ rest) (k * 2) 2
+    each zero below = refl
+    each (suc k) below =
+        let more : suc k * 2 ≡ suc (suc (k * 2)) = omega arith in
+        rw more (get_or-map-range_with_len (λ i. number_at rest (i * 2) 2) 0 (length rest / 2) k k 0
+        (omega (arith, below)) (zero-add k))
+
+-- the two bytes of a unit
+unit_bytes : (a b : ℕ) → a < 256 → b < 256
+    → bytes_high_first 2 (number_of (a ∷ b ∷ [])) ≡ a ∷ b ∷ []
+unit_bytes a b high low =
+    let first : byte_at 1 (number_of (a ∷ b ∷ [])) ≡ a = omega (arith, high, low) in
+    let second : byte_at 0 (number_of (a ∷ b ∷ [])) ≡ b = omega (arith, high, low) in
+    λ i. first i ∷ second i ∷ []
+
+-- whole units are written as the bytes from which they were read
+bytes_again : (bytes : List ℕ) → length bytes % 2 ≡ 0 → IsBytes bytes
+    → flat_map (bytes_high_first 2) (numbers_spelled 2 bytes) ≡ bytes
+bytes_again [] whole small = refl
+bytes_again (a ∷ []) whole small = absurd (omega (arith, whole))
+bytes_again (a ∷ b ∷ rest) whole small =
+    let others = bytes_again rest (omega (arith, whole)) (λ i. small (suc (suc i))) in
+    ap (flat_map (bytes_high_first 2)) (units-two a b rest)
+    ∙ (λ i. unit_bytes a b (small 0) (small 1) i ++ others i)
+
+first_small : (a b : ℕ) (us : List ℕ) → a < 256 → b < 256
+    → ((i : ℕ) → get_or us i 0 < 65536)
+    → (i : ℕ) → get_or (number_of (a ∷ b ∷ []) ∷ us) i 0 < 65536
+first_small a b us high low rest zero = omega (arith, high, low)
+first_small a b us high low rest (suc i) = rest i
+
+-- each unit has sixteen bits
+units_small : (bytes : List ℕ) → IsBytes bytes → (i : ℕ) → get_or (numbers_spelled 2 bytes) i 0 < 65536
+units_small [] small i = omega arith
+units_small (a ∷ []) small i = omega arith
+units_small (a ∷ b ∷ rest) small i = rw (units-two a b rest)
+    (first_small a b (numbers_spelled 2 rest) (small 0) (small 1)
+    (λ i. units_small rest (λ i. small (suc (suc i))) i) i)
+
+-- ---- units and their characters
+
+-- the characters of these units are characters, and have these units
+record Again (units : List ℕ) : Type 0 where
+  chars : scalars (utf16_lossy_chars units) ≡ true
+  back : flat_map encode_utf16 (utf16_lossy_chars units) ≡ units
+
+again_nil : Again []
+again_nil = record { chars = rw utf16_chars-nil refl; back = rw utf16_chars-nil refl }
+
+-- a character with its units before others
+again_more : (c : ℕ) (own us : List ℕ) → utf16_chars (own ++ us) ≡ Some c ∷ utf16_chars us
+    → scalar c ≡ true → encode_utf16 c ≡ own → Again us → Again (own ++ us)
+again_more c own us is one of rest = record {
+  chars = rw (is, one) rest.chars;
+  back = rw (is, of) (ap (λ l. own ++ l) rest.back);
+}
+
+paired_more : (c : ℕ) (own us : List ℕ) → utf16_chars (own ++ us) ≡ Some c ∷ utf16_chars us
+    → has_unpaired_surrogate (own ++ us) ≡ false → has_unpaired_surrogate us ≡ false
+paired_more c own us is paired = rw is at paired
+
+-- what a unit is that begins units without unpaired surrogates
+data FirstUnit (u : ℕ) (us : List ℕ) : Type 0 where
+  Lone : (u < 55296) ⊎ (57344 ≤ u) → FirstUnit u us
+  Paired : IsPair u (get_or us 0 0) → FirstUnit u us
+
+lone : (u : ℕ) (us : List ℕ) → (u < 55296) ⊎ (57344 ≤ u)
+    → utf16_chars (u ∷ us) ≡ Some u ∷ utf16_chars us
+lone u us (inl low) = utf16_chars_lone u us (λ pair. omega (arith, pair.0, low))
+    ∙ ap (λ o. o ∷ utf16_chars us) (lone_unit_char_low u low)
+lone u us (inr high) = utf16_chars_lone u us (λ pair. omega (arith, pair.1, high))
+    ∙ ap (λ o. o ∷ utf16_chars us) (lone_unit_char_high u high)
+
+unpaired_first : (u : ℕ) (us : List ℕ) → 55296 ≤ u → u < 57344
+    → (IsPair u (get_or us 0 0) → ⊥) → has_unpaired_surrogate (u ∷ us) ≡ true
+unpaired_first u us from below apart =
+    rw (utf16_chars_lone u us apart, lone_unit_char_surrogate u from below) refl
+
+false-true : false ≡ true → ⊥
+false-true e = subst (λ b. cond b ⊥ (Unit {0})) e tt
+
+first_unit : (u : ℕ) (us : List ℕ) → has_unpaired_surrogate (u ∷ us) ≡ false → FirstUnit u us
+first_unit u us paired = elim (cases_lt u 55296) [
+  | inl low ↦ Lone (inl low)
+  | inr from ↦ elim (cases_lt u 57344) [
+    | inr high ↦ Lone (inr high)
+    | inl below ↦ elim (cases_lt u 56320) [
+      | inr second ↦ absurd (false-true (sym paired ∙ unpaired_first u us from below (λ pair. omega (arith, pair.1, second))))
+      | inl first ↦ elim (cases_lt (get_or us 0 0) 56320) [
+        | inl low ↦ absurd (false-true (sym paired ∙ unpaired_first u us from below (λ pair. omega (arith, pair.2, low))))
+        | inr low ↦ elim (cases_lt (get_or us 0 0) 57344) [
+          | inr high ↦ absurd (false-true (sym paired ∙ unpaired_first u us from below (λ pair. omega (arith, pair.3, high))))
+          | inl high ↦ Paired (from, first, low, high)
+        ]
+      ]
+    ]
+  ]
+]
+
+abbrev AreSmall : List ℕ → Type 0
+AreSmall us = (i : ℕ) → get_or us i 0 < 65536
+
+again_lone : (u : ℕ) (us : List ℕ) → u < 65536 → (u < 55296) ⊎ (57344 ≤ u) → Again us
+    → Again (u ∷ us)
+again_lone u us small outside rest = again_more u (u ∷ []) us (lone u us outside)
+    (scalar_of u (omega (arith, small)) outside) (one_unit u small) rest
+
+again_pair : (u v : ℕ) (us : List ℕ) → IsPair u v → Again us → Again (u ∷ v ∷ us)
+again_pair u v us pair rest =
+    again_more (surrogate_pair_char u v) (u ∷ v ∷ []) us (utf16_chars_pair u v us pair)
+    (scalar_of (surrogate_pair_char u v) (omega (arith, pair.1, pair.3)) (inr (omega arith)))
+    (ap encode_utf16 {x = surrogate_pair_char u v}
+    {y = 0x1_0000 + ((u - 0xD800) * 0x400 + (v - 0xDC00))} (omega arith)
+    ∙ pair_units u v pair.0 pair.2 pair.3) rest
+
+again : (us : List ℕ) → AreSmall us → has_unpaired_surrogate us ≡ false → Again us
+again [] small paired = again_nil
+again (u ∷ []) small paired = elim (first_unit u [] paired) [
+  | Lone outside ↦ again_lone u [] (small 0) outside again_nil
+  | Paired pair ↦ absurd (omega (arith, pair.2))
+]
+again (u ∷ v ∷ us) small paired = elim (first_unit u (v ∷ us) paired) [
+  | Lone outside ↦ again_lone u (v ∷ us) (small 0) outside (again (v ∷ us) (λ i. small (suc i))
+      (paired_more u (u ∷ []) (v ∷ us) (lone u (v ∷ us) outside) paired))
+  | Paired pair ↦ again_pair u v us pair (again us (λ i. small (suc (suc i)))
+      (paired_more (surrogate_pair_char u v) (u ∷ v ∷ []) us (utf16_chars_pair u v us pair) paired))
+]
+
+form_is : (bytes : List ℕ) → length bytes % 2 ≡ 0 → IsBytes bytes
+    → Again (numbers_spelled 2 bytes) → bytes ≡ utf16_form (utf8_of_utf16 bytes)
+unfolding units_of
+form_is bytes whole small of =
+    sym (ap (λ cs. flat_map (bytes_high_first 2) (flat_map encode_utf16 cs))
+    (chars-encodes _ of.chars)
+    ∙ ap (flat_map (bytes_high_first 2)) of.back ∙ bytes_again bytes whole small)
+
+-- bytes with whole units without unpaired surrogates are the form of their string
+pub is_utf16 : (bytes : List ℕ) → length bytes % 2 ≡ 0 → IsBytes bytes → ArePaired bytes
+    → IsUtf16 bytes
+is_utf16 bytes whole small paired = record {
+  whole = whole;
+  paired = paired;
+  form = form_is bytes whole small
+      (again (numbers_spelled 2 bytes) (units_small bytes small) paired);
+}
+
+-- ---- a quick test
+
+unit_low : (bytes : List ℕ) (i : ℕ) → EachByte (λ byte. byte < 0xd8) bytes
+    → i < length bytes / 2 → unit_at bytes i < 55296
+unit_low [] i each below = absurd (omega (arith, below))
+unit_low (a ∷ []) i each below = absurd (omega (arith, below))
+unit_low (a ∷ b ∷ rest) zero each below =
+    let none : 0 * 2 ≡ 0 = omega arith in
+    rw none (omega (arith, each 0 (omega arith), each 1 (omega arith)))
+unit_low (a ∷ b ∷ rest) (suc i) each below =
+    let more : suc i * 2 ≡ suc (suc (i * 2)) = omega arith in
+    rw more (unit_low rest i (λ k within. each (suc (suc k)) (omega (arith, within))) (omega (arith, below)))
+
+-- bytes below those of surrogates have no surrogates
+pub no_surrogates : (bytes : List ℕ) → EachByte (λ byte. byte < 0xd8) bytes → ArePaired bytes
+no_surrogates bytes each = go (length bytes / 2) 0 (zero-add _)
+  where
+    go : (k at : ℕ) → at + k ≡ length bytes / 2
+        → has_unpaired_surrogate (drop at (numbers_spelled 2 bytes)) ≡ false
+    go zero at all = rw (utf16_chars-drop_all (numbers_spelled 2 bytes) at (omega (arith, all, units_length bytes))) refl
+    go (suc k) at all =
+        let low = unit_low bytes at each (omega (arith, all)) in
+        let next = next_lone bytes at (omega (arith, all)) (omega (arith, low)) (inl low) in
+        rw next.chars (go k (at + 1) (omega (arith, all)))
+
+-- ---- a string is read back from its form
+
+lone_is : (c : ℕ) → scalar c ≡ true → lone_unit_char c ≡ Some c
+lone_is c s =
+    elim (scalar_cases c s) [
+      | inl a ↦ rw (lt-leb _ c a) refl
+      | inr a ↦ rw (le-leb 0xD800 c (omega (arith, a.0)), le-ltb c _ a.0) refl
+    ]
+
+pair_is : (c : ℕ) → 0x1_0000 ≤ c → surrogate_pair_char (0xD800 + (c - 0x1_0000) / 0x400)
+    (0xDC00 + (c - 0x1_0000) % 0x400) ≡ c
+pair_is c high = omega arith
+
+units_back : (cs : List ℕ) → scalars cs ≡ true
+    → utf16_chars (flat_map encode_utf16 cs) ≡ map Some cs
+units_back [] s = utf16_chars-nil
+units_back (c ∷ cs) s =
+    let k = and_parts (scalar c) (scalars cs) s in
+    let rest = units_back cs k.1 in
+    elim (cases_lt c _) [
+      | inl low ↦ rw (lt-ltb c 0x1_0000 low)
+          (utf16_chars_lone c _ (λ p. elim (scalar_cases c k.0) [
+            | inl l ↦ omega arith
+            | inr l ↦ omega (arith, l.0, p.1)
+          ])
+          ∙ (λ i. lone_is c k.0 i ∷ rest i))
+      | inr high ↦ rw (le-ltb c 0x1_0000 high)
+          (utf16_chars_pair (0xD800 + (c - 0x1_0000) / 0x400) (0xDC00 + (c - 0x1_0000) % 0x400)
+          (flat_map encode_utf16 cs) (elim (scalar_cases c k.0) [
+            | inl a ↦ absurd (omega arith)
+            | inr a ↦ (omega arith, omega (arith, a.1), omega arith, omega arith)
+          ]) ∙ (λ i. Some (pair_is c high i) ∷ rest i))
+    ]
+
+all_paired : (cs : List ℕ) → list_any (λ o. not (is_some o)) (map Some cs) ≡ false
+all_paired [] = refl
+all_paired (c ∷ cs) = all_paired cs
+
+none_lost : (cs : List ℕ) → map (λ o. unwrap_or o 0xFFFD) (map Some cs) ≡ cs
+none_lost [] = refl
+none_lost (c ∷ cs) = ap (λ l. c ∷ l) (none_lost cs)
+
+-- the units of characters are a string
+pub text_of_chars : (cs : List ℕ) → scalars cs ≡ true
+    → text_of_units (flat_map encode_utf16 cs) ≡ Scalar (String (encode_utf8_all cs))
+text_of_chars cs s = rw (units_back cs s, all_paired cs, none_lost cs) refl
+
+unit_more : (u : ℕ) (us : List ℕ) → u < 65536
+    → numbers_spelled 2 (flat_map (bytes_high_first 2) us) ≡ us
+    → numbers_spelled 2 (flat_map (bytes_high_first 2) (u ∷ us)) ≡ u ∷ us
+unit_more u us small rest =
+    let same : number_of (byte_at 1 u ∷ byte_at 0 u ∷ []) ≡ u = omega (arith, small) in
+    units-two (byte_at 1 u) (byte_at 0 u) (flat_map (bytes_high_first 2) us)
+    ∙ (λ i. same i ∷ rest i)
+
+units_read : (cs : List ℕ) → scalars cs ≡ true
+    → numbers_spelled 2 (flat_map (bytes_high_first 2) (flat_map encode_utf16 cs))
+    ≡ flat_map encode_utf16 cs
+units_read [] s = refl
+units_read (c ∷ cs) s =
+    let k = and_parts (scalar c) (scalars cs) s in
+    let rest = units_read cs k.1 in
+    elim (cases_lt c _) [
+      | inl low ↦ rw (one_unit c low) (unit_more c _ low rest)
+      | inr high ↦ elim (scalar_cases c k.0) [
+        | inl a ↦ absurd (omega (arith, a, high))
+        | inr a ↦ rw (two_units c high) (unit_more _ _ (omega (arith, a.1))
+            (unit_more _ _ (omega arith) rest))
+      ]
+    ]
+
+whole_units : (us : List ℕ) → length (flat_map (bytes_high_first 2) us) % 2 ≡ 0
+whole_units [] = refl
+whole_units (u ∷ us) = omega (arith, whole_units us)
+
+-- a string is read back from its form in UTF-16
+pub form_back : (text : List ℕ) → IsUtf8 text → utf8_of_utf16 (utf16_form text) ≡ text
+unfolding units_of
+form_back text (cs, (s, is)) =
+    let units = ap (flat_map encode_utf16) (ap chars (sym is) ∙ chars-encodes cs s) in
+    rw (units, units_read cs s, units_back cs s, none_lost cs) is
+
+-- the form of a string in UTF-16 is one
+pub form_valid : (text : List ℕ) → IsUtf8 text → IsUtf16 (utf16_form text)
+unfolding units_of
+form_valid text (cs, (s, is)) =
+    let units = ap (flat_map encode_utf16) (ap chars (sym is) ∙ chars-encodes cs s) in
+    record {
+      whole = whole_units _;
+      paired = rw (units, units_read cs s, units_back cs s) (all_paired cs);
+      form = ap utf16_form (sym (form_back text (cs, (s, is))));
+    }

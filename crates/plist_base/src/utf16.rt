@@ -1,0 +1,184 @@
+//! Strings in UTF-16.
+
+ghost use Rattle.std.specs.Prelude.{◌≡◌, ◌+◌, ◌*◌, ◌/◌, ◌<◌, ◌≤◌, false, true, drop, length, MatchOption};
+ghost use Rattle.std.proofs.Props.{props};
+ghost use Rattle.std.specs.Char.Utf16.{has_unpaired_surrogate};
+ghost use Rattle.plist_base.specs.Container.{numbers_spelled};
+ghost use Rattle.plist_base.specs.Faults.{InvalidUtf16String};
+ghost use Rattle.plist_base.specs.Object.{Faulty, Scalar, wide_text};
+ghost use Rattle.plist_base.specs.Trees.{String};
+ghost use Rattle.plist_base.specs.Utf16.{ArePaired, IsNextChar, IsUnpaired, IsUtf16, unit_at};
+
+use crate::byte_test::{ByteTest, all_pass};
+use std::simd::prelude::*;
+
+// Tests whether bytes are less than the first bytes of all surrogates.
+struct BelowSurrogates;
+
+impl ByteTest for BelowSurrogates {
+    ghost use Rattle.std.specs.Prelude.{◌<◌};
+
+    ghost passes = { λ byte. byte < 0xd8 };
+
+    #[inline(always)]
+    fn sixteen(bytes: u8x16) -> bool {
+        bytes.simd_ge(u8x16::splat(0xd8)).to_bitmask() == 0
+    }
+
+    #[inline(always)]
+    fn eight(bytes: u8x8) -> bool {
+        bytes.simd_ge(u8x8::splat(0xd8)).to_bitmask() == 0
+    }
+
+    #[inline(always)]
+    fn one(byte: u8) -> bool {
+        byte < 0xd8
+    }
+}
+
+// Returns the unit at an index.
+#[inline(always)]
+fn unit_at(bytes: &[u8], index: usize) -> u32
+    requires { 2 * index + 2 ≤ length bytes.now }
+    ensures value { result ≡ unit_at bytes.now index }
+    ensures small { result < 0x1_0000 }
+{
+    u32::from(bytes[2 * index]) * 256 + u32::from(bytes[2 * index + 1])
+}
+
+// Returns the character of the surrogate pair that begins at an index, and the index after it, or
+// `None` if the surrogate at the index is unpaired.
+#[cold]
+#[inline(never)]
+fn pair_at(bytes: &[u8], at: usize) -> Option<(char, usize)>
+    requires within { 2 * at + 2 ≤ length bytes.now }
+    requires surrogate { (0xd800 ≤ unit_at bytes.now at) × (unit_at bytes.now at < 0xe000) }
+    ensures { MatchOption result (IsUnpaired bytes.now at) (IsNextChar bytes.now at) }
+{
+    let high = unit_at(bytes, at);
+    if high >= 0xdc00 || bytes.len() < 2 * at + 4 {
+        return None;
+    }
+    let low = unit_at(bytes, at + 1);
+    if low < 0xdc00 || low >= 0xe000 {
+        return None;
+    }
+    let code = 0x1_0000 + (high - 0xd800) * 0x400 + (low - 0xdc00);
+    Some((unsafe { char::from_u32_unchecked(code) }, at + 2))
+}
+
+/// Returns the character that begins with the unit at an index, and the index of the unit after the
+/// character, or `None` if the unit is an unpaired surrogate.
+#[inline(always)]
+pub fn char_at(bytes: &[u8], at: usize) -> Option<(char, usize)>
+    requires { 2 * at + 2 ≤ length bytes.now }
+    ensures { MatchOption result (IsUnpaired bytes.now at) (IsNextChar bytes.now at) }
+{
+    let unit = unit_at(bytes, at);
+    if unit >= 0xd800 && unit < 0xe000 {
+        return pair_at(bytes, at);
+    }
+    Some((unsafe { char::from_u32_unchecked(unit) }, at + 1))
+}
+
+// Returns whether each surrogate is paired.
+#[inline(never)]
+fn all_paired(bytes: &[u8]) -> bool
+    ensures yes { result ≡ true → ArePaired bytes.now }
+    ensures no { result ≡ false → has_unpaired_surrogate (numbers_spelled 2 bytes.now) ≡ true }
+{
+    let count = bytes.len() / 2;
+    let mut at = 0;
+    while at < count {
+        match char_at(bytes, at) {
+            Some((_, next)) => at = next,
+            None => return false,
+        }
+    }
+    true
+}
+
+/// A string in UTF-16: its units, each in two bytes in big-endian order. Each surrogate is paired.
+#[derive(Clone, Copy)]
+pub struct Utf16Str<'a> {
+    bytes: &'a [u8],
+    ghost valid: { IsUtf16 bytes.now } by { Prim.hlevel props },
+}
+
+impl<'a> Utf16Str<'a> {
+    ghost use Rattle.std.specs.Prelude.{◌%◌};
+    ghost use Rattle.plist_base.specs.Utf16.{chars_of_utf16, utf8_of_utf16};
+    ghost use Rattle.plist_base.specs.Utf16Strings.{chars_left, string_of_utf16};
+
+    /// Returns the string whose units these bytes are, or `None` if a surrogate is unpaired.
+    pub fn new(bytes: &'a [u8]) -> Option<Utf16Str<'a>>
+        requires { length bytes.now % 2 ≡ 0 }
+        ensures { MatchOption result (wide_text bytes.now ≡ Faulty InvalidUtf16String)
+            (λ text. wide_text bytes.now ≡ Scalar (String (string_of_utf16 text))) }
+    {
+        if all_pass::<BelowSurrogates>(bytes) || all_paired(bytes) {
+            return Some(Utf16Str { bytes });
+        }
+        None
+    }
+
+    /// Returns the string whose units these bytes are. Each surrogate must be paired.
+    #[inline(always)]
+    pub fn from_valid(bytes: &'a [u8]) -> Utf16Str<'a>
+        requires { IsUtf16 bytes.now }
+        ensures { string_of_utf16 result ≡ utf8_of_utf16 bytes.now }
+    {
+        Utf16Str { bytes }
+    }
+
+    /// Returns the bytes of the units.
+    #[inline(always)]
+    pub fn as_bytes(self) -> &'a [u8]
+        ensures valid { IsUtf16 result.now }
+        ensures string { utf8_of_utf16 result.now ≡ string_of_utf16 self.entry }
+    {
+        self.bytes
+    }
+
+    /// Returns an iterator over the characters.
+    #[inline(always)]
+    pub fn chars(self) -> Utf16Chars<'a>
+        ensures { chars_left result ≡ chars_of_utf16 self.entry.bytes.now }
+    {
+        Utf16Chars {
+            bytes: self.bytes,
+            at: 0,
+        }
+    }
+}
+
+/// An iterator over the characters of a string in UTF-16.
+#[derive(Clone, Copy)]
+pub struct Utf16Chars<'a> {
+    bytes: &'a [u8],
+    // The index of the next unit.
+    at: usize,
+    ghost within: { at ≤ length bytes.now / 2 },
+    ghost paired: { has_unpaired_surrogate (drop at (numbers_spelled 2 bytes.now)) ≡ false },
+}
+
+impl<'a> Iterator for Utf16Chars<'a> {
+    type Item = char;
+
+    ghost use Rattle.std.specs.Iterator.{YieldsFirst, item_count};
+    ghost use Rattle.plist_base.specs.Utf16Strings.{chars_left};
+
+    ghost next_gives = { YieldsFirst chars_left };
+
+    ghost remaining = { item_count chars_left };
+
+    #[inline(always)]
+    fn next(&mut self) -> Option<char> {
+        if self.at >= self.bytes.len() / 2 {
+            return None;
+        }
+        let (c, next) = char_at(self.bytes, self.at)?;
+        self.at = next;
+        Some(c)
+    }
+}
