@@ -10,12 +10,11 @@ use Rattle.plist_base.specs.Trees.{Tree, Leaf, Array, Dictionary}
 use Rattle.plist_buffer.specs.Occurrences.{OccursAt}
 use Rattle.plist_buffer.proofs.TreeStarts.{occurs_in, stands_single, starts_array, starts_dictionary}
 use Rattle.plist_binwrite.specs.EventClasses.{scalar_class}
-use Rattle.plist_buffer.specs.EventTable.{event_at, plain_events, scalars_of}
+use Rattle.plist_buffer.specs.EventTable.{event_at, lists_in, plain_events, scalars_of}
 use Rattle.plist_buffer.specs.declared.event_table.EventTable.{EventTable}
 use Rattle.plist_buffer.specs.inner.Columns.{scalar_named}
 use Rattle.plist_buffer.specs.inner.Entries.{entry_at, is_leaf}
 use Rattle.plist_binwrite.specs.inner.Scalars.{Identity, identity_of, shared, alone, AreIdentities}
-use Rattle.plist_buffer.proofs.Columns.{named}
 use Rattle.plist_buffer.proofs.EntryEvents.{no_scalar, scalar_stored, scalar_is_leaf}
 use Rattle.plist_buffer.proofs.SameScalars.{Tells, scalars_tell, tells_made}
 
@@ -52,20 +51,19 @@ module _ (held : EventTable) where
   IsAlone p = (class p ≡ length scalars + p) × (is_leaf (event_at es p) ≡ false)
 
   told : (p : ℕ) → p < length es → IsShared p ⊎ IsAlone p
-  told p lt = by (scalar_named (entry_at held.entries p)) refl
+  told p lt = by (scalar_named (lists_in held) (entry_at held.entries p)) refl
     where
-      class_is : (found : Option ℕ) → scalar_named (entry_at held.entries p) ≡ found
+      class_is : (found : Option ℕ) → scalar_named (lists_in held) (entry_at held.entries p) ≡ found
           → class p ≡ unwrap_or found (length scalars + p)
       class_is found is = ap (λ o. unwrap_or o (length scalars + p)) is
 
-      by : (found : Option ℕ) → scalar_named (entry_at held.entries p) ≡ found
+      by : (found : Option ℕ) → scalar_named (lists_in held) (entry_at held.entries p) ≡ found
           → IsShared p ⊎ IsAlone p
       by None is = inr (class_is None is, no_scalar held.kept lt is)
-      by (Some k) is =
-          let entry = named _ _ is in inl (
-            ap (slice_get scalars) (class_is (Some k) is) ∙ scalar_stored held.kept lt entry,
-            scalar_is_leaf held.kept lt entry,
-          )
+      by (Some k) is = inl (
+        ap (slice_get scalars) (class_is (Some k) is) ∙ scalar_stored held.kept lt is,
+        scalar_is_leaf held.kept lt is,
+      )
 
   -- the events before an index have classes below this bound
   pub classes_below : (p after : ℕ) → p < after → after ≤ length es

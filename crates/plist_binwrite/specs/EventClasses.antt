@@ -3,7 +3,7 @@ use Rattle.std.specs.Prelude.{◌≡◌, ℕ, ◌+◌, ◌<◌, List, length, �
 use Rattle.std.specs.Option.{unwrap_or}
 use Rattle.plist_base.specs.Events.{PlainEvent}
 use Rattle.plist_binwrite.specs.Classes.{AreClasses}
-use Rattle.plist_buffer.specs.EventTable.{nth_number, plain_events, scalars_of}
+use Rattle.plist_buffer.specs.EventTable.{nth_number, lists_in, plain_events, scalars_of}
 use Rattle.plist_binwrite.specs.declared.classes.Classed.{Classed}
 use Rattle.plist_binwrite.specs.declared.classes.Classes.TheVariants.{EqualScalars, Listed}
 use Rattle.plist_buffer.specs.declared.event_table.EventTable.{EventTable}
@@ -17,7 +17,8 @@ events_in given = plain_events given.events.now
 -- the class of the event at an index, if equal scalars share a class
 abbrev pub scalar_class : EventTable → (index : ℕ) → ℕ
 scalar_class held index =
-    unwrap_or (scalar_named (entry_at held.entries index)) (length (scalars_of held) + index)
+    unwrap_or (scalar_named (lists_in held) (entry_at held.entries index))
+    (length (scalars_of held) + index)
 
 -- the class of the event at an index
 abbrev pub class_in : Classed → (index : ℕ) → ℕ

@@ -3,22 +3,25 @@ use Rattle.std.proofs.Common.{◌≡◌, ℕ, zero, suc, ◌-◌, ◌<◌, List,
 use Rattle.std.proofs.lemmas.List.{get_or_default}
 use Rattle.plist_buffer.specs.declared.entries.EventEntry.{EventEntry}
 use Rattle.plist_buffer.specs.declared.entries.EventEntry.TheVariants as entry
-use Rattle.plist_base.specs.declared.event.EventShape.{EventShape}
-use Rattle.plist_base.specs.declared.event.EventShape.TheVariants as shape
-use Rattle.plist_buffer.specs.inner.Columns.{kind_in, number_in, scalar_named, entry_of, entries_from, IsEntryNumber}
-use Rattle.plist_buffer.specs.inner.Entries.{entry_at, is_leaf, event_of_entry}
-use Rattle.plist_base.specs.Events.{PlainEvent}
+use Rattle.plist_buffer.specs.declared.entries.EntryKind.{EntryKind}
+use Rattle.plist_buffer.specs.declared.entries.EntryKind.TheVariants as kind
+use Rattle.plist_buffer.specs.declared.entries.ScalarNumber.{ScalarNumber}
+use Rattle.plist_buffer.specs.declared.entries.ScalarNumber.TheVariants.{Small, Long}
+use Rattle.plist_buffer.specs.inner.Columns.{kind_in, number_in, scalar_in, index_of_number, scalar_named, entry_of, entries_from, IsEntryNumber}
+use Rattle.plist_buffer.specs.inner.Entries.{ScalarLists, entry_at, is_leaf, event_of_entry}
 
 -- an entry is made up of its kind and its number
 pub same_entry : (e : EventEntry) → entry_of (kind_in e) (number_in e) ≡ e
+same_entry (entry.Scalar (Small index)) = refl
+same_entry (entry.Scalar (Long index)) = refl
 same_entry entry.End = refl
 same_entry e = refl
 
-pub same_kind : (k : EventShape) (n : ℕ) → kind_in (entry_of k n) ≡ k
-same_kind shape.EndCollection n = refl
+pub same_kind : (k : EntryKind) (n : ℕ) → kind_in (entry_of k n) ≡ k
+same_kind kind.End n = refl
 same_kind k n = refl
 
-pub long_entries : (kinds : List EventShape) (numbers : List ℕ) → length kinds ≡ length numbers
+pub long_entries : (kinds : List EntryKind) (numbers : List ℕ) → length kinds ≡ length numbers
     → length (entries_from kinds numbers) ≡ length kinds
 long_entries [] numbers same = refl
 long_entries (k ∷ kinds) [] same = absurd (omega (arith, same))
@@ -26,7 +29,7 @@ long_entries (k ∷ kinds) (n ∷ numbers) same =
     ap suc (long_entries kinds _ (omega (arith, same)))
 
 -- an index among the entries is one of both lists
-pub within_lists : (kinds : List EventShape) (numbers : List ℕ) (es : List EventEntry)
+pub within_lists : (kinds : List EntryKind) (numbers : List ℕ) (es : List EventEntry)
     → length kinds ≡ length numbers → entries_from kinds numbers ≡ es → (p : ℕ) → p < length es
     → (p < length kinds) × (p < length numbers)
 within_lists kinds numbers es same is p lt =
@@ -34,9 +37,9 @@ within_lists kinds numbers es same is p lt =
     let given = ap length is in
     (omega (arith, long, given), omega (arith, long, given))
 
-pub entries_at : (kinds : List EventShape) (numbers : List ℕ) (p : ℕ) → length kinds ≡ length numbers
+pub entries_at : (kinds : List EntryKind) (numbers : List ℕ) (p : ℕ) → length kinds ≡ length numbers
     → entry_at (entries_from kinds numbers) p
-    ≡ entry_of (get_or kinds p shape.EndCollection) (get_or numbers p 0)
+    ≡ entry_of (get_or kinds p kind.End) (get_or numbers p 0)
 entries_at [] numbers p same = refl
 entries_at (k ∷ kinds) [] p same = absurd (omega arith)
 entries_at (k ∷ kinds) (n ∷ numbers) zero same = refl
@@ -44,39 +47,46 @@ entries_at (k ∷ kinds) (n ∷ numbers) (suc p) same =
     entries_at kinds _ p (omega arith)
 
 -- the kind and the number of an entry are read from the lists
-module _ (kinds : List EventShape) (numbers : List ℕ) (same : length kinds ≡ length numbers)
-    (slice : List EventShape) (lent : slice ≡ kinds) (p : ℕ) (d : EventShape)
+module _ (kinds : List EntryKind) (numbers : List ℕ) (same : length kinds ≡ length numbers)
+    (slice : List EntryKind) (lent : slice ≡ kinds) (p : ℕ) (d : EntryKind)
     (lt : p < length kinds) where
-  kind_there : get_or slice p d ≡ get_or kinds p shape.EndCollection
-  kind_there = cc (get_or_default kinds p d shape.EndCollection lt)
+  kind_there : get_or slice p d ≡ get_or kinds p kind.End
+  kind_there = cc (get_or_default kinds p d kind.End lt)
 
   pub kind_read : get_or slice p d ≡ kind_in (entry_at (entries_from kinds numbers) p)
   kind_read = kind_there ∙ sym (cc (
     entries_at kinds numbers p same,
     same_kind
-        (get_or kinds p shape.EndCollection) (get_or numbers p 0),
+        (get_or kinds p kind.End) (get_or numbers p 0),
   ))
 
-pub number_read : (kinds : List EventShape) (numbers : List ℕ) (p : ℕ)
+pub number_read : (kinds : List EntryKind) (numbers : List ℕ) (p : ℕ)
     → length kinds ≡ length numbers
     → IsEntryNumber (entries_from kinds numbers) p (get_or numbers p 0)
 number_read kinds numbers p same =
     let there = entries_at kinds numbers p same in
     ap (λ k. entry_of k (get_or numbers p 0))
-    (ap kind_in there ∙ same_kind (get_or kinds p shape.EndCollection) (get_or numbers p 0)) ∙ sym there
+    (ap kind_in there ∙ same_kind (get_or kinds p kind.End) (get_or numbers p 0)) ∙ sym there
 
--- an entry with the index of a scalar is the entry that refers to this scalar
-pub named : (e : EventEntry) (k : ℕ) → scalar_named e ≡ Some k → e ≡ entry.Scalar k
-named entry.End k is = cc
-named e k is = cc
+-- an entry with the number of a scalar is the entry that refers to this scalar
+pub named : (e : EventEntry) (number : ScalarNumber) → scalar_in e ≡ Some number
+    → e ≡ entry.Scalar number
+named entry.End number is = cc
+named e number is = cc
 
-pub unnamed : (scalars : List PlainEvent) (e : EventEntry) → scalar_named e ≡ None
+-- an entry with the index of a scalar refers to a scalar with this index
+pub indexed : (scalars : ScalarLists) (e : EventEntry) (k : ℕ) → scalar_named scalars e ≡ Some k
+    → (number : ScalarNumber) × (e ≡ entry.Scalar number) × (index_of_number scalars number ≡ k)
+indexed scalars (entry.Scalar number) k is = (number, refl, cc)
+indexed scalars e k is = cc
+
+pub unnamed : (scalars : ScalarLists) (e : EventEntry) → scalar_named scalars e ≡ None
     → is_leaf (event_of_entry scalars e) ≡ false
-unnamed scalars (entry.Scalar index) is = cc
+unnamed scalars (entry.Scalar number) is = cc
 unnamed scalars e is = refl
 
 -- appending a kind and a number appends an entry
-pub entries_more : (kinds : List EventShape) (numbers : List ℕ) (e : EventEntry)
+pub entries_more : (kinds : List EntryKind) (numbers : List ℕ) (e : EventEntry)
     → length kinds ≡ length numbers
     → entries_from (kinds ++ kind_in e ∷ []) (numbers ++ number_in e ∷ [])
     ≡ entries_from kinds numbers ++ e ∷ []
@@ -87,7 +97,7 @@ entries_more (k ∷ kinds) (n ∷ numbers) e same =
     ap (λ l. entry_of k n ∷ l) (entries_more kinds _ e (omega (arith, same)))
 
 -- setting a number sets the number of an entry
-pub number_set : (kinds : List EventShape) (numbers : List ℕ) (p n : ℕ)
+pub number_set : (kinds : List EntryKind) (numbers : List ℕ) (p n : ℕ)
     → entries_from kinds (set numbers p n)
     ≡ set (entries_from kinds numbers) p
     (entry_of (kind_in (entry_at (entries_from kinds numbers) p)) n)
@@ -100,7 +110,7 @@ number_set (k ∷ kinds) (m ∷ numbers) (suc p) n =
     ap (λ l. entry_of k m ∷ l) (number_set kinds numbers p n)
 
 -- the first kinds and numbers are those of the first entries
-pub entries_first : (count : ℕ) (kinds : List EventShape) (numbers : List ℕ)
+pub entries_first : (count : ℕ) (kinds : List EntryKind) (numbers : List ℕ)
     → entries_from (take count kinds) (take count numbers) ≡ take count (entries_from kinds numbers)
 entries_first zero kinds numbers = refl
 entries_first (suc count) [] numbers = refl
@@ -108,7 +118,7 @@ entries_first (suc count) (k ∷ kinds) [] = refl
 entries_first (suc count) (k ∷ kinds) (n ∷ numbers) =
     ap (λ l. entry_of k n ∷ l) (entries_first count _ _)
 
-pub popped_entries : (kinds : List EventShape) (numbers : List ℕ) (count : ℕ) → count ≡ length kinds
+pub popped_entries : (kinds : List EntryKind) (numbers : List ℕ) (count : ℕ) → count ≡ length kinds
     → length kinds ≡ length numbers → entries_from (take (count - 1) kinds)
     (take (length numbers - 1) numbers)
     ≡ take (length (entries_from kinds numbers) - 1) (entries_from kinds numbers)

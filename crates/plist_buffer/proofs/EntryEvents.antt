@@ -1,13 +1,14 @@
 -- The events that the entries of a table represent, and how each call maintains their invariants.
-use Rattle.std.proofs.Common.{◌≡◌, eqb, ◌⊎◌, inl, inr, ℕ, zero, suc, ◌+◌, ◌^◌, ◌<◌, Bool, true, false, if◌then◌else◌, None, Some, Result, Ok, Err, OnOk, OnErr, List, [], ◌∷◌, ◌++◌, length, set, slice_get, reverse, refl, ap, sym, ◌∙◌, subst, arith}
+use Rattle.std.proofs.Common.{◌≡◌, eqb, ◌⊎◌, inl, inr, ℕ, zero, suc, ◌+◌, ◌^◌, ◌<◌, Bool, true, false, if◌then◌else◌, ◌≤◌, Option, None, Some, Result, Ok, Err, OnOk, OnErr, List, [], ◌∷◌, ◌++◌, length, set, slice_get, reverse, refl, ap, sym, ◌∙◌, subst, arith}
 use Rattle.std.proofs.Math.ListN.{get_or-append}
 use Rattle.std.proofs.Math.Seq.{get_or-append_seam, map-set_same}
 use Rattle.std.proofs.lemmas.Bool.{eq-eqb, ne_eqb}
 use Rattle.std.proofs.lemmas.Bool.Decides.{eqb_tells, leb_tells}
 use Rattle.std.proofs.lemmas.List.{length-map, length-append, length-set, map-append, reverse-append, get_or-map, get_or_past}
 use Rattle.std.proofs.lemmas.List.Folds.{list_any-append, list_any_at}
-use Rattle.std.proofs.lemmas.Option.{get_or_from_slice_get, slice_get-get_or}
+use Rattle.std.proofs.lemmas.Option.{slice_get_within}
 use Rattle.std.specs.List.{list_any}
+use Rattle.std.specs.Option.{unwrap_or}
 use Rattle.std.specs.Prelude.{◌||◌}
 use Rattle.plist_base.specs.Bracketing.{without_length}
 use Rattle.plist_base.specs.Events.{PlainEvent, EndCollection, ScalarEvent}
@@ -15,21 +16,24 @@ use Rattle.plist_base.specs.Trees.{Scalar}
 use Rattle.plist_buffer.specs.declared.entries.EventEntry.{EventEntry}
 use Rattle.plist_buffer.specs.declared.entries.EventEntry.TheVariants as entry
 use Rattle.plist_buffer.specs.EventTable.{event_at}
-use Rattle.plist_buffer.specs.inner.Columns.{scalar_named}
-use Rattle.plist_buffer.specs.inner.Entries.{AreDistinct, is_leaf, entry_at, event_of_entry, events_of_entries, is_sound, is_start, index_after_entry, index_after_at, closed_at, ended_at, names, AreEntriesOf, IsValidTable}
+use Rattle.plist_buffer.specs.declared.entries.ScalarNumber.{ScalarNumber}
+use Rattle.plist_buffer.specs.declared.entries.ScalarNumber.TheVariants.{Small, Long}
+use Rattle.plist_buffer.specs.inner.Columns.{scalar_named, index_of_number}
+use Rattle.plist_buffer.specs.inner.Entries.{AreDistinct, ScalarLists, all_scalars, event_numbered, same_number, scalar_numbered, is_leaf, entry_at, event_of_entry, events_of_entries, is_sound, is_start, index_after_entry, index_after_at, closed_at, ended_at, names, AreEntriesOf, IsValidTable}
 use Rattle.plist_buffer.specs.inner.UnclosedStarts.{unclosed_after_event, unclosed_after, skip_after_event, skip_after, without_innermost}
 use Rattle.plist_buffer.proofs.Changes.{at_set, at_more}
-use Rattle.plist_buffer.proofs.Columns.{unnamed}
+use Rattle.plist_buffer.proofs.Columns.{indexed, unnamed}
+use Rattle.plist_buffer.proofs.SetKeys.{first_of_both, second_of_both}
 use Rattle.plist_buffer.proofs.OpenStarts as opened
 use Rattle.plist_buffer.proofs.OpenStarts.{open_more, skip_more, skip_ends, skip_forward, innermost_starts}
 
 -- ---- the events of entries
 
-pub long_shown : (scalars : List PlainEvent) (es : List EventEntry)
+pub long_shown : (scalars : ScalarLists) (es : List EventEntry)
     → length (events_of_entries scalars es) ≡ length es
 long_shown scalars es = length-map es _
 
-shown_more : (scalars : List PlainEvent) (es : List EventEntry) (e : EventEntry)
+shown_more : (scalars : ScalarLists) (es : List EventEntry) (e : EventEntry)
     → events_of_entries scalars (es ++ e ∷ []) ≡ events_of_entries scalars es ++ event_of_entry scalars e ∷ []
 shown_more scalars es e = map-append _ es _
 
@@ -41,7 +45,7 @@ entry_last : (es : List EventEntry) (e : EventEntry) → entry_at (es ++ e ∷ [
 entry_last es e = get_or-append_seam es e [] _
 
 -- if an entry refers to a scalar, one still does after another entry is appended
-named_more : (i : ℕ) (es : List EventEntry) (e : EventEntry) → list_any (names i) es ≡ true
+named_more : (i : ScalarNumber) (es : List EventEntry) (e : EventEntry) → list_any (names i) es ≡ true
     → list_any (names i) (es ++ e ∷ []) ≡ true
 named_more i es e h =
     cc (list_any-append (names i) es (e ∷ []))
@@ -58,28 +62,64 @@ leaf_is : (e : PlainEvent) → is_leaf e ≡ true → (x : Scalar) × (e ≡ Sca
 leaf_is (ScalarEvent x) h = (x, refl)
 leaf_is e h = cc
 
--- a scalar at an index is in the list
-pub leaf_stored : (scalars : List PlainEvent) (i : ℕ) → is_leaf (event_at scalars i) ≡ true
-    → slice_get scalars i ≡ Some (event_at scalars i)
-leaf_stored scalars i leaf =
-    slice_get-get_or scalars i EndCollection (below is_leaf scalars i refl leaf)
+-- a scalar with a number is stored
+pub leaf_stored : (scalars : ScalarLists) (number : ScalarNumber)
+    → is_leaf (event_numbered scalars number) ≡ true
+    → scalar_numbered scalars number ≡ Some (event_numbered scalars number)
+leaf_stored scalars number leaf = by (scalar_numbered scalars number) leaf
+  where
+    by : (found : Option PlainEvent) → is_leaf (unwrap_or found EndCollection) ≡ true
+        → found ≡ Some (unwrap_or found EndCollection)
+    by None h = cc
+    by (Some e) h = refl
+
+pub numbered_is : (scalars : ScalarLists) (number : ScalarNumber) (e : PlainEvent)
+    → scalar_numbered scalars number ≡ Some e → event_numbered scalars number ≡ e
+numbered_is scalars number e h = ap (λ o. unwrap_or o EndCollection) h
+
+-- a scalar with a number is the one with its index among all scalars
+pub stored_among_all : (scalars : ScalarLists) (number : ScalarNumber) (e : PlainEvent)
+    → scalar_numbered scalars number ≡ Some e
+    → slice_get (all_scalars scalars) (index_of_number scalars number) ≡ Some e
+stored_among_all scalars (Small i) e h = first_of_both scalars.small scalars.long i e h
+stored_among_all scalars (Long i) e h = second_of_both scalars.small scalars.long i e h
+
+-- different numbers have different indices
+same_numbers : (scalars : ScalarLists) (m n : ScalarNumber) (d e : PlainEvent)
+    → scalar_numbered scalars m ≡ Some d → scalar_numbered scalars n ≡ Some e
+    → index_of_number scalars m ≡ index_of_number scalars n → m ≡ n
+same_numbers scalars (Small i) (Small j) d e p q is = ap Small is
+same_numbers scalars (Long i) (Long j) d e p q is = ap Long (omega (arith, is))
+same_numbers scalars (Small i) (Long j) d e p q is =
+    absurd (omega (arith, is, slice_get_within scalars.small i d p))
+same_numbers scalars (Long i) (Small j) d e p q is =
+    absurd (omega (arith, is, slice_get_within scalars.small j e q))
+
+number_same : (n : ScalarNumber) → same_number n n ≡ true
+number_same (Small i) = eq-eqb i i refl
+number_same (Long i) = eq-eqb i i refl
 
 leaf_without_length : (e : PlainEvent) → is_leaf e ≡ true → without_length e ≡ e
 leaf_without_length e h = let f = leaf_is e h in rw f.1 refl
 
+-- no scalar is lost
+abbrev Keeps : (old new : ScalarLists) → Type 0
+Keeps old new = (number : ScalarNumber) (e : PlainEvent) → scalar_numbered old number ≡ Some e
+    → scalar_numbered new number ≡ Some e
+
 -- more scalars change no event of the entries
-module _ (old more : List PlainEvent) where
-  one_kept : (e : EventEntry) → is_sound old e ≡ true → (is_sound (old ++ more) e ≡ true)
-      × (event_of_entry (old ++ more) e ≡ event_of_entry old e)
-  one_kept (entry.Scalar i) h =
+module _ (old new : ScalarLists) (keeps : Keeps old new) where
+  one_kept : (e : EventEntry) → is_sound old e ≡ true → (is_sound new e ≡ true)
+      × (event_of_entry new e ≡ event_of_entry old e)
+  one_kept (entry.Scalar number) h =
       let same
-      = get_or-append old _ _ i (below is_leaf old i refl h) in
+      = numbered_is new number _ (keeps number _ (leaf_stored old number h)) in
       (ap is_leaf same ∙ h, ap without_length same)
   one_kept e h = (refl, refl)
 
   shown_kept : (es : List EventEntry) → ((p : ℕ) → p < length es
       → is_sound old (entry_at es p) ≡ true)
-      → events_of_entries (old ++ more) es ≡ events_of_entries old es
+      → events_of_entries new es ≡ events_of_entries old es
   shown_kept [] sound = refl
   shown_kept (e ∷ es) sound =
       λ i. (one_kept e (sound 0 (omega arith))).1 i
@@ -87,7 +127,7 @@ module _ (old more : List PlainEvent) where
 
 -- ---- one more event
 
-module _ {scalars : List PlainEvent} {es : List EventEntry} {unclosed : List ℕ}
+module _ {scalars : ScalarLists} {es : List EventEntry} {unclosed : List ℕ}
     (t : AreEntriesOf scalars es unclosed) where
   abbrev events : List PlainEvent
   events = events_of_entries scalars es
@@ -146,10 +186,10 @@ module _ {scalars : List PlainEvent} {es : List EventEntry} {unclosed : List ℕ
       (λ p lt. ap (index_after_entry p) (entry_before es e p lt) ∙ sym (same p (index_after_at es p)))
       (ap (index_after_entry (length es)) (entry_last es e) ∙ following)
 
-  entries_scalar : (i : ℕ) → is_leaf (event_at scalars i) ≡ true
+  entries_scalar : (i : ScalarNumber) → is_leaf (event_numbered scalars i) ≡ true
       → AreEntriesOf scalars (es ++ entry.Scalar i ∷ []) unclosed
   entries_scalar i leaf =
-      let f = leaf_is (event_at scalars i) leaf in
+      let f = leaf_is (event_numbered scalars i) leaf in
       entries_more (entry.Scalar i) unclosed leaf refl (rw f.1 t.starts) (λ p k. rw f.1 refl)
 
   entries_start : (e : EventEntry) → is_start e ≡ true → index_after_entry (length es) e ≡ length es + 1
@@ -204,7 +244,7 @@ module _ {scalars : List PlainEvent} {es : List EventEntry} {unclosed : List ℕ
         by (entry.Dictionary following) n = dictionary n following
         by e n = refl
 
-    same_named : (i : ℕ) (l : List EventEntry) (p : ℕ) (e : EventEntry) → p < length l
+    same_named : (i : ScalarNumber) (l : List EventEntry) (p : ℕ) (e : EventEntry) → p < length l
         → names i e ≡ names i (entry_at l p)
         → list_any (names i) (set l p e) ≡ list_any (names i) l
     same_named i [] p e lt h = refl
@@ -212,7 +252,7 @@ module _ {scalars : List PlainEvent} {es : List EventEntry} {unclosed : List ℕ
     same_named i (d ∷ l) (suc p) e lt h =
         ap (λ b. names i d || b) (same_named i l p e (omega arith) h)
 
-    closing_used : (i : ℕ) → list_any (names i) (ended_at es start) ≡ list_any (names i) ended
+    closing_used : (i : ScalarNumber) → list_any (names i) (ended_at es start) ≡ list_any (names i) ended
     closing_used i = same_named i _ _ closing within
         (closing_same (names i) (λ m n. refl) (λ m n. refl))
 
@@ -231,7 +271,7 @@ module _ {scalars : List PlainEvent} {es : List EventEntry} {unclosed : List ℕ
     closing_behind (entry.Dictionary following) n h s = refl
     closing_behind (entry.Scalar i) n h s =
         let f = leaf_is _ h in
-        let never : opened.is_start (without_length (event_at scalars i))
+        let never : opened.is_start (without_length (event_numbered scalars i))
         ≡ false = rw f.1 refl in cc
     closing_behind entry.End n h s = cc
 
@@ -239,7 +279,7 @@ module _ {scalars : List PlainEvent} {es : List EventEntry} {unclosed : List ℕ
         → opened.is_start (event_of_entry scalars e) ≡ true → is_start e ≡ true
     start_of (entry.Scalar i) h s =
         let f = leaf_is _ h in
-        let never : opened.is_start (without_length (event_at scalars i))
+        let never : opened.is_start (without_length (event_numbered scalars i))
         ≡ false = rw f.1 refl in cc
     start_of entry.End h s = cc
     start_of e h s = refl
@@ -285,68 +325,109 @@ pub either : {T E : Type 0} (r : Result T E) {es more now : List EventEntry} (P 
 either (Ok x) P is same new old = rw is new
 either (Err x) P is same new old = rw same old
 
-module _ {scalars : List PlainEvent} {es : List EventEntry} {unclosed : List ℕ}
+-- after a call that stored the scalar e unless it was there, it has this number
+pub record Grown (old new : ScalarLists) (number : ScalarNumber) (e : PlainEvent) : Type 0 where
+  pub keeps : Keeps old new
+  pub stored : scalar_numbered new number ≡ Some e
+  pub apart : AreDistinct (all_scalars new)
+  pub came : (other : ScalarNumber) (d : PlainEvent) → scalar_numbered new other ≡ Some d
+      → (scalar_numbered old other ≡ Some d) ⊎ (scalar_numbered new other ≡ Some e)
+  pub one : length new.small + length new.long ≤ length old.small + length old.long + 1
+
+-- a scalar that was there has its number
+pub grown_none : (scalars : ScalarLists) (number : ScalarNumber) (e : PlainEvent)
+    → AreDistinct (all_scalars scalars) → scalar_numbered scalars number ≡ Some e
+    → Grown scalars scalars number e
+grown_none scalars number e apart stored = record {
+  keeps = λ other d h. h;
+  stored = stored;
+  apart = apart;
+  came = λ other d h. inl h;
+  one = omega arith;
+}
+
+module _ {scalars : ScalarLists} {es : List EventEntry} {unclosed : List ℕ}
     (kept : IsValidTable scalars es unclosed) where
-  still_used : (e : EventEntry) (i : ℕ) → i < length scalars → list_any (names i) (es
-      ++ e ∷ []) ≡ true
-  still_used e i lt = named_more i es e (kept.used i lt)
+  still_used : (e : EventEntry) (i : ScalarNumber) (d : PlainEvent)
+      → scalar_numbered scalars i ≡ Some d → list_any (names i) (es ++ e ∷ []) ≡ true
+  still_used e i d h = named_more i es e (kept.used i d h)
+
+  still_fewer : (e : EventEntry)
+      → length scalars.small + length scalars.long ≤ length (es ++ e ∷ [])
+  still_fewer e = omega (arith, kept.fewer, length-append es (e ∷ []))
 
   pub kept_start : (e : EventEntry) → is_start e ≡ true → index_after_entry (length es) e ≡ length es + 1
       → IsValidTable scalars (es ++ e ∷ []) (unclosed ++ length es ∷ [])
   kept_start e starts following = record {
     apart = kept.apart;
     used = still_used e;
+    fewer = still_fewer e;
     entries_are = entries_start kept.entries_are e starts following;
   }
 
   pub kept_stray : unclosed ≡ [] → IsValidTable scalars (es ++ entry.End ∷ []) []
-  kept_stray none =
-      record { apart = kept.apart; used = still_used entry.End; entries_are = entries_stray kept.entries_are none }
+  kept_stray none = record {
+    apart = kept.apart;
+    used = still_used entry.End;
+    fewer = still_fewer entry.End;
+    entries_are = entries_stray kept.entries_are none;
+  }
 
   pub kept_end : (start : ℕ) (outer : List ℕ) → unclosed ≡ outer ++ start ∷ []
       → IsValidTable scalars (ended_at es start) outer
   kept_end start outer is = record {
     apart = kept.apart;
-    used = λ i lt. closing_used kept.entries_are start outer is i ∙ still_used entry.End i lt;
+    used = λ i d h. closing_used kept.entries_are start outer is i ∙ still_used entry.End i d h;
+    fewer = omega (
+      arith,
+      still_fewer entry.End,
+      length-set (es ++ entry.End ∷ []) start (closed_at (entry_at (es ++ entry.End ∷ []) start)
+          (length es + 1)),
+    );
     entries_are = entries_end kept.entries_are start outer is;
   }
 
   -- a scalar is appended, after which there may be one more different scalar
-  module _ (more : List PlainEvent) {new : List PlainEvent} (grown : new ≡ scalars ++ more) where
+  module _ {new : ScalarLists} {i : ScalarNumber} {e : PlainEvent} (leaf : is_leaf e ≡ true)
+      (grown : Grown scalars new i e) where
     grown_shown : events_of_entries new es ≡ events_of_entries scalars es
-    grown_shown = cc (shown_kept scalars more es kept.entries_are.sound)
+    grown_shown = shown_kept scalars new grown.keeps es kept.entries_are.sound
 
-    module _ (i : ℕ) {e : PlainEvent} (leaf : is_leaf e ≡ true)
-        (stored : slice_get new i ≡ Some e) where
-      at : event_at new i ≡ e
-      at = get_or_from_slice_get new i e _ stored
+    at : event_numbered new i ≡ e
+    at = numbered_is new i e grown.stored
 
-      pub scalar_shown : events_of_entries new (es ++ entry.Scalar i ∷ []) ≡ events_of_entries scalars es ++ e ∷ []
-      scalar_shown = shown_more new es (entry.Scalar i)
-          ∙ (λ j. grown_shown j ++ (ap without_length at ∙ leaf_without_length e leaf) j ∷ [])
+    pub scalar_shown : events_of_entries new (es ++ entry.Scalar i ∷ []) ≡ events_of_entries scalars es ++ e ∷ []
+    scalar_shown = shown_more new es (entry.Scalar i)
+        ∙ (λ j. grown_shown j ++ (ap without_length at ∙ leaf_without_length e leaf) j ∷ [])
 
-      -- each scalar was there and is referred to, or is the new one
-      pub kept_scalar : AreDistinct new
-          → ((j : ℕ) → j < length new → (j < length scalars) ⊎ (slice_get new j ≡ Some e))
-          → IsValidTable new (es ++ entry.Scalar i ∷ []) unclosed
-      kept_scalar apart came = record {
-        apart = apart;
-        used = λ j lt. elim (came j lt) [
-          | inl a ↦ still_used (entry.Scalar i) j a
-          | inr b ↦ subst (λ n. list_any (names n) (es ++ entry.Scalar i ∷ []) ≡ true)
-              (apart i j e stored b)
-              (list_any_at (names i) (es ++ entry.Scalar i ∷ []) (length es) entry.End
-              (omega (arith, length-append es (entry.Scalar i ∷ [])))
-              (ap (names i) (entry_last es (entry.Scalar i)) ∙ eq-eqb i i refl))
-        ];
-        entries_are = entries_scalar
-            (record {
-              sound = λ p lt. ap (λ l. is_sound l (entry_at es p)) grown
-                  ∙ (one_kept scalars more (entry_at es p) (kept.entries_are.sound p lt)).0;
-              starts = kept.entries_are.starts ∙ ap unclosed_after (sym grown_shown);
-              skips = λ p lt. kept.entries_are.skips p lt ∙ ap (λ l. skip_after l p) (sym grown_shown);
-            }) i (ap is_leaf at ∙ leaf);
-      }
+    -- the appended entry refers to the scalar
+    refers : list_any (names i) (es ++ entry.Scalar i ∷ []) ≡ true
+    refers = list_any_at (names i) (es ++ entry.Scalar i ∷ []) (length es) entry.End
+        (omega (arith, length-append es (entry.Scalar i ∷ [])))
+        (ap (names i) (entry_last es (entry.Scalar i)) ∙ number_same i)
+
+    -- two numbers of this scalar are one
+    only : (j : ScalarNumber) → scalar_numbered new j ≡ Some e → i ≡ j
+    only j h = same_numbers new i j e e grown.stored h
+        (grown.apart _ _ e (stored_among_all new i e grown.stored) (stored_among_all new j e h))
+
+    -- each scalar was there and is referred to, or is the new one
+    pub kept_scalar : IsValidTable new (es ++ entry.Scalar i ∷ []) unclosed
+    kept_scalar = record {
+      apart = grown.apart;
+      used = λ j d h. elim (grown.came j d h) [
+        | inl a ↦ still_used (entry.Scalar i) j d a
+        | inr b ↦ subst (λ n. list_any (names n) (es ++ entry.Scalar i ∷ []) ≡ true) (only j b) refers
+      ];
+      fewer = omega (arith, grown.one, kept.fewer, length-append es (entry.Scalar i ∷ []));
+      entries_are = entries_scalar
+          (record {
+            sound = λ p lt. (one_kept scalars new grown.keeps (entry_at es p)
+                (kept.entries_are.sound p lt)).0;
+            starts = kept.entries_are.starts ∙ ap unclosed_after (sym grown_shown);
+            skips = λ p lt. kept.entries_are.skips p lt ∙ ap (λ l. skip_after l p) (sym grown_shown);
+          }) i (ap is_leaf at ∙ leaf);
+    }
 
   -- ---- what is read of an entry
 
@@ -357,20 +438,32 @@ module _ {scalars : List PlainEvent} {es : List EventEntry} {unclosed : List ℕ
     there : event_at (events_of_entries scalars es) index ≡ event_of_entry scalars (entry_at es index)
     there = shown_at kept.entries_are _ lt
 
-    pub no_scalar : scalar_named (entry_at es index) ≡ None
+    pub no_scalar : scalar_named scalars (entry_at es index) ≡ None
         → is_leaf (event_at (events_of_entries scalars es) index) ≡ false
     no_scalar none = ap is_leaf there ∙ unnamed scalars (entry_at es index) none
 
-    module _ {k : ℕ} (is : entry_at es index ≡ entry.Scalar k) where
-      leaf_here : is_leaf (event_at scalars k) ≡ true
+    module _ {number : ScalarNumber} (is : entry_at es index ≡ entry.Scalar number) where
+      leaf_here : is_leaf (event_numbered scalars number) ≡ true
       leaf_here = cc (kept.entries_are.sound index lt)
 
-      stored : event_at (events_of_entries scalars es) index ≡ event_at scalars k
-      stored = there ∙ ap (event_of_entry scalars) is ∙ leaf_without_length _ leaf_here
+      stored_here : event_at (events_of_entries scalars es) index ≡ event_numbered scalars number
+      stored_here = there ∙ ap (event_of_entry scalars) is ∙ leaf_without_length _ leaf_here
 
-      pub scalar_stored : slice_get scalars k ≡ Some (event_at (events_of_entries scalars es) index)
-      scalar_stored = slice_get-get_or _ k EndCollection (below is_leaf scalars k refl leaf_here)
-          ∙ ap Some (sym stored)
+      pub scalar_there : scalar_numbered scalars number
+          ≡ Some (event_at (events_of_entries scalars es) index)
+      scalar_there = leaf_stored scalars number leaf_here ∙ ap Some (sym stored_here)
+
+      pub scalar_leaf : is_leaf (event_at (events_of_entries scalars es) index) ≡ true
+      scalar_leaf = ap is_leaf stored_here ∙ leaf_here
+
+    module _ {k : ℕ} (is : scalar_named scalars (entry_at es index) ≡ Some k) where
+      pub scalar_stored : slice_get (all_scalars scalars) k
+          ≡ Some (event_at (events_of_entries scalars es) index)
+      scalar_stored =
+          let f = indexed scalars (entry_at es index) k is in
+          subst (λ n. slice_get (all_scalars scalars) n
+          ≡ Some (event_at (events_of_entries scalars es) index)) f.2
+          (stored_among_all scalars f.0 _ (scalar_there f.1))
 
       pub scalar_is_leaf : is_leaf (event_at (events_of_entries scalars es) index) ≡ true
-      scalar_is_leaf = ap is_leaf stored ∙ leaf_here
+      scalar_is_leaf = scalar_leaf (indexed scalars (entry_at es index) k is).1

@@ -1,21 +1,20 @@
 -- Buffered events are those of a tree without their lengths.
 use Rattle.std.proofs.Common.{◌≡◌, List, [], ◌∷◌, map, refl, sym, ◌∙◌}
 use Rattle.plist_base.specs.Bracketing.{bracketing, lengthless, without_length, AreAlike, AreTreeEvents}
-use Rattle.plist_base.specs.Events.{PlainEvent}
 use Rattle.plist_base.specs.Trees.{Tree}
 use Rattle.plist_base.proofs.Lengths.{lengthless-is, without_length-twice}
 use Rattle.plist_buffer.specs.declared.entries.EventEntry.{EventEntry}
 use Rattle.plist_buffer.specs.declared.entries.EventEntry.TheVariants as entry
 use Rattle.plist_buffer.specs.declared.event_table.EventTable.{EventTable}
 use Rattle.plist_buffer.specs.EventTable.{plain_events, IsBracketed}
-use Rattle.plist_buffer.specs.inner.Entries.{event_of_entry, events_of_entries}
+use Rattle.plist_buffer.specs.inner.Entries.{ScalarLists, event_of_entry, events_of_entries}
 
-shown_twice : (scalars : List PlainEvent) (e : EventEntry)
+shown_twice : (scalars : ScalarLists) (e : EventEntry)
     → without_length (event_of_entry scalars e) ≡ event_of_entry scalars e
-shown_twice scalars (entry.Scalar index) = without_length-twice _
+shown_twice scalars (entry.Scalar number) = without_length-twice _
 shown_twice scalars e = refl
 
-all_twice : (scalars : List PlainEvent) (es : List EventEntry)
+all_twice : (scalars : ScalarLists) (es : List EventEntry)
     → map without_length (events_of_entries scalars es) ≡ events_of_entries scalars es
 all_twice scalars [] = refl
 all_twice scalars (e ∷ es) =

@@ -15,3 +15,5 @@ pub mod Uniques
 pub mod SetKeys
 pub mod Innermost
 pub mod ChildIndices
+pub mod Padding
+pub mod GrownScalars

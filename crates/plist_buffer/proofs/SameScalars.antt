@@ -1,13 +1,17 @@
 -- The tests of scalars decide whether two of them are equal.
-use Rattle.std.proofs.Common.{◌≡◌, ◌∙◌, ◌⊎◌, inl, inr, ℕ, Bool, true, false, List, ap, sym, subst}
+use Rattle.std.proofs.Common.{◌≡◌, ◌∙◌, ◌⊎◌, inl, inr, ℕ, ◌≤◌, Bool, true, false, List, ap, sym, subst, arith}
 use Rattle.std.specs.Str.{bytes_eq}
 use Rattle.std.proofs.lemmas.Bool.{cases_Bool, both_ways as never_both}
 use Rattle.std.proofs.lemmas.Slice.Eq.{bytes_eq-Decides}
 use Rattle.plist_base.specs.Events.{ScalarEvent}
 use Rattle.plist_base.specs.Scalars.{scalar_eq, scalar_is, scalar_refl}
 use Rattle.plist_base.specs.Trees.{Scalar}
-use Rattle.plist_buffer.specs.StoredScalars.{scalar_of, event_of_scalar}
-use Rattle.plist_buffer.specs.declared.stored_scalar.StoredScalar.{StoredScalar}
+use Rattle.plist_buffer.specs.StoredScalars.{scalar_of_small, scalar_of_long, event_of_small, event_of_long}
+use Rattle.plist_buffer.specs.declared.long_scalar.LongScalar.{LongScalar}
+use Rattle.plist_buffer.specs.declared.small_scalar.SmallScalar.{SmallScalar}
+use Rattle.plist_buffer.specs.declared.small_scalar.SmallScalar.TheVariants as small
+use Rattle.plist_buffer.specs.inner.LongContents.{bytes_in_scalar}
+use Rattle.plist_buffer.proofs.Padding.{short_length}
 
 -- a test's result, which says whether the two are equal
 abbrev pub Answers : {K : Type 0} → Bool → K → K → Type 0
@@ -53,16 +57,44 @@ scalars_tell a b =
 
 -- ---- stored scalars
 
--- equality of stored scalars
-abbrev pub stored_eq : StoredScalar → StoredScalar → Bool
-stored_eq a b = scalar_eq (scalar_of a) (scalar_of b)
+-- equality of small scalars
+abbrev pub small_eq : SmallScalar → SmallScalar → Bool
+small_eq a b = scalar_eq (scalar_of_small a) (scalar_of_small b)
 
--- equal stored scalars have the same event
-pub stored_same : (a b : StoredScalar) → stored_eq a b ≡ true → event_of_scalar a ≡ event_of_scalar b
-stored_same a b h = ap ScalarEvent (scalar_is (scalar_of a) (scalar_of b) h)
+-- equality of long scalars
+abbrev pub long_eq : LongScalar → LongScalar → Bool
+long_eq a b = scalar_eq (scalar_of_long a) (scalar_of_long b)
 
--- stored scalars with the same event are equal
-pub same_stored : (a b : StoredScalar) → event_of_scalar a ≡ event_of_scalar b → stored_eq a b ≡ true
-same_stored a b h =
-    let e : scalar_of a ≡ scalar_of b = cc in
-    subst (λ x. scalar_eq (scalar_of a) x ≡ true) e (scalar_refl (scalar_of a))
+-- equal scalars have the same event
+same_event : (a b : Scalar) → scalar_eq a b ≡ true → ScalarEvent a ≡ ScalarEvent b
+same_event a b h = ap ScalarEvent (scalar_is a b h)
+
+-- scalars with the same event are equal
+event_same : (a b : Scalar) → ScalarEvent a ≡ ScalarEvent b → scalar_eq a b ≡ true
+event_same a b h =
+    let e : a ≡ b = cc in
+    subst (λ x. scalar_eq a x ≡ true) e (scalar_refl a)
+
+pub small_same : (a b : SmallScalar) → small_eq a b ≡ true → event_of_small a ≡ event_of_small b
+small_same a b h = same_event (scalar_of_small a) (scalar_of_small b) h
+
+pub same_small : (a b : SmallScalar) → event_of_small a ≡ event_of_small b → small_eq a b ≡ true
+same_small a b h = event_same (scalar_of_small a) (scalar_of_small b) h
+
+pub long_same : (a b : LongScalar) → long_eq a b ≡ true → event_of_long a ≡ event_of_long b
+long_same a b h = same_event (scalar_of_long a) (scalar_of_long b) h
+
+pub same_long : (a b : LongScalar) → event_of_long a ≡ event_of_long b → long_eq a b ≡ true
+same_long a b h = event_same (scalar_of_long a) (scalar_of_long b) h
+
+-- a small string or small data has at most eight bytes
+small_bytes : (a : SmallScalar) → bytes_in_scalar (scalar_of_small a) ≤ 8
+small_bytes (small.String text) = omega (arith, short_length text.content, text.content.fits)
+small_bytes (small.Data bytes) = omega (arith, short_length bytes, bytes.fits)
+small_bytes a = omega arith
+
+-- no small scalar is a long one
+pub small_or_long : (a : SmallScalar) (b : LongScalar) → event_of_small a ≡ event_of_long b → ⊥
+small_or_long a b h =
+    let e : scalar_of_small a ≡ scalar_of_long b = cc in
+    omega (arith, small_bytes a, b.long, ap bytes_in_scalar e)

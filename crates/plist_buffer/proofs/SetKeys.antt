@@ -1,11 +1,11 @@
 -- Keys of a set: equal keys have the same view.
-use Rattle.std.proofs.Common.{◌≡◌, ◌⊎◌, inl, inr, ℕ, zero, suc, ◌+◌, ◌<◌, ◌≤◌, Bool, true, false, if◌then◌else◌, List, [], ◌∷◌, ◌++◌, length, map, take, position, Some, refl, sym, ap, ◌∙◌, arith, append-nil}
+use Rattle.std.proofs.Common.{◌≡◌, ◌⊎◌, inl, inr, ℕ, zero, suc, ◌+◌, ◌<◌, ◌≤◌, Bool, true, false, if◌then◌else◌, List, [], ◌∷◌, ◌++◌, length, map, take, position, Some, refl, sym, ap, ◌∙◌, subst, arith, append-nil}
 use Rattle.std.proofs.Math.Seq.{take-append_seam, take-length}
 use Rattle.std.proofs.lemmas.List.{length-append, map-append}
 use Rattle.std.proofs.lemmas.List.Quantifiers.{position-Some}
 use Rattle.std.specs.Prelude.{slice_get}
 use Rattle.std.specs.List.{AllByRecursion, IsDistinct}
-use Rattle.std.proofs.lemmas.Option.{slice_get-map, slice_get-get_or}
+use Rattle.std.proofs.lemmas.Option.{slice_get-map, slice_get-get_or, slice_get_within}
 use Rattle.plist_buffer.specs.inner.Entries.{AreDistinct}
 
 module _ {T P : Type 0} (same : T → T → Bool) (view : T → P) where
@@ -68,6 +68,19 @@ module _ {T P : Type 0} (same : T → T → Bool) (view : T → P) where
           | inr r ↦ inr r
         ]
 
+    -- no key is lost
+    pub keys_extend : (i : ℕ) (k : P) → slice_get (map view old) i ≡ Some k
+        → slice_get (map view new) i ≡ Some k
+    keys_extend i k h = keys_kept i (slice_get_within (map view old) i k h) ∙ h
+
+    -- a key was there, or it is the inserted one
+    pub keys_from : (i : ℕ) (k : P) → slice_get (map view new) i ≡ Some k
+        → (slice_get (map view old) i ≡ Some k) ⊎ (slice_get (map view new) i ≡ Some (view x))
+    keys_from i k h = elim (key_came i (slice_get_within (map view new) i k h)) [
+      | inl l ↦ inl (sym (keys_kept i l) ∙ h)
+      | inr r ↦ inr r
+    ]
+
   -- if only items with the key p pass a test, p is at the index that the test finds
   pub key_found : (test : T → Bool) (p : P) → ((y : T) → test y ≡ true → p ≡ view y) → (cs : List T)
       (i : ℕ) → position test cs ≡ Some i → slice_get (map view cs) i ≡ Some p
@@ -105,3 +118,63 @@ module _ {T P : Type 0} (same : T → T → Bool) (view : T → P) where
     keys_apart (x ∷ cs) d zero (suc j) k p q = absurd (no_key x cs j d.0 (cc))
     keys_apart (x ∷ cs) d (suc i) zero k p q = absurd (no_key x cs i d.0 (cc))
     keys_apart (x ∷ cs) d (suc i) (suc j) k p q = ap suc (keys_apart cs d.1 i j k p q)
+
+-- ---- two lists of keys, one after the other
+
+module _ {K : Type 0} where
+  pub first_of_both : (a b : List K) (i : ℕ) (k : K) → slice_get a i ≡ Some k
+      → slice_get (a ++ b) i ≡ Some k
+  first_of_both [] b i k h = cc
+  first_of_both (x ∷ a) b zero k h = h
+  first_of_both (x ∷ a) b (suc i) k h = first_of_both a b i k h
+
+  pub second_of_both : (a b : List K) (i : ℕ) (k : K) → slice_get b i ≡ Some k
+      → slice_get (a ++ b) (length a + i) ≡ Some k
+  second_of_both [] b i k h =
+      let same : i ≡ length {A = K} [] + i = omega arith in
+      subst (λ n. slice_get b n ≡ Some k) same h
+  second_of_both (x ∷ a) b i k h =
+      let same : suc (length a + i) ≡ length (x ∷ a) + i = omega arith in
+      subst (λ n. slice_get (x ∷ a ++ b) n ≡ Some k) same (second_of_both a b i k h)
+
+  one_of_both : (a b : List K) (i : ℕ) (k : K) → slice_get (a ++ b) i ≡ Some k
+      → (slice_get a i ≡ Some k) ⊎ ((j : ℕ) × (i ≡ length a + j) × (slice_get b j ≡ Some k))
+  one_of_both [] b i k h = inr (i, omega arith, h)
+  one_of_both (x ∷ a) b zero k h = inl h
+  one_of_both (x ∷ a) b (suc i) k h = elim (one_of_both a b i k h) [
+    | inl l ↦ inl l
+    | inr r ↦ inr (r.0, omega (arith, r.1), r.2)
+  ]
+
+  module _ (a b : List K) where
+    pub distinct_first : AreDistinct (a ++ b) → AreDistinct a
+    distinct_first apart i j k p q =
+        apart i j k (first_of_both a b i k p) (first_of_both a b j k q)
+
+    pub distinct_second : AreDistinct (a ++ b) → AreDistinct b
+    distinct_second apart i j k p q =
+        let same = apart (length a + i) (length a + j) k (second_of_both a b i k p)
+        (second_of_both a b j k q) in
+        omega (arith, same)
+
+    -- keys are distinct if those of both lists are, and no key is in both
+    pub distinct_both : AreDistinct a → AreDistinct b
+        → ((i j : ℕ) (k : K) → slice_get a i ≡ Some k → slice_get b j ≡ Some k → ⊥)
+        → AreDistinct (a ++ b)
+    distinct_both first second never i j k p q =
+        by (one_of_both a b i k p) (one_of_both a b j k q)
+      where
+        by : (slice_get a i ≡ Some k) ⊎ ((n : ℕ) × (i ≡ length a + n) × (slice_get b n ≡ Some k))
+            → (slice_get a j ≡ Some k) ⊎ ((n : ℕ) × (j ≡ length a + n) × (slice_get b n ≡ Some k))
+            → i ≡ j
+        by (inl s) (inl t) = first i j k s t
+        by (inl s) (inr t) = absurd (never i t.0 k s t.2)
+        by (inr s) (inl t) = absurd (never j s.0 k t s.2)
+        by (inr s) (inr t) = let same = second s.0 t.0 k s.2 t.2 in omega (arith, same, s.1, t.1)
+
+-- a key of a mapped list is the image of an item
+pub mapped : {T P : Type 0} (view : T → P) (cs : List T) (i : ℕ) (k : P)
+    → slice_get (map view cs) i ≡ Some k → (x : T) × (k ≡ view x)
+mapped view [] i k h = cc
+mapped view (x ∷ cs) zero k h = (x, cc)
+mapped view (x ∷ cs) (suc i) k h = mapped view cs i k h

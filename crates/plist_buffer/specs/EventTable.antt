@@ -1,30 +1,34 @@
 -- The events of a table, and the indices of trees among them.
-use Rattle.std.specs.Prelude.{◌≡◌, ℕ, ◌+◌, ◌<◌, ◌≤◌, Bool, true, false, List, [], ◌∷◌, length, slice_index, slice_index_or, map, ◌++◌, ◌⊎◌, Some, slice_get}
+use Rattle.std.specs.Prelude.{◌≡◌, ℕ, ◌+◌, ◌<◌, ◌≤◌, Bool, true, false, List, [], ◌∷◌, length, slice_index, slice_index_or, ◌++◌, ◌⊎◌, Some, slice_get}
 use Rattle.plist_base.specs.declared.event.Event.{Event}
 use Rattle.plist_base.specs.Events.{PlainEvent, event_of, EndCollection}
 use Rattle.plist_buffer.specs.declared.event_table.EventTable.{EventTable}
 use Rattle.plist_base.specs.Trees.{Tree, Leaf, Array, Dictionary, Trees, NoTrees, TreeAnd, Members, NoMembers, MemberAnd}
 use Rattle.plist_base.specs.Bracketing.{without_length, lengthless}
-use Rattle.plist_buffer.specs.StoredScalars.{event_of_scalar}
 use Rattle.plist_buffer.specs.Occurrences.{event_count}
-use Rattle.plist_buffer.specs.inner.Entries.{events_of_entries, event_of_entry}
+use Rattle.plist_buffer.specs.inner.Entries.{ScalarLists, all_scalars, lists_of, events_of_entries, event_of_entry}
 use Rattle.plist_buffer.specs.declared.entries.EventEntry.{EventEntry}
 
 -- the event as it is buffered, without the length of a start
 abbrev pub plain_event : Event → PlainEvent
 plain_event event = without_length (event_of event)
 
--- the different scalars, in the order of their first occurrence
+-- the different scalars, in two lists
+abbrev pub lists_in : EventTable → ScalarLists
+lists_in held = lists_of held.small.keys held.long.keys
+
+-- the different scalars: first those that aren't strings or data of more than eight bytes, and then
+-- these, each in the order of their first occurrence
 abbrev pub scalars_of : EventTable → List PlainEvent
-scalars_of held = map event_of_scalar held.scalars.keys
+scalars_of held = all_scalars (lists_in held)
 
 -- the events of a table, without the lengths of starts
 abbrev pub plain_events : EventTable → List PlainEvent
-plain_events held = events_of_entries (scalars_of held) held.entries
+plain_events held = events_of_entries (lists_in held) held.entries
 
 -- the event of an entry
 abbrev pub entry_event : EventTable → EventEntry → PlainEvent
-entry_event held entry = event_of_entry (scalars_of held) entry
+entry_event held entry = event_of_entry (lists_in held) entry
 
 -- is the event an end?
 abbrev pub is_end : PlainEvent → Bool

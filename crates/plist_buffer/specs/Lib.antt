@@ -1,5 +1,6 @@
 pub mod Expects
 pub mod Occurrences
+pub mod ShortContents
 pub mod StoredScalars
 pub mod EventTable
 pub mod Children

@@ -1,11 +1,14 @@
 -- The scalars of a table, as contracts describe them.
-use Rattle.std.specs.String.{string_bytes}
+use Rattle.std.specs.Prelude.{pos}
 use Rattle.plist_base.specs.Events.{PlainEvent, ScalarEvent}
 use Rattle.plist_base.specs.Trees.{Scalar, Boolean, Data, Date, Integer, Real, String, Uid}
+use Rattle.plist_buffer.specs.ShortContents.{short_data, short_string}
 use Rattle.plist_buffer.specs.declared.stored_scalar.ScalarRef.{ScalarRef}
 use Rattle.plist_buffer.specs.declared.stored_scalar.ScalarRef.TheVariants as lent
-use Rattle.plist_buffer.specs.declared.stored_scalar.StoredScalar.{StoredScalar}
-use Rattle.plist_buffer.specs.declared.stored_scalar.StoredScalar.TheVariants as stored
+use Rattle.plist_buffer.specs.declared.small_scalar.SmallScalar.{SmallScalar}
+use Rattle.plist_buffer.specs.declared.small_scalar.SmallScalar.TheVariants as small
+use Rattle.plist_buffer.specs.declared.long_scalar.LongScalar.{LongScalar}
+use Rattle.plist_buffer.specs.inner.LongContents.{scalar_of_content}
 
 -- the scalar that a `ScalarRef` refers to
 abbrev pub scalar_of_ref : ScalarRef → Scalar
@@ -17,20 +20,25 @@ scalar_of_ref (lent.Real bits) = Real bits
 scalar_of_ref (lent.String text) = String text.now
 scalar_of_ref (lent.Uid uid) = Uid uid
 
--- the scalar that is stored
-abbrev pub scalar_of : StoredScalar → Scalar
-scalar_of (stored.Boolean value) = Boolean value
-scalar_of (stored.Date date) = Date date
-scalar_of (stored.Integer value) = Integer value
-scalar_of (stored.Real bits) = Real bits
-scalar_of (stored.Uid uid) = Uid uid
-scalar_of (stored.ShortString text) = String text
-scalar_of (stored.BorrowedString text) = String text.now
-scalar_of (stored.OwnedString text) = String (string_bytes text)
-scalar_of (stored.ShortData bytes) = Data bytes
-scalar_of (stored.BorrowedData bytes) = Data bytes.now
-scalar_of (stored.OwnedData bytes) = Data bytes.items
+-- a small scalar
+abbrev pub scalar_of_small : SmallScalar → Scalar
+scalar_of_small (small.Boolean value) = Boolean value
+scalar_of_small (small.Date date) = Date date
+scalar_of_small (small.Unsigned number) = Integer (pos number)
+scalar_of_small (small.Negative value) = Integer value.number
+scalar_of_small (small.Real bits) = Real bits
+scalar_of_small (small.Uid uid) = Uid uid
+scalar_of_small (small.String text) = String (short_string text)
+scalar_of_small (small.Data bytes) = Data (short_data bytes)
 
--- the event of a stored scalar
-abbrev pub event_of_scalar : StoredScalar → PlainEvent
-event_of_scalar scalar = ScalarEvent (scalar_of scalar)
+-- a long scalar
+abbrev pub scalar_of_long : LongScalar → Scalar
+scalar_of_long stored = scalar_of_content stored.content
+
+-- the event of a small scalar
+abbrev pub event_of_small : SmallScalar → PlainEvent
+event_of_small stored = ScalarEvent (scalar_of_small stored)
+
+-- the event of a long scalar
+abbrev pub event_of_long : LongScalar → PlainEvent
+event_of_long stored = ScalarEvent (scalar_of_long stored)

@@ -1,7 +1,9 @@
 -- Definitions that are used by bodies and proofs. Of these, public clauses rely only on `Columns`,
--- `Entries` and `UnclosedStarts`.
+-- `Entries`, `LongContents` and `UnclosedStarts`.
 pub mod Columns
 pub mod Entries
 pub mod Expected
+pub mod LongContents
+pub mod Padded
 pub mod UnclosedStarts
 pub mod StoredEquality

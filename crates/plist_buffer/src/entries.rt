@@ -2,15 +2,24 @@
 //! takes four bytes as long as the numbers fit.
 
 ghost use Rattle.std.specs.Prelude.{◌≡◌, ◌-◌, ◌^◌, ◌<◌, ◌++◌, ◌∷◌, [], length, set, take, true, OnOk, OnErr};
-ghost use Rattle.plist_buffer.specs.inner.Columns.{entry_of, kind_in, number_in, scalar_named, IsEntryNumber};
+ghost use Rattle.plist_buffer.specs.inner.Columns.{entry_of, kind_in, number_in, scalar_in, shape_of_kind, IsEntryNumber};
 ghost use Rattle.plist_buffer.specs.inner.Entries.{index_after_at, ended_at, entry_at, is_start};
 
 use plist_base::{CompactNumbers, EventShape};
 use std::alloc::{AllocError, Global};
 use std::marker::Model;
 
+/// The number of a scalar: its index among the different small ones, or among the long ones.
+#[derive(Clone, Copy)]
+pub enum ScalarNumber {
+    /// The index of a small scalar.
+    Small(usize),
+    /// The index of a long scalar.
+    Long(usize),
+}
+
 /// A buffered event. A start stores the index after its end, or the index after itself while the
-/// collection is open. A scalar stores its index among the different scalars.
+/// collection is open. A scalar stores its number.
 #[derive(Clone, Copy)]
 pub enum EventEntry {
     /// The start of an array.
@@ -18,38 +27,69 @@ pub enum EventEntry {
     /// The start of a dictionary.
     Dictionary(usize),
     /// A scalar.
-    Scalar(usize),
+    Scalar(ScalarNumber),
     /// The end of a collection.
     End,
 }
 
+/// The kind of an entry.
+#[derive(Clone, Copy)]
+pub enum EntryKind {
+    /// The start of an array.
+    Array,
+    /// The start of a dictionary.
+    Dictionary,
+    /// The end of a collection.
+    End,
+    /// A small scalar.
+    Small,
+    /// A long scalar.
+    Long,
+}
+
 // Returns the kind of an entry.
-fn kind_in(entry: EventEntry) -> EventShape
+#[inline(always)]
+fn kind_in(entry: EventEntry) -> EntryKind
     ensures { result ≡ kind_in entry }
 {
     match entry {
-        EventEntry::Array(_) => EventShape::StartArray,
-        EventEntry::Dictionary(_) => EventShape::StartDictionary,
-        EventEntry::Scalar(_) => EventShape::Scalar,
-        EventEntry::End => EventShape::EndCollection,
+        EventEntry::Array(_) => EntryKind::Array,
+        EventEntry::Dictionary(_) => EntryKind::Dictionary,
+        EventEntry::Scalar(ScalarNumber::Small(_)) => EntryKind::Small,
+        EventEntry::Scalar(ScalarNumber::Long(_)) => EntryKind::Long,
+        EventEntry::End => EntryKind::End,
     }
 }
 
 // Returns the number of an entry, which is 0 for an end.
+#[inline(always)]
 fn number_in(entry: EventEntry) -> usize
     ensures { result ≡ number_in entry }
 {
     match entry {
-        EventEntry::Array(number) | EventEntry::Dictionary(number) | EventEntry::Scalar(number) =>
-            number,
+        EventEntry::Array(following) | EventEntry::Dictionary(following) => following,
+        EventEntry::Scalar(ScalarNumber::Small(index) | ScalarNumber::Long(index)) => index,
         EventEntry::End => 0,
+    }
+}
+
+// Returns how an event with an entry of this kind affects the open collections.
+#[inline(always)]
+fn shape_of_kind(kind: EntryKind) -> EventShape
+    ensures { result ≡ shape_of_kind kind }
+{
+    match kind {
+        EntryKind::Array => EventShape::StartArray,
+        EntryKind::Dictionary => EventShape::StartDictionary,
+        EntryKind::End => EventShape::EndCollection,
+        EntryKind::Small | EntryKind::Long => EventShape::Scalar,
     }
 }
 
 /// A list of entries, stored as a list of kinds and a list of numbers.
 #[derive(Drop)]
 pub struct Entries {
-    kinds: Vec<EventShape>,
+    kinds: Vec<EntryKind>,
     numbers: CompactNumbers,
 }
 
@@ -84,11 +124,20 @@ impl Entries {
     }
 
     /// Returns the kind of the entry at an index, without reading its number.
-    pub fn kind_at(&self, index: usize) -> EventShape
+    #[inline(always)]
+    pub fn kind_at(&self, index: usize) -> EntryKind
         requires { index < length self.now }
         ensures { result ≡ kind_in (entry_at self.now index) }
     {
         self.kinds.as_slice()[index]
+    }
+
+    /// Returns how the event at an index affects the open collections.
+    pub fn shape_at(&self, index: usize) -> EventShape
+        requires { index < length self.now }
+        ensures { result ≡ shape_of_kind (kind_in (entry_at self.now index)) }
+    {
+        shape_of_kind(self.kind_at(index))
     }
 
     // Returns the number of the entry at an index. For an end it is unspecified.
@@ -107,21 +156,21 @@ impl Entries {
         ensures { result ≡ index_after_at self.now index }
     {
         match self.kind_at(index) {
-            EventShape::StartArray | EventShape::StartDictionary => self.number_at(index),
-            EventShape::Scalar | EventShape::EndCollection => index + 1,
+            EntryKind::Array | EntryKind::Dictionary => self.number_at(index),
+            EntryKind::Small | EntryKind::Long | EntryKind::End => index + 1,
         }
     }
 
-    /// If the entry at an index is a scalar, returns its index among the different scalars, and
-    /// otherwise `None`.
-    pub fn scalar(&self, index: usize) -> Option<usize>
+    /// If the entry at an index is a scalar, returns its number, and otherwise `None`.
+    #[inline(always)]
+    pub fn scalar(&self, index: usize) -> Option<ScalarNumber>
         requires { index < length self.now }
-        ensures { result ≡ scalar_named (entry_at self.now index) }
+        ensures { result ≡ scalar_in (entry_at self.now index) }
     {
         match self.kind_at(index) {
-            EventShape::Scalar => Some(self.number_at(index)),
-            EventShape::StartArray | EventShape::StartDictionary | EventShape::EndCollection =>
-                None,
+            EntryKind::Small => Some(ScalarNumber::Small(self.number_at(index))),
+            EntryKind::Long => Some(ScalarNumber::Long(self.number_at(index))),
+            EntryKind::Array | EntryKind::Dictionary | EntryKind::End => None,
         }
     }
 

@@ -6,11 +6,13 @@ ghost use Rattle.plist_base.specs.Events.{EndCollection, ScalarEvent, shape_of};
 ghost use Rattle.plist_base.specs.Outcomes.{OnlyMemory};
 ghost use Rattle.plist_buffer.specs.inner.Entries.{is_leaf, AreValidEntries};
 
-use crate::entries::{Entries, EventEntry};
+use crate::entries::{Entries, EventEntry, ScalarNumber};
 use crate::expects::Expect;
-use crate::stored_scalar::{ScalarRef, StoredScalar};
+use crate::long_scalar::LongScalar;
+use crate::small_scalar::SmallScalar;
+use crate::stored_scalar::ScalarRef;
 use indexmap::IndexSet;
-use plist_base::{CompactNumbers, Error, Event, EventShape};
+use plist_base::{CompactNumbers, Error, Event, EventShape, Integer};
 use std::alloc::{AllocError, Global};
 use std::borrow::{CowSlice, CowStr};
 
@@ -21,24 +23,44 @@ use std::borrow::{CowSlice, CowStr};
 /// must be less than [`EventTable::len`], except in [`EventTable::has_item`].
 #[derive(Drop)]
 pub struct EventTable<'e> {
-    scalars: IndexSet<StoredScalar<'e>>,
+    // The different scalars that aren't strings or data of more than eight bytes.
+    small: IndexSet<SmallScalar>,
+    // The different strings and data of more than eight bytes.
+    long: IndexSet<LongScalar<'e>>,
     entries: Entries,
     // The indices of the open starts, the innermost last.
     unclosed: CompactNumbers,
     // The expected number of different scalars.
     expected: usize,
-    // The number of different scalars at which `make_room` next checks whether their table is full.
-    full_at: usize,
-    ghost kept: { AreValidEntries scalars.keys entries unclosed } by { Prim.hlevel props },
+    // The numbers of small and of long scalars at which `make_room` next checks whether one of
+    // their tables is full.
+    small_full_at: usize,
+    long_full_at: usize,
+    ghost kept: { AreValidEntries small.keys long.keys entries unclosed } by { Prim.hlevel props },
     ghost few: { length entries < 2 ^ 63 },
 }
 
+// Returns for how many scalars a set reserves memory that contains `count` of the `held` scalars,
+// which are fewer than expected. It is assumed that each set grows by the same factor.
+fn additional_scalars(count: usize, held: usize, expected: usize) -> usize
+    requires { held < expected }
+{
+    let missing = expected - held;
+    let factor = (missing / (held + 1)).min(14) + 1;
+    count
+        .saturating_mul(factor)
+        .saturating_add(1000)
+        .min(missing)
+}
+
 impl<'e> EventTable<'e> {
-    ghost use Rattle.plist_buffer.specs.StoredScalars.{event_of_scalar, scalar_of_ref};
+    ghost use Rattle.plist_buffer.specs.StoredScalars.{event_of_long, event_of_small, scalar_of_ref};
     ghost use Rattle.std.specs.Prelude.{[], None, Some, false, slice_get, IfSome, ◌+◌};
-    ghost use Rattle.plist_buffer.specs.EventTable.{plain_event, plain_events, scalars_of, event_at, GrowsBy, HasItem, IsScalarAt, LacksItem, table_event, entry_event};
+    ghost use Rattle.std.specs.Cow.{cow_slice_items, cow_str_bytes};
+    ghost use Rattle.plist_base.specs.Trees.{Data as DataScalar, Integer as IntegerScalar, String as StringScalar};
+    ghost use Rattle.plist_buffer.specs.EventTable.{plain_event, plain_events, scalars_of, lists_in, event_at, GrowsBy, HasItem, IsScalarAt, LacksItem, table_event, entry_event};
     ghost use Rattle.plist_buffer.specs.inner.Columns.{scalar_named};
-    ghost use Rattle.plist_buffer.specs.inner.Entries.{entry_at, is_start, IsUnclosed};
+    ghost use Rattle.plist_buffer.specs.inner.Entries.{entry_at, event_numbered, is_start, scalar_numbered, IsUnclosed};
     ghost use Rattle.plist_buffer.specs.inner.Expected.{expected_inside, innermost};
     ghost use Rattle.plist_buffer.specs.inner.UnclosedStarts.{skip_after};
 
@@ -47,11 +69,13 @@ impl<'e> EventTable<'e> {
         ensures events { plain_events result ≡ [] }
     {
         EventTable {
-            scalars: IndexSet::new(alloc),
+            small: IndexSet::new(alloc),
+            long: IndexSet::new(alloc),
             entries: Entries::new(alloc),
             unclosed: CompactNumbers::new(alloc),
             expected: 0,
-            full_at: 0,
+            small_full_at: 0,
+            long_full_at: 0,
         }
     }
 
@@ -62,31 +86,47 @@ impl<'e> EventTable<'e> {
         ensures events { plain_events self.new ≡ plain_events self.old }
     {
         self.expected = count;
-        self.full_at = 0;
+        self.small_full_at = 0;
+        self.long_full_at = 0;
     }
 
-    // If the table of different scalars is full, reserves memory for the expected ones, but for no
-    // more than 16 n + 1000, where n is the number of scalars in the table. This limits the cost of
-    // a wrong hint. If the allocation fails, the table grows when scalars are added.
+    // If fewer scalars are stored than are expected, and one of their tables is full, reserves
+    // memory for the expected ones, but for no more than 16 n + 1000, where n is the number of
+    // scalars in the table. This limits the cost of a wrong hint. If the allocation fails, the
+    // table grows when scalars are added.
     #[cold]
     #[inline(never)]
     fn reserve_scalars(&mut self)
         ensures events { plain_events self.new ≡ plain_events self.old }
     {
-        let held = self.scalars.len();
-        if held >= self.scalars.capacity() && held < self.expected {
-            let more = held.saturating_mul(15).saturating_add(1000);
-            let _ = self.scalars.reserve(more.min(self.expected - held));
+        let held = self.count_scalars();
+        if held >= self.expected {
+            self.small_full_at = usize::MAX;
+            self.long_full_at = usize::MAX;
+            return;
         }
-        self.full_at = self.scalars.capacity();
+        let small = self.small.len();
+        if small >= self.small.capacity() {
+            let _ = self
+                .small
+                .reserve(additional_scalars(small, held, self.expected));
+        }
+        let long = self.long.len();
+        if long >= self.long.capacity() {
+            let _ = self
+                .long
+                .reserve(additional_scalars(long, held, self.expected));
+        }
+        self.small_full_at = self.small.capacity();
+        self.long_full_at = self.long.capacity();
     }
 
-    // Reserves memory for the expected scalars once the table of different scalars is full.
+    // Reserves memory for the expected scalars once a table of different scalars is full.
     #[inline(always)]
     pub(crate) fn make_room(&mut self)
         ensures events { plain_events self.new ≡ plain_events self.old }
     {
-        if self.scalars.len() >= self.full_at {
+        if self.small.len() >= self.small_full_at || self.long.len() >= self.long_full_at {
             self.reserve_scalars();
         }
     }
@@ -103,7 +143,7 @@ impl<'e> EventTable<'e> {
         ensures count { result ≡ length (scalars_of self.now) }
         ensures small { result < 2 ^ 63 }
     {
-        self.scalars.len()
+        self.small.len() + self.long.len()
     }
 
     /// Returns the kind of the event at an index.
@@ -111,7 +151,7 @@ impl<'e> EventTable<'e> {
         requires { index < length (plain_events self.now) }
         ensures { result ≡ shape_of (table_event self.now index) }
     {
-        self.entries.kind_at(index)
+        self.entries.shape_at(index)
     }
 
     /// Returns whether a tree begins at this index. This is `false` if the event is an end, and if
@@ -138,16 +178,22 @@ impl<'e> EventTable<'e> {
         self.entries.following(index)
     }
 
-    /// If the event at this index is a scalar, returns its index among the different scalars, which
-    /// are in the order of their first occurrence. Otherwise returns `None`.
+    /// If the event at this index is a scalar, returns its index among the different scalars, and
+    /// otherwise `None`. Strings and data of more than eight bytes are the last of the different
+    /// scalars.
     pub fn scalar_index(&self, index: usize) -> Option<usize>
         requires { index < length (plain_events self.now) }
         ensures some { IfSome result (IsScalarAt self.now index) }
         ensures leaf { IfSome result (λ _. is_leaf (table_event self.now index) ≡ true) }
-        ensures named { result ≡ scalar_named (entry_at self.now.entries index) }
+        ensures named { result
+            ≡ scalar_named (lists_in self.now) (entry_at self.now.entries index) }
         ensures none { result ≡ None → is_leaf (table_event self.now index) ≡ false }
     {
-        self.entries.scalar(index)
+        match self.entries.scalar(index) {
+            Some(ScalarNumber::Small(small)) => Some(small),
+            Some(ScalarNumber::Long(long)) => Some(self.small.len() + long),
+            None => None,
+        }
     }
 
     /// Returns the scalar at this index, or `None` if the event isn't a scalar. The function is
@@ -159,9 +205,10 @@ impl<'e> EventTable<'e> {
             ≡ ScalarEvent (scalar_of_ref scalar)) }
         ensures none { result ≡ None → is_leaf (table_event self.now index) ≡ false }
     {
-        let scalar = self.scalar_index(index)?;
-        let stored = self.scalars.get_index(scalar)?;
-        Some(stored.get())
+        match self.entries.scalar(index)? {
+            ScalarNumber::Small(small) => Some(self.small.get_index(small)?.get()),
+            ScalarNumber::Long(long) => Some(self.long.get_index(long)?.get()),
+        }
     }
 
     // Returns what is expected in the innermost open collection, or `None` if none is open.
@@ -213,43 +260,106 @@ impl<'e> EventTable<'e> {
         }
     }
 
-    // Returns the index of a scalar among the different ones, or `None` if no equal one is stored.
+    // Returns the index of a scalar among the long ones, or `None` if no equal one is stored.
     #[inline(always)]
-    fn find(&self, scalar: &StoredScalar<'_>) -> Option<usize>
-        ensures { IfSome result (λ index. slice_get (scalars_of self.now) index
-            ≡ Some (event_of_scalar scalar.now)) }
+    fn find_long(&self, scalar: &LongScalar<'_>) -> Option<usize>
+        ensures { IfSome result (λ index. scalar_numbered (lists_in self.now)
+            (ScalarNumber.Long index) ≡ Some (event_of_long scalar.now)) }
     {
-        self.scalars.get_index_of(scalar)
+        self.long.get_index_of(scalar)
     }
 
-    // Appends a scalar that is already stored, given its index among the different ones.
+    // Appends a long scalar that is already stored, given its index.
     #[inline(always)]
-    fn repeat(&mut self, index: usize) -> Result<(), AllocError>
-        requires { is_leaf (event_at (scalars_of self.old) index) ≡ true }
-        ensures events { OnOk result (GrowsBy self.old (event_at (scalars_of self.old) index)
-            self.new) }
+    fn repeat_long(&mut self, index: usize) -> Result<(), AllocError>
+        requires { is_leaf (event_numbered (lists_in self.old) (ScalarNumber.Long index)) ≡ true }
+        ensures events { OnOk result (GrowsBy self.old
+            (event_numbered (lists_in self.old) (ScalarNumber.Long index)) self.new) }
         ensures unchanged { OnErr result (plain_events self.new ≡ plain_events self.old) }
     {
-        self.entries.push(EventEntry::Scalar(index))?;
+        self.entries
+            .push(EventEntry::Scalar(ScalarNumber::Long(index)))?;
         Ok(())
     }
 
-    // Appends a scalar, and stores it unless an equal one is stored already. If the allocation for
-    // its entry fails, a scalar that was stored by this call is removed again.
-    fn scalar(&mut self, scalar: StoredScalar<'e>) -> Result<(), AllocError>
-        ensures events { OnOk result (GrowsBy self.old (event_of_scalar scalar.entry) self.new) }
+    // Appends a small scalar, and stores it unless an equal one is stored already. If the
+    // allocation for its entry fails, a scalar that was stored by this call is removed again.
+    fn push_small(&mut self, scalar: SmallScalar) -> Result<(), AllocError>
+        ensures events { OnOk result (GrowsBy self.old (event_of_small scalar) self.new) }
         ensures unchanged { OnErr result (plain_events self.new ≡ plain_events self.old) }
     {
-        let before = self.scalars.len();
-        match self.scalars.insert_full(scalar) {
-            Ok((index, _)) => match self.entries.push(EventEntry::Scalar(index)) {
-                Ok(()) => Ok(()),
-                Err(error) => {
-                    self.scalars.truncate(before);
-                    Err(error)
+        let before = self.small.len();
+        match self.small.insert_full(scalar) {
+            Ok((index, _)) => {
+                match self
+                    .entries
+                    .push(EventEntry::Scalar(ScalarNumber::Small(index)))
+                {
+                    Ok(()) => Ok(()),
+                    Err(error) => {
+                        self.small.truncate(before);
+                        Err(error)
+                    }
                 }
-            },
+            }
             Err(_) => Err(AllocError),
+        }
+    }
+
+    // Appends a long scalar, and stores it unless an equal one is stored already. If the
+    // allocation for its entry fails, a scalar that was stored by this call is removed again.
+    fn push_long(&mut self, scalar: LongScalar<'e>) -> Result<(), AllocError>
+        ensures events { OnOk result (GrowsBy self.old (event_of_long scalar.entry) self.new) }
+        ensures unchanged { OnErr result (plain_events self.new ≡ plain_events self.old) }
+    {
+        let before = self.long.len();
+        match self.long.insert_full(scalar) {
+            Ok((index, _)) => {
+                match self
+                    .entries
+                    .push(EventEntry::Scalar(ScalarNumber::Long(index)))
+                {
+                    Ok(()) => Ok(()),
+                    Err(error) => {
+                        self.long.truncate(before);
+                        Err(error)
+                    }
+                }
+            }
+            Err(_) => Err(AllocError),
+        }
+    }
+
+    // Appends an integer.
+    fn push_integer(&mut self, value: Integer) -> Result<(), AllocError>
+        ensures events { OnOk result (GrowsBy self.old
+            (ScalarEvent (IntegerScalar value)) self.new) }
+        ensures unchanged { OnErr result (plain_events self.new ≡ plain_events self.old) }
+    {
+        self.push_small(SmallScalar::of_integer(value))
+    }
+
+    // Appends a string. If it has more than eight bytes, it remains borrowed or owned.
+    fn push_text(&mut self, text: CowStr<'e>) -> Result<(), AllocError>
+        ensures events { OnOk result (GrowsBy self.old
+            (ScalarEvent (StringScalar (cow_str_bytes text.entry))) self.new) }
+        ensures unchanged { OnErr result (plain_events self.new ≡ plain_events self.old) }
+    {
+        match SmallScalar::of_text(text.as_str()) {
+            Some(small) => self.push_small(small),
+            None => self.push_long(LongScalar::of_text(text)),
+        }
+    }
+
+    // Appends data. If it has more than eight bytes, it remains borrowed or owned.
+    fn push_data(&mut self, bytes: CowSlice<'e, u8>) -> Result<(), AllocError>
+        ensures events { OnOk result (GrowsBy self.old
+            (ScalarEvent (DataScalar (cow_slice_items bytes.entry))) self.new) }
+        ensures unchanged { OnErr result (plain_events self.new ≡ plain_events self.old) }
+    {
+        match SmallScalar::of_data(bytes.as_slice()) {
+            Some(small) => self.push_small(small),
+            None => self.push_long(LongScalar::of_data(bytes)),
         }
     }
 
@@ -264,13 +374,13 @@ impl<'e> EventTable<'e> {
             Event::StartArray(_) => self.start(EventEntry::Array(following)),
             Event::StartDictionary(_) => self.start(EventEntry::Dictionary(following)),
             Event::EndCollection => self.end(),
-            Event::Boolean(value) => self.scalar(StoredScalar::Boolean(value)),
-            Event::Data(bytes) => self.scalar(StoredScalar::of_data(bytes)),
-            Event::Date(date) => self.scalar(StoredScalar::Date(date)),
-            Event::Integer(value) => self.scalar(StoredScalar::Integer(value)),
-            Event::Real(bits) => self.scalar(StoredScalar::Real(bits)),
-            Event::String(text) => self.scalar(StoredScalar::of_text(text)),
-            Event::Uid(uid) => self.scalar(StoredScalar::Uid(uid)),
+            Event::Boolean(value) => self.push_small(SmallScalar::Boolean(value)),
+            Event::Data(bytes) => self.push_data(bytes),
+            Event::Date(date) => self.push_small(SmallScalar::Date(date)),
+            Event::Integer(value) => self.push_integer(value),
+            Event::Real(bits) => self.push_small(SmallScalar::Real(bits)),
+            Event::String(text) => self.push_text(text),
+            Event::Uid(uid) => self.push_small(SmallScalar::Uid(uid)),
         }
     }
 
@@ -294,7 +404,8 @@ impl<'e> EventTable<'e> {
     pub fn clear(&mut self)
         ensures events { plain_events self.new ≡ [] }
     {
-        self.scalars.clear();
+        self.small.clear();
+        self.long.clear();
         self.entries.clear();
         self.unclosed.clear();
     }
@@ -305,16 +416,42 @@ impl EventTable<'static> {
     ghost use Rattle.plist_base.specs.Trees.{Data as DataScalar, String as StringScalar};
     ghost use Rattle.plist_buffer.specs.EventTable.{plain_event, plain_events, GrowsBy};
 
+    // Appends a string of more than eight bytes, which is copied unless an equal one is stored.
+    fn copy_long_text(&mut self, alloc: Global, text: &str) -> Result<(), AllocError>
+        requires { 8 < length text.now }
+        ensures events { OnOk result (GrowsBy self.old
+            (ScalarEvent (StringScalar text.now)) self.new) }
+        ensures unchanged { OnErr result (plain_events self.new ≡ plain_events self.old) }
+    {
+        if let Some(index) = self.find_long(&LongScalar::borrowed_text(text)) {
+            return self.repeat_long(index);
+        }
+        self.push_long(LongScalar::copy_of_text(alloc, text)?)
+    }
+
+    // Appends data of more than eight bytes, which is copied unless equal data is stored.
+    fn copy_long_data(&mut self, alloc: Global, bytes: &[u8]) -> Result<(), AllocError>
+        requires { 8 < length bytes.now }
+        ensures events { OnOk result (GrowsBy self.old
+            (ScalarEvent (DataScalar bytes.now)) self.new) }
+        ensures unchanged { OnErr result (plain_events self.new ≡ plain_events self.old) }
+    {
+        if let Some(index) = self.find_long(&LongScalar::borrowed_data(bytes)) {
+            return self.repeat_long(index);
+        }
+        self.push_long(LongScalar::copy_of_data(alloc, bytes)?)
+    }
+
     // Appends a string, which is copied unless an equal one is stored.
     fn copy_text(&mut self, alloc: Global, text: &str) -> Result<(), AllocError>
         ensures events { OnOk result (GrowsBy self.old
             (ScalarEvent (StringScalar text.now)) self.new) }
         ensures unchanged { OnErr result (plain_events self.new ≡ plain_events self.old) }
     {
-        if let Some(index) = self.find(&StoredScalar::BorrowedString(text)) {
-            return self.repeat(index);
+        match SmallScalar::of_text(text) {
+            Some(small) => self.push_small(small),
+            None => self.copy_long_text(alloc, text),
         }
-        self.scalar(StoredScalar::copy_of_text(alloc, text)?)
     }
 
     // Appends data, which is copied unless equal data is stored.
@@ -323,10 +460,10 @@ impl EventTable<'static> {
             (ScalarEvent (DataScalar bytes.now)) self.new) }
         ensures unchanged { OnErr result (plain_events self.new ≡ plain_events self.old) }
     {
-        if let Some(index) = self.find(&StoredScalar::BorrowedData(bytes)) {
-            return self.repeat(index);
+        match SmallScalar::of_data(bytes) {
+            Some(small) => self.push_small(small),
+            None => self.copy_long_data(alloc, bytes),
         }
-        self.scalar(StoredScalar::copy_of_data(alloc, bytes)?)
     }
 
     // Appends a string. An owned one is moved, and so its hash is computed only once.
@@ -337,7 +474,7 @@ impl EventTable<'static> {
     {
         match text {
             CowStr::Borrowed(borrowed) => self.copy_text(alloc, borrowed),
-            CowStr::Owned(owned) => self.scalar(StoredScalar::of_text(CowStr::Owned(owned))),
+            CowStr::Owned(owned) => self.push_text(CowStr::Owned(owned)),
         }
     }
 
@@ -349,7 +486,7 @@ impl EventTable<'static> {
     {
         match bytes {
             CowSlice::Borrowed(borrowed) => self.copy_data(alloc, borrowed),
-            CowSlice::Owned(owned) => self.scalar(StoredScalar::of_data(CowSlice::Owned(owned))),
+            CowSlice::Owned(owned) => self.push_data(CowSlice::Owned(owned)),
         }
     }
 
@@ -370,13 +507,13 @@ impl EventTable<'static> {
             Event::StartArray(_) => self.start(EventEntry::Array(following)),
             Event::StartDictionary(_) => self.start(EventEntry::Dictionary(following)),
             Event::EndCollection => self.end(),
-            Event::Boolean(value) => self.scalar(StoredScalar::Boolean(value)),
+            Event::Boolean(value) => self.push_small(SmallScalar::Boolean(value)),
             Event::Data(bytes) => self.take_data(alloc, bytes),
-            Event::Date(date) => self.scalar(StoredScalar::Date(date)),
-            Event::Integer(value) => self.scalar(StoredScalar::Integer(value)),
-            Event::Real(bits) => self.scalar(StoredScalar::Real(bits)),
+            Event::Date(date) => self.push_small(SmallScalar::Date(date)),
+            Event::Integer(value) => self.push_integer(value),
+            Event::Real(bits) => self.push_small(SmallScalar::Real(bits)),
             Event::String(text) => self.take_text(alloc, text),
-            Event::Uid(uid) => self.scalar(StoredScalar::Uid(uid)),
+            Event::Uid(uid) => self.push_small(SmallScalar::Uid(uid)),
         }
     }
 }

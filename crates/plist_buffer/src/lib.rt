@@ -11,8 +11,10 @@ mod entries;
 pub mod event_buffer;
 pub mod event_table;
 pub mod expects;
+mod long_scalar;
 pub mod repeated_keys;
 mod short;
+mod small_scalar;
 pub mod stored_scalar;
 
 pub use event_table::EventTable;

@@ -1,6 +1,6 @@
 use Rattle.std.proofs.Common.{◌∙◌, arith, refl}
 use Rattle.plist_base.specs.declared.marker.CountedKind.TheVariants as kind
-use Rattle.plist_buffer.specs.EventTable.{plain_events, scalars_of}
+use Rattle.plist_buffer.specs.EventTable.{plain_events, lists_in}
 use Rattle.plist_buffer.specs.declared.children.Half.TheVariants.{Values}
 use Rattle.plist_buffer.proofs.ChildIndices.{few_children}
 use Rattle.plist_buffer.proofs.EntryEvents.{long_shown}
@@ -14,7 +14,7 @@ overflow_mul-count c =
       arith,
       c.count_children-count-in-StartDictionary.ensures,
       few_children (plain_events held) Values c.args.index,
-      long_shown (scalars_of held) held.entries,
+      long_shown (lists_in held) held.entries,
       held.few,
     )
 

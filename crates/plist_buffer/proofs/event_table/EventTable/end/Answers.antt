@@ -1,5 +1,5 @@
 use Rattle.std.proofs.Common.{[], refl, subst}
-use Rattle.plist_buffer.specs.EventTable.{scalars_of}
+use Rattle.plist_buffer.specs.EventTable.{lists_in}
 use Rattle.plist_buffer.specs.inner.Entries.{IsValidTable}
 use Rattle.plist_buffer.proofs.EntryEvents.{start_stored, start_within, end_shown, kept_end, kept_stray, either, either_few}
 use Rattle.plist_buffer.proofs.event_table.EventTable.end.Goals as goal
@@ -24,9 +24,9 @@ invariant_of-self-in-None c =
     let s = c.args.self.now in
     let none = c.in-None.ensures.none refl in
     record {
-      kept = rw none (either c.push.result (λ l. IsValidTable (scalars_of s) l [])
+      kept = rw none (either c.push.result (λ l. IsValidTable (lists_in s) l [])
           c.push.ensures.pushed c.push.ensures.unchanged (kept_stray s.kept none)
-          (subst (IsValidTable (scalars_of s) s.entries) none s.kept));
+          (subst (IsValidTable (lists_in s) s.entries) none s.kept));
       few = either_few c.push.result _ _ c.push.ensures.small c.push.ensures.unchanged s.few;
     }
 
