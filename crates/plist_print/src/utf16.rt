@@ -71,8 +71,8 @@ fn push_char(line: &mut FixedBuffer, c: char)
 
 /// Pushes the printed forms of the characters that an iterator still has to yield. If less than
 /// sixteen bytes of room are left after one, returns `false`, even if it is the last one. Otherwise
-/// returns `true` once all are pushed. It isn't inlined, so that the variables of the loop stay in
-/// registers.
+/// returns `true` once all are pushed. It isn't inlined, and the loop has an iterator of its own, so
+/// that its variables stay in registers.
 #[inline(never)]
 pub fn push_chars(line: &mut FixedBuffer, chars: &mut Utf16Chars<'_>) -> bool
     requires { 16 ≤ room line.old }
@@ -82,11 +82,14 @@ pub fn push_chars(line: &mut FixedBuffer, chars: &mut Utf16Chars<'_>) -> bool
         → length (chars_left chars.new) < length (chars_left chars.old) }
     ensures room { result ≡ true → 16 ≤ room line.new }
 {
-    while let Some(c) = chars.next() {
+    let mut left = *chars;
+    while let Some(c) = left.next() {
         push_char(line, c);
         if line.room() < 16 {
+            *chars = left;
             return false;
         }
     }
+    *chars = left;
     true
 }

@@ -6,6 +6,6 @@ use Rattle.plist_print.proofs.utf16.push_chars.Given as goal
 
 abbrev pub invariant-loop-c : goal.invariant-loop-c
 invariant-loop-c l = record {
-  pushed : PushesChars (l.fn.line, chars_left l.fn.chars) (l.line, chars_left l.chars);
+  pushed : PushesChars (l.fn.line, chars_left l.fn.chars) (l.line, chars_left l.left);
   room : 16 ≤ room l.line;
 }
