@@ -2,7 +2,7 @@
 //! referred to.
 
 use crate::rows::Row;
-use plist_base::{Event, EventSource, EventVisitor};
+use plist_base::{Event, EventSource, EventVisitor, Utf16Str};
 use plist_binread::{BinaryReader, DecodeCounter};
 use plist_support::{Wrong, expect_same, file, word_of};
 use std::alloc::{AllocError, Global};
@@ -31,7 +31,8 @@ fn add_word(words: &mut String, word: &str) -> Result<(), AllocError> {
     words.push_str(word)
 }
 
-// Adds the word of each event that it takes, as long as there is memory.
+// Adds the word of each event that it takes, as long as there is memory. The word of a string that it
+// takes in UTF-16 begins with the length of the string in UTF-8.
 #[derive(Drop)]
 struct Words {
     alloc: Global,
@@ -43,6 +44,16 @@ impl Words {
         let word = word_of(self.alloc, event)?;
         add_word(&mut self.words, word.as_str())
     }
+
+    fn add_utf16(&mut self, text: Utf16Str<'_>) -> Result<(), AllocError> {
+        let mut decoded = String::new(self.alloc);
+        for c in text.chars() {
+            decoded.push(c)?;
+        }
+        let length = text.len_utf8();
+        let word = format!(in self.alloc; "utf16:{length}:'{}'", decoded.as_str())?;
+        add_word(&mut self.words, word.as_str())
+    }
 }
 
 impl EventVisitor for Words {
@@ -52,6 +63,13 @@ impl EventVisitor for Words {
         match self.add(&event) {
             Ok(()) => ControlFlow::Continue(()),
             Err(_) => ControlFlow::Break(()),
+        }
+    }
+
+    fn utf16_string(&mut self, text: Utf16Str<'_>) -> Option<ControlFlow<()>> {
+        match self.add_utf16(text) {
+            Ok(()) => Some(ControlFlow::Continue(())),
+            Err(_) => Some(ControlFlow::Break(())),
         }
     }
 }

@@ -126,6 +126,12 @@ pub fn visit<S: plist::stream::EventSource, V: plist::stream::EventVisitor>(
     Ok(visited)
 }
 
+pub fn utf16(text: plist::stream::Utf16Str<'_>) -> plist::stream::Utf16Chars<'_> {
+    let text: plist_base::Utf16Str<'_> = text;
+    let chars: plist_base::Utf16Chars<'_> = text.chars();
+    chars
+}
+
 pub fn copy_events<S: plist_base::EventSource, W: plist_base::Writer>(
     source: &mut S,
     writer: &mut W,
