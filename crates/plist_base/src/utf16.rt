@@ -202,6 +202,10 @@ impl<'a> Utf16Chars<'a> {
         if self.bytes.len() / 2 - self.at < 8 {
             return None;
         }
+        // In a script other than Latin, the first unit is seldom ASCII.
+        if self.bytes[2 * self.at] != 0 {
+            return None;
+        }
         let block = ascii_block(&self.bytes[2 * self.at..])?;
         self.at += 8;
         Some(block)
