@@ -1,9 +1,11 @@
 -- Bytes that are tested in blocks.
-use Rattle.std.proofs.Common.{◌≡◌, ℕ, ◌+◌, ◌-◌, ◌%◌, ◌^◌, ◌<◌, ◌≤◌, inl, inr, zero, suc, Bool, true, false, cond, eqb, List, [], ◌∷◌, ◌++◌, map, length, get_or, take, drop, replicate, refl, sym, ap, subst, ◌∙◌, arith, eqb-true, take-add, w8}
+use Rattle.std.proofs.Common.{◌≡◌, ℕ, ◌+◌, ◌-◌, ◌%◌, ◌^◌, ◌<◌, ◌≤◌, inl, inr, zero, suc, Bool, true, false, cond, eqb, List, [], ◌∷◌, ◌++◌, map, length, get_or, take, drop, replicate, refl, sym, ap, subst, ◌∙◌, arith, eqb-true, take-add, w8, bit_or}
 use Rattle.std.specs.Str.{IsAscii}
 use Rattle.std.proofs.lemmas.Bool.{cases_lt}
 use Rattle.std.proofs.lemmas.List.{get_or-take, get_or-drop, get_or_past, length-take, length-take-le, length-drop, take-take}
+use Rattle.std.proofs.lemmas.Nat.{and_le_l, and_le_r}
 use Rattle.std.proofs.lemmas.Simd.{bitmask_splat, length-chunk, take_more_put_chunk}
+use lib.Bits.{or_add_and}
 use lib.Lanes.{chunk, mask_l, put_chunk, top, zip2}
 use Rattle.plist_base.specs.ByteTests.{CopiesPassing, EachByte}
 
@@ -29,6 +31,13 @@ pub none_left : (t : ℕ → ℕ → Bool) (n number : ℕ) (bytes : List ℕ) �
 none_left t n number bytes few long e =
     none_marked (λ byte. t byte number) bytes
     (sym (bitmask_splat w8 t bytes n number long few) ∙ eqb-true _ _ e)
+
+-- two masks are zero if their bitwise OR is zero
+pub none_of_two : (a b : ℕ) → bit_or a b ≡ 0 → (a ≡ 0) × (b ≡ 0)
+none_of_two a b none = (
+  omega (arith, or_add_and a b, and_le_l a b, and_le_r a b),
+  omega (arith, or_add_and a b, and_le_l a b, and_le_r a b),
+)
 
 turned : (f : ℕ → ℕ → ℕ) (n number : ℕ) (bytes : List ℕ) → length bytes ≡ n
     → zip2 f (replicate n number) bytes ≡ zip2 (λ a b. f b a) bytes (replicate n number)

@@ -1,11 +1,12 @@
 -- Strings in UTF-16, in big-endian order.
-use Rattle.std.specs.Prelude.{◌≡◌, ℕ, ◌+◌, ◌-◌, ◌*◌, ◌/◌, ◌%◌, ◌<◌, ◌≤◌, List, ◌∷◌, drop, length, false, None, Some}
+use Rattle.std.specs.Prelude.{◌≡◌, ℕ, ◌+◌, ◌-◌, ◌*◌, ◌/◌, ◌%◌, ◌<◌, ◌≤◌, List, ◌∷◌, drop, length, slice_index, false, None, Some}
 use Rattle.std.specs.Int.{bytes_high_first}
 use Rattle.std.specs.List.{flat_map}
 use Rattle.std.specs.Char.Escape.{encode_utf16}
 use Rattle.std.specs.Char.{IsScalar, len_utf8}
 use Rattle.std.specs.Char.Utf16.{has_unpaired_surrogate, utf16_chars, utf16_lossy_chars}
 use Rattle.std.specs.Str.{chars, encode_utf8_all}
+use Rattle.plist_base.specs.ByteTests.{EachByte}
 use Rattle.plist_base.specs.Container.{number_at, numbers_spelled}
 
 -- the units of a string
@@ -51,3 +52,10 @@ pub record IsNextChar (bytes : List ℕ) (index : ℕ) (found : ℕ × ℕ) : Ty
   pub scalar : IsScalar found.0
   pub chars : utf16_chars (drop index (numbers_spelled 2 bytes))
       ≡ Some found.0 ∷ utf16_chars (drop found.1 (numbers_spelled 2 bytes))
+
+-- the first eight units in these bytes are ASCII, and these are their second bytes
+pub record IsAsciiBlock (bytes block : List ℕ) : Type 0 where
+  pub long : length block ≡ 8
+  pub first : (k : ℕ) → k < 8 → slice_index bytes (2 * k) ≡ 0
+  pub second : (k : ℕ) → k < 8 → slice_index bytes (2 * k + 1) ≡ slice_index block k
+  pub ascii : EachByte (λ byte. byte < 128) block

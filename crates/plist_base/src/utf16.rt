@@ -1,13 +1,14 @@
 //! Strings in UTF-16.
 
-ghost use Rattle.std.specs.Prelude.{◌≡◌, ◌+◌, ◌*◌, ◌/◌, ◌<◌, ◌≤◌, false, true, drop, length, IfSome, MatchOption};
+ghost use Rattle.std.specs.Prelude.{◌≡◌, ◌+◌, ◌*◌, ◌/◌, ◌<◌, ◌≤◌, false, true, drop, length, None, IfSome, MatchOption};
 ghost use Rattle.std.proofs.Props.{props};
 ghost use Rattle.std.specs.Char.Utf16.{has_unpaired_surrogate};
+ghost use Rattle.plist_base.specs.ByteTests.{EachByte};
 ghost use Rattle.plist_base.specs.Container.{numbers_spelled};
 ghost use Rattle.plist_base.specs.Faults.{InvalidUtf16String};
 ghost use Rattle.plist_base.specs.Object.{Faulty, Scalar, wide_text};
 ghost use Rattle.plist_base.specs.Trees.{String};
-ghost use Rattle.plist_base.specs.Utf16.{ArePaired, IsNextChar, IsUnpaired, IsUtf16, unit_at};
+ghost use Rattle.plist_base.specs.Utf16.{ArePaired, IsAsciiBlock, IsNextChar, IsUnpaired, IsUtf16, unit_at};
 ghost use Rattle.plist_base.specs.inner.UnitShares.{utf8_share};
 
 use crate::byte_test::{ByteTest, all_pass};
@@ -181,6 +182,31 @@ impl<'a> Utf16Str<'a> {
     }
 }
 
+// Returns whether eight units are ASCII, given their first and their second bytes.
+#[inline(always)]
+fn are_ascii(first: u8x8, second: u8x8) -> bool
+    ensures zero { result ≡ true → EachByte (λ byte. byte < 1) first }
+    ensures ascii { result ≡ true → EachByte (λ byte. byte < 128) second }
+{
+    let not_zero = first.simd_ge(u8x8::splat(1)).to_bitmask();
+    let not_ascii = second.simd_ge(u8x8::splat(0x80)).to_bitmask();
+    not_zero | not_ascii == 0
+}
+
+// Returns the second bytes of the first eight units if these are ASCII.
+#[inline(always)]
+fn ascii_block(units: &[u8]) -> Option<[u8; 8]>
+    requires { 16 ≤ length units.now }
+    ensures { IfSome result (λ block. IsAsciiBlock units.now block) }
+{
+    let bytes = u8x16::from_slice(units);
+    let second = bytes.swizzle::<8>([1, 3, 5, 7, 9, 11, 13, 15]);
+    if are_ascii(bytes.swizzle::<8>([0, 2, 4, 6, 8, 10, 12, 14]), second) {
+        return Some(second.to_array());
+    }
+    None
+}
+
 /// An iterator over the characters of a string in UTF-16.
 #[derive(Clone, Copy)]
 pub struct Utf16Chars<'a> {
@@ -189,6 +215,30 @@ pub struct Utf16Chars<'a> {
     at: usize,
     ghost within: { at ≤ length bytes.now / 2 },
     ghost paired: { has_unpaired_surrogate (drop at (numbers_spelled 2 bytes.now)) ≡ false },
+}
+
+impl<'a> Utf16Chars<'a> {
+    ghost use Rattle.std.specs.Prelude.{◌++◌};
+    ghost use Rattle.plist_base.specs.Utf16Strings.{chars_left};
+
+    /// Yields the next eight characters if all of them are ASCII. Otherwise yields none of them.
+    #[inline(always)]
+    pub fn next_eight_ascii(&mut self) -> Option<[u8; 8]>
+        ensures yielded { IfSome result (λ block. chars_left self.old ≡ block ++ chars_left self.new) }
+        ensures ascii { IfSome result (λ block. EachByte (λ byte. byte < 128) block) }
+        ensures unchanged { result ≡ None → self.new ≡ self.old }
+    {
+        if self.bytes.len() / 2 - self.at < 8 {
+            return None;
+        }
+        // In a script other than Latin, the first unit is seldom ASCII.
+        if self.bytes[2 * self.at] != 0 {
+            return None;
+        }
+        let block = ascii_block(&self.bytes[2 * self.at..])?;
+        self.at += 8;
+        Some(block)
+    }
 }
 
 impl<'a> Iterator for Utf16Chars<'a> {

@@ -1,4 +1,5 @@
 pub mod Blocks
+pub mod HexadecimalDigits
 pub mod LineParts
 pub mod PendingBytes
 pub mod PlainBytes

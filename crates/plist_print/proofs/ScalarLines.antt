@@ -1,10 +1,8 @@
 -- The lines of dates, numbers and strings.
 use Rattle.std.proofs.Common.{◌≡◌, ℕ, ◌≤◌, zero, suc, true, false, List, [], ◌∷◌, length, refl, ap, arith, bit_or, eqb, leb, ltb, eqb-true, eq-eqb, leb-false, ltb-false}
 use Rattle.std.proofs.lemmas.Bool.{le-leb}
-use Rattle.std.proofs.lemmas.Nat.{and_le_l, and_le_r}
-use lib.Bits.{or_add_and}
 use Rattle.plist_base.specs.ByteTests.{EachByte}
-use Rattle.plist_base.proofs.ByteBlocks.{mask_left, mask_right, none_left, none_right}
+use Rattle.plist_base.proofs.ByteBlocks.{mask_left, mask_right, none_left, none_of_two, none_right}
 use Rattle.plist_print.specs.EscapedLines.{stands_for_itself, escaped_text}
 
 -- ---- strings whose bytes are printed as they are
@@ -16,13 +14,6 @@ plain_byte byte low high backslash quote =
     let least = ltb-false _ _ low in
     let most = leb-false _ _ high in
     rw (le-leb 0x20 byte (omega arith), le-leb byte 0x7e (omega arith), backslash, quote) refl
-
--- two masks are zero if their bitwise OR is zero
-none_of_two : (a b : ℕ) → bit_or a b ≡ 0 → (a ≡ 0) × (b ≡ 0)
-none_of_two a b none = (
-  omega (arith, or_add_and a b, and_le_l a b, and_le_r a b),
-  omega (arith, or_add_and a b, and_le_l a b, and_le_r a b),
-)
 
 -- each byte of a block passes if the bitwise OR of the four masks, which mark the bytes that don't
 -- pass, is zero

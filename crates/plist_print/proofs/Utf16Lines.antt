@@ -4,9 +4,11 @@ use Rattle.std.specs.Char.{encode_utf8}
 use Rattle.std.specs.Str.{encode_utf8_all}
 use Rattle.std.proofs.lemmas.Bool.{le-ltb, lt-ltb}
 use Rattle.std.proofs.lemmas.Grind.{flat_map-append}
-use Rattle.std.proofs.lemmas.Str.{encodes-append}
+use Rattle.std.proofs.lemmas.Str.{encodes-IsAscii, encodes-append}
 use Rattle.plist_base.specs.declared.fixed_buffer.FixedBuffer.{FixedBuffer}
+use Rattle.plist_base.specs.ByteTests.{EachByte}
 use Rattle.plist_base.specs.Sinks.{buffered}
+use Rattle.plist_base.proofs.ByteBlocks.{ascii_from_each}
 use Rattle.plist_print.specs.EscapedLines.{escaped_byte, escaped_chars, escaped_text}
 use Rattle.plist_print.specs.Utf16Lines.{PushesChars}
 
@@ -52,18 +54,36 @@ chars-append xs ys =
     sym (ap escaped_text (encodes-append xs ys)
     ∙ flat_map-append escaped_byte (encode_utf8_all xs) (encode_utf8_all ys))
 
--- one more character is pushed
-pub chars_one : {a b c : FixedBuffer} {all chars rest : List ℕ} (x : ℕ)
-    → PushesChars (a, all) (b, chars) → chars ≡ x ∷ rest
-    → buffered c ≡ buffered b ++ escaped_text (encode_utf8 x) → PushesChars (a, all) (c, rest)
-chars_one {a} {b} {c} {all} {chars} {rest} x p parts pushed = record {
-  front = p.front ++ x ∷ [];
-  left = p.left ∙ ap (λ l. p.front ++ l) parts ∙ sym (append_assoc p.front (x ∷ []) rest);
-  pushed = pushed ∙ ap (λ l. l ++ escaped_text (encode_utf8 x)) p.pushed
-      ∙ append_assoc (buffered a) (escaped_chars p.front) (escaped_text (encode_utf8 x))
-      ∙ ap (λ l. buffered a ++ l)
-      (ap (λ l. escaped_chars p.front ++ escaped_text l) (sym (append-nil (encode_utf8 x)))
-      ∙ chars-append p.front (x ∷ []));
+-- a character is pushed
+pub pushes_one : {a b : FixedBuffer} {chars rest : List ℕ} (x : ℕ) → chars ≡ x ∷ rest
+    → buffered b ≡ buffered a ++ escaped_text (encode_utf8 x) → PushesChars (a, chars) (b, rest)
+pushes_one {a} x parts pushed = record {
+  front = x ∷ [];
+  left = parts;
+  pushed = pushed ∙ ap (λ l. buffered a ++ escaped_text l) (sym (append-nil (encode_utf8 x)));
+}
+
+-- characters that are ASCII are pushed
+pub pushes_block : {a b : FixedBuffer} {chars rest : List ℕ} (block : List ℕ)
+    → chars ≡ block ++ rest → EachByte (λ byte. byte < 128) block
+    → buffered b ≡ buffered a ++ escaped_text block → PushesChars (a, chars) (b, rest)
+pushes_block {a} block parts ascii pushed = record {
+  front = block;
+  left = parts;
+  pushed = pushed ∙ ap (λ l. buffered a ++ escaped_text l)
+      (sym (encodes-IsAscii block (ascii_from_each block ascii)));
+}
+
+-- characters are pushed, and then others
+pub pushes_then : {a b c : FixedBuffer} {all chars rest : List ℕ}
+    → PushesChars (a, all) (b, chars) → PushesChars (b, chars) (c, rest)
+    → PushesChars (a, all) (c, rest)
+pushes_then {a} {rest = rest} p q = record {
+  front = p.front ++ q.front;
+  left = p.left ∙ ap (λ l. p.front ++ l) q.left ∙ sym (append_assoc p.front q.front rest);
+  pushed = q.pushed ∙ ap (λ l. l ++ escaped_chars q.front) p.pushed
+      ∙ append_assoc (buffered a) (escaped_chars p.front) (escaped_chars q.front)
+      ∙ ap (λ l. buffered a ++ l) (chars-append p.front q.front);
 }
 
 -- the printed forms of the characters before a call, those that it pushes, and the others

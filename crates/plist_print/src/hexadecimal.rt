@@ -1,14 +1,36 @@
 //! Bytes as hexadecimal digits.
 
-ghost use Rattle.std.specs.Prelude.{◌≡◌, ◌++◌, ◌+◌, ◌*◌, ◌<◌, ◌≤◌, length};
+ghost use Rattle.std.specs.Prelude.{◌≡◌, ◌++◌, ◌+◌, ◌*◌, ◌<◌, ◌≤◌, [], ◌∷◌, length};
 ghost use Rattle.plist_base.specs.Sinks.{buffered, room};
 ghost use Rattle.plist_print.specs.EscapedLines.{hexadecimal, hexadecimal_digit};
 
 use plist_base::FixedBuffer;
 
-/// Returns the hexadecimal digit of a value.
+// The hexadecimal digits.
+const DIGIT_TABLE: [u8; 16] = *b"0123456789abcdef";
+
+// Returns the hexadecimal digit of a value, from the table.
 #[inline(always)]
-pub fn digit_of(value: u8) -> u8
+#[tactic(auto, using(crate::proofs::HexadecimalDigits::is_digit))]
+fn digit_at(value: u8) -> u8
+    requires { value < 16 }
+    ensures { result ≡ hexadecimal_digit value }
+{
+    DIGIT_TABLE[value as usize]
+}
+
+/// Returns the two hexadecimal digits of a byte. For a single byte, look-ups in the table are faster
+/// than the comparisons of `digit_of`.
+#[inline(always)]
+pub fn digits_of(byte: u8) -> [u8; 2]
+    ensures { result ≡ hexadecimal (byte ∷ []) }
+{
+    [digit_at(byte / 16), digit_at(byte % 16)]
+}
+
+// Returns the hexadecimal digit of a value, without a table, so that a loop can be vectorized.
+#[inline(always)]
+fn digit_of(value: u8) -> u8
     requires { value < 16 }
     ensures { result ≡ hexadecimal_digit value }
 {
@@ -41,7 +63,7 @@ fn push_digits(line: &mut FixedBuffer, bytes: &[u8])
     ensures room { room line.old ≤ room line.new + 2 * length bytes.now }
 {
     for &byte in bytes {
-        line.push(&[digit_of(byte / 16), digit_of(byte % 16)]);
+        line.push(&digits_of(byte));
     }
 }
 

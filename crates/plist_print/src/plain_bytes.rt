@@ -7,7 +7,7 @@ ghost use Rattle.plist_base.specs.Sinks.{buffered, room};
 ghost use Rattle.plist_base.specs.Trees.{String};
 ghost use Rattle.plist_print.specs.EscapedLines.{escaped_byte, escaped_text, line_of, stands_for_itself};
 
-use crate::hexadecimal::digit_of;
+use crate::hexadecimal::digits_of;
 use plist_base::{ByteTest, FixedBuffer};
 use std::simd::prelude::*;
 
@@ -84,7 +84,8 @@ pub fn push_escape(line: &mut FixedBuffer, byte: u8)
     ensures pushed { buffered line.new ≡ buffered line.old ++ escaped_byte byte }
     ensures room { room line.old ≤ room line.new + 4 }
 {
-    line.push(&[b'\\', b'x', digit_of(byte / 16), digit_of(byte % 16)]);
+    let [high, low] = digits_of(byte);
+    line.push(&[b'\\', b'x', high, low]);
 }
 
 /// Pushes a byte of a string, or its escape.

@@ -201,7 +201,7 @@ impl<'p, W: Write> Printer<'p, W> {
     // Prints the characters that an iterator still has to yield, and the end of the line. The
     // pending bytes are written whenever the buffer is full.
     fn print_chars(&mut self, chars: &mut Utf16Chars<'_>) -> ControlFlow<()>
-        requires { 16 ≤ room self.old.sink.buffer.now }
+        requires { 32 ≤ room self.old.sink.buffer.now }
         ensures { PrintsBytes W.contents self.old
             (escaped_chars (chars_left chars.old) ++ codes "\"\n") result self.new }
     {

@@ -7,7 +7,7 @@ ghost use Rattle.plist_base.specs.Utf16Strings.{chars_left};
 ghost use Rattle.plist_print.specs.EscapedLines.{escaped_text};
 ghost use Rattle.plist_print.specs.Utf16Lines.{PushesChars};
 
-use crate::plain_bytes::{push_byte, push_escape};
+use crate::plain_bytes::{push_byte, push_escape, push_text};
 use plist_base::{FixedBuffer, Utf16Chars};
 
 // Pushes the escapes of bytes that aren't ASCII.
@@ -69,23 +69,45 @@ fn push_char(line: &mut FixedBuffer, c: char)
     push_wide_char(line, code);
 }
 
-/// Pushes the printed forms of the characters that an iterator still has to yield. If less than
-/// sixteen bytes of room are left after one, returns `false`, even if it is the last one. Otherwise
-/// returns `true` once all are pushed. It isn't inlined, and the loop has an iterator of its own, so
-/// that its variables stay in registers.
+// Pushes the printed form of the next eight characters if all of them are ASCII, or else that of
+// the next one. Returns whether there was one.
+#[inline(always)]
+fn push_next(line: &mut FixedBuffer, chars: &mut Utf16Chars<'_>) -> bool
+    requires { 32 ≤ room line.old }
+    ensures pushed { PushesChars (line.old, chars_left chars.old) (line.new, chars_left chars.new) }
+    ensures some { result ≡ true → length (chars_left chars.new) < length (chars_left chars.old) }
+    ensures none { result ≡ false → chars_left chars.new ≡ [] }
+    ensures room { result ≡ false → room line.new ≡ room line.old }
+{
+    if let Some(block) = chars.next_eight_ascii() {
+        push_text(line, &block);
+        return true;
+    }
+    match chars.next() {
+        Some(c) => {
+            push_char(line, c);
+            true
+        }
+        None => false,
+    }
+}
+
+/// Pushes the printed forms of the characters that an iterator still has to yield. If less than 32
+/// bytes of room are left after some of them, returns `false`, even if no character remains.
+/// Otherwise returns `true` once all are pushed. It isn't inlined, and the loop has an iterator of
+/// its own, so that its variables stay in registers.
 #[inline(never)]
 pub fn push_chars(line: &mut FixedBuffer, chars: &mut Utf16Chars<'_>) -> bool
-    requires { 16 ≤ room line.old }
+    requires { 32 ≤ room line.old }
     ensures pushed { PushesChars (line.old, chars_left chars.old) (line.new, chars_left chars.new) }
     ensures all { result ≡ true → chars_left chars.new ≡ [] }
     ensures some { result ≡ false
         → length (chars_left chars.new) < length (chars_left chars.old) }
-    ensures room { result ≡ true → 16 ≤ room line.new }
+    ensures room { result ≡ true → 32 ≤ room line.new }
 {
     let mut left = *chars;
-    while let Some(c) = left.next() {
-        push_char(line, c);
-        if line.room() < 16 {
+    while push_next(line, &mut left) {
+        if line.room() < 32 {
             *chars = left;
             return false;
         }

@@ -9,7 +9,7 @@ invariant-loop-self g l = record {
   done : List ℕ;
   put : PutsBytes g.W.Write.contents l.fn.self.sink (escaped_chars done) (Ok tt) l.self.sink;
   left : done ++ chars_left l.chars ≡ chars_left l.fn.chars;
-  room : 16 ≤ room l.self.sink.buffer.now;
+  room : 32 ≤ room l.self.sink.buffer.now;
 }
 
 abbrev pub decreases-loop-self : goal.decreases-loop-self

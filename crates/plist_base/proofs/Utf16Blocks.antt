@@ -1,0 +1,131 @@
+-- Characters of a string in UTF-16 that are ASCII, eight at a time.
+use Rattle.std.proofs.Common.{◌≡◌, ℕ, ◌+◌, ◌-◌, ◌*◌, ◌<◌, ◌≤◌, inl, suc, false, not, List, [], ◌∷◌, ◌++◌, length, get_or, drop, take, map, Option, Some, refl, sym, ap, ◌∙◌, arith, drop-cons, zero-add, is_some}
+use Rattle.std.specs.List.{list_any, range_with_len}
+use Rattle.std.specs.Option.{unwrap_or}
+use Rattle.std.specs.Char.Utf16.{has_unpaired_surrogate, utf16_chars, utf16_lossy_chars}
+use Rattle.std.proofs.lemmas.List.FromFn.{get_or-map-range_with_len}
+use Rattle.std.proofs.lemmas.List.{get_or-drop, get_or-take, length-take-le}
+use Rattle.std.proofs.lemmas.Simd.{pick_l_left}
+use lib.Lanes.{pick_l}
+use Rattle.plist_base.specs.ByteTests.{EachByte}
+use Rattle.plist_base.specs.Container.{number_of, numbers_spelled}
+use Rattle.plist_base.specs.Utf16.{IsAsciiBlock, unit_at}
+use Rattle.plist_base.proofs.Utf16Units.{next_lone}
+
+-- every second byte of eight units
+module _ (units : List ℕ) (long : 16 ≤ length units) (from : ℕ) (less : from < 2) where
+  every_second : (half : List ℕ)
+      → half ≡ map (λ i. get_or (take 16 units) (2 * i + from) 0) (range_with_len 0 8)
+      → (k : ℕ) → k < 8 → get_or half k 0 ≡ get_or units (2 * k + from) 0
+  every_second half is k below =
+      ap (λ l. get_or l k 0) is
+      ∙ get_or-map-range_with_len (λ i. get_or (take 16 units) (2 * i + from) 0) 0 8 k k 0 below (zero-add k)
+      ∙ get_or-take 16 units (2 * k + from) 0 (omega (arith, below, less))
+
+-- the indices of the first bytes of eight units
+abbrev evens : List ℕ
+evens = 0 ∷ 2 ∷ 4 ∷ 6 ∷ 8 ∷ 10 ∷ 12 ∷ 14 ∷ []
+
+-- the indices of their second bytes
+abbrev odds : List ℕ
+odds = 1 ∷ 3 ∷ 5 ∷ 7 ∷ 9 ∷ 11 ∷ 13 ∷ 15 ∷ []
+
+-- eight units whose first bytes are zero, and whose second bytes are ASCII
+pub block_of : (units first second : List ℕ) → 16 ≤ length units
+    → first ≡ pick_l 0 (take 16 units ++ take 16 units) evens
+    → second ≡ pick_l 0 (take 16 units ++ take 16 units) odds
+    → EachByte (λ byte. byte < 1) first → EachByte (λ byte. byte < 128) second
+    → IsAsciiBlock units second
+block_of units first second long p q zeros ascii =
+    let all = take 16 units in
+    let sixteen = length-take-le 16 units long in
+    let one = every_second units long 0 (omega arith) first (p ∙ pick_l_left 0 all all 16 evens sixteen tt) in
+    let two = every_second units long 1 (omega arith) second (q ∙ pick_l_left 0 all all 16 odds sixteen tt) in
+    record {
+      long = ap length q;
+      first = λ k below.
+          let here : get_or units (2 * k) 0 ≡ get_or first k 0 =
+          ap (λ i. get_or units i 0) {x = 2 * k} {y = 2 * k + 0} (omega arith) ∙ sym (one k below) in
+          omega (arith, here, zeros k (omega (arith, below, ap length p)));
+      second = λ k below. sym (two k below);
+      ascii = ascii;
+    }
+
+module _ (bytes : List ℕ) where
+  -- a unit whose first byte is zero
+  small_unit : (at : ℕ) → at * 2 + 2 ≤ length bytes → get_or bytes (at * 2) 0 ≡ 0
+      → unit_at bytes at ≡ get_or bytes (suc (at * 2)) 0
+  small_unit at le first =
+      ap (λ l. number_of (take 2 l)) (drop-cons bytes (at * 2) 0 (omega (arith, le))
+      ∙ ap (λ l. get_or bytes (at * 2) 0 ∷ l) (drop-cons bytes (suc (at * 2)) 0 (omega (arith, le))))
+      ∙ omega (arith, first)
+
+  -- units whose first bytes are zero, and whose second bytes are these, which are ASCII
+  ascii_chars : (at : ℕ) (block : List ℕ) → (at + length block) * 2 ≤ length bytes
+      → ((k : ℕ) → k < length block → get_or bytes ((at + k) * 2) 0 ≡ 0)
+      → ((k : ℕ) → k < length block → get_or bytes (suc ((at + k) * 2)) 0 ≡ get_or block k 0)
+      → EachByte (λ byte. byte < 128) block
+      → utf16_chars (drop at (numbers_spelled 2 bytes))
+      ≡ map Some block ++ utf16_chars (drop (at + length block) (numbers_spelled 2 bytes))
+  ascii_chars at [] le first second ascii =
+      ap (λ k. utf16_chars (drop k (numbers_spelled 2 bytes))) {x = at} {y = at + 0} (omega arith)
+  ascii_chars at (b ∷ block) le first second ascii =
+      let same : (k : ℕ) → at + 1 + k ≡ at + suc k = λ k. omega arith in
+      let none : at + 0 ≡ at = omega arith in
+      let unit : unit_at bytes at ≡ b = small_unit at (omega (arith, le))
+      (ap (λ k. get_or bytes (k * 2) 0) (sym none) ∙ first 0 (omega arith))
+      ∙ ap (λ k. get_or bytes (suc (k * 2)) 0) (sym none) ∙ second 0 (omega arith) in
+      let next = next_lone bytes at (omega (arith, le)) (omega (arith, unit, ascii 0 (omega arith)))
+      (inl (omega (arith, unit, ascii 0 (omega arith)))) in
+      next.chars
+      ∙ (λ i. Some (unit i) ∷ ascii_chars (at + 1) block (omega (arith, le))
+      (λ k below. ap (λ n. get_or bytes (n * 2) 0) (same k) ∙ first (suc k) (omega (arith, below)))
+      (λ k below. ap (λ n. get_or bytes (suc (n * 2)) 0) (same k) ∙ second (suc k) (omega (arith, below)))
+      (λ k below. ascii (suc k) (omega (arith, below))) i)
+      ∙ ap (λ n. map Some (b ∷ block) ++ utf16_chars (drop n (numbers_spelled 2 bytes)))
+      (same (length block))
+
+  -- a block of ASCII from an index on
+  pub block_chars : (at : ℕ) (block : List ℕ) → at * 2 + 16 ≤ length bytes
+      → IsAsciiBlock (take (length bytes - 2 * at) (drop (2 * at) bytes)) block
+      → utf16_chars (drop at (numbers_spelled 2 bytes))
+      ≡ map Some block ++ utf16_chars (drop (at + 8) (numbers_spelled 2 bytes))
+  block_chars at block le of =
+      let n = length bytes - 2 * at in
+      let inside : (i : ℕ) → i < 16 → get_or bytes (2 * at + i) 0 ≡ get_or (take n (drop (2 * at) bytes)) i 0 =
+      λ i below. sym (get_or-take n (drop (2 * at) bytes) i 0 (omega (arith, le, below))
+      ∙ get_or-drop (2 * at) bytes i 0) in
+      let here : (k : ℕ) → (at + k) * 2 ≡ 2 * at + 2 * k = λ k. omega arith in
+      let after : (k : ℕ) → suc ((at + k) * 2) ≡ 2 * at + (2 * k + 1) = λ k. omega arith in
+      ascii_chars at block (omega (arith, le, of.long))
+      (λ k below. let less : k < 8 = omega (arith, below, of.long) in
+      ap (λ i. get_or bytes i 0) (here k) ∙ inside (2 * k) (omega (arith, less)) ∙ of.first k less)
+      (λ k below. let less : k < 8 = omega (arith, below, of.long) in
+      ap (λ i. get_or bytes i 0) (after k) ∙ inside (2 * k + 1) (omega (arith, less)) ∙ of.second k less)
+      of.ascii
+      ∙ ap (λ n. map Some block ++ utf16_chars (drop (at + n) (numbers_spelled 2 bytes))) of.long
+
+lossy_more : (block : List ℕ) (rest : List (Option ℕ))
+    → map (λ o. unwrap_or o 0xFFFD) (map Some block ++ rest)
+    ≡ block ++ map (λ o. unwrap_or o 0xFFFD) rest
+lossy_more [] rest = refl
+lossy_more (b ∷ block) rest = ap (λ l. b ∷ l) (lossy_more block rest)
+
+paired_more : (block : List ℕ) (rest : List (Option ℕ))
+    → list_any (λ o. not (is_some o)) (map Some block ++ rest) ≡ list_any (λ o. not (is_some o)) rest
+paired_more [] rest = refl
+paired_more (b ∷ block) rest = paired_more block rest
+
+-- the characters before a block are those of the block and those after it
+pub block_yields : (units after block : List ℕ)
+    → utf16_chars units ≡ map Some block ++ utf16_chars after
+    → utf16_lossy_chars units ≡ block ++ utf16_lossy_chars after
+block_yields units after block is =
+    ap (λ l. map (λ o. unwrap_or o 0xFFFD) l) is ∙ lossy_more block (utf16_chars after)
+
+-- no surrogate after a block is unpaired
+pub block_paired : (units after block : List ℕ)
+    → utf16_chars units ≡ map Some block ++ utf16_chars after
+    → has_unpaired_surrogate units ≡ false → has_unpaired_surrogate after ≡ false
+block_paired units after block is paired =
+    sym (ap (λ l. list_any (λ o. not (is_some o)) l) is ∙ paired_more block (utf16_chars after)) ∙ paired
