@@ -1,14 +1,19 @@
 -- A string in UTF-16 has one form, and is read back from it.
-use Rattle.std.proofs.Common.{◌≡◌, ℕ, zero, suc, ◌+◌, ◌-◌, ◌*◌, ◌/◌, ◌%◌, ◌<◌, ◌≤◌, ◌⊎◌, inl, inr, Bool, true, false, List, [], ◌∷◌, ◌++◌, length, get_or, drop, map, flat_map, Some, ap, sym, refl, subst, ◌∙◌, arith, cond, zero-add, not, is_some, chars, IsUtf8}
+use Rattle.std.proofs.Common.{◌≡◌, ℕ, zero, suc, ◌+◌, ◌-◌, ◌*◌, ◌/◌, ◌%◌, ◌<◌, ◌≤◌, ◌⊎◌, inl, inr, true, false, List, [], ◌∷◌, ◌++◌, length, get_or, drop, map, take, flat_map, Some, ap, sym, refl, subst, ◌∙◌, arith, cond, zero-add, not, is_some, chars, IsUtf8}
 use Rattle.std.specs.Char.Escape.{encode_utf16}
-use Rattle.std.specs.Char.Utf16.{has_unpaired_surrogate, is_high_surrogate, is_low_surrogate, lone_unit_char, surrogate_pair_char, utf16_chars, utf16_lossy_chars}
+use Rattle.std.specs.Char.Utf16.{has_unpaired_surrogate, lone_unit_char, surrogate_pair_char, utf16_chars, utf16_lossy_chars}
 use Rattle.std.specs.Int.{byte_at, bytes_high_first}
-use Rattle.std.specs.List.{list_any, range_with_len}
+use Rattle.std.specs.Char.{encode_utf8}
+use Rattle.std.specs.List.{list_any, range_with_len, sum_by}
+use Rattle.std.proofs.lemmas.List.{length-append, take_all, take_more}
+use Rattle.std.proofs.lemmas.List.Sums.{sum_by-append, sum_by-cons, sum_by_push}
+use Rattle.std.proofs.lemmas.Str.{length-encode}
+use Rattle.plist_base.specs.inner.UnitShares.{utf8_share}
 use Rattle.std.specs.Option.{unwrap_or}
 use Rattle.std.specs.Str.{encode_utf8_all}
 use Rattle.std.proofs.Math.Utf8.{scalar, scalar_cases, scalars}
 use Rattle.std.proofs.lemmas.Bool.{cases_lt, lt-ltb, le-ltb, le-leb, lt-leb, and_parts}
-use Rattle.std.proofs.lemmas.List.FromFn.{fill_by_all, get_or-map-range_with_len, length-map-range_with_len}
+use Rattle.std.proofs.lemmas.List.FromFn.{fill_by_all, get_or-map-range_with_len}
 use Rattle.std.proofs.lemmas.Str.{chars-encodes, utf16_chars-nil, utf16_chars_lone, utf16_chars_pair}
 use Rattle.std.proofs.str.Utf16.{IsPair, lone_unit_char_high, lone_unit_char_low, lone_unit_char_surrogate, one_unit, pair_units, two_units, utf16_chars-drop_all}
 use Rattle.plist_base.specs.ByteTests.{EachByte}
@@ -17,7 +22,7 @@ use Rattle.plist_base.specs.Object.{Scalar, text_of_units}
 use Rattle.plist_base.specs.Trees.{String}
 use Rattle.plist_base.specs.Utf16.{ArePaired, IsUtf16, chars_of_utf16, units_of, utf16_form, utf8_of_utf16}
 use Rattle.plist_base.specs.Utf16.{unit_at}
-use Rattle.plist_base.proofs.Utf16Units.{next_lone, scalar_of, units_length}
+use Rattle.plist_base.proofs.Utf16Units.{next_lone, nth_unit, scalar_of, units_length}
 
 -- ---- the bytes of units
 
@@ -83,16 +88,25 @@ units_small (a ∷ b ∷ rest) small i = rw (units-two a b rest)
 record Again (units : List ℕ) : Type 0 where
   chars : scalars (utf16_lossy_chars units) ≡ true
   back : flat_map encode_utf16 (utf16_lossy_chars units) ≡ units
+  size : sum_by utf8_share units ≡ length (encode_utf8_all (utf16_lossy_chars units))
 
 again_nil : Again []
-again_nil = record { chars = rw utf16_chars-nil refl; back = rw utf16_chars-nil refl }
+again_nil = record { chars = rw utf16_chars-nil refl; back = rw utf16_chars-nil refl; size = rw utf16_chars-nil refl }
 
 -- a character with its units before others
 again_more : (c : ℕ) (own us : List ℕ) → utf16_chars (own ++ us) ≡ Some c ∷ utf16_chars us
-    → scalar c ≡ true → encode_utf16 c ≡ own → Again us → Again (own ++ us)
-again_more c own us is one of rest = record {
+    → scalar c ≡ true → encode_utf16 c ≡ own → sum_by utf8_share own ≡ length (encode_utf8 c)
+    → Again us → Again (own ++ us)
+again_more c own us is one of share rest = record {
   chars = rw (is, one) rest.chars;
   back = rw (is, of) (ap (λ l. own ++ l) rest.back);
+  size = rw is (omega (
+    arith,
+    sum_by-append utf8_share own us,
+    share,
+    rest.size,
+    length-append (encode_utf8 c) (encode_utf8_all (utf16_lossy_chars us)),
+  ));
 }
 
 paired_more : (c : ℕ) (own us : List ℕ) → utf16_chars (own ++ us) ≡ Some c ∷ utf16_chars us
@@ -140,10 +154,61 @@ first_unit u us paired = elim (cases_lt u 55296) [
 abbrev AreSmall : List ℕ → Type 0
 AreSmall us = (i : ℕ) → get_or us i 0 < 65536
 
+share_lone : (u : ℕ) → u < 65536 → (u < 55296) ⊎ (57344 ≤ u)
+    → sum_by utf8_share (u ∷ []) ≡ length (encode_utf8 u)
+share_lone u small outside = elim (cases_lt u 0x80) [
+  | inl one ↦ rw (length-encode u, lt-ltb u 0x80 one) refl
+  | inr two ↦ elim (cases_lt u 0x800) [
+    | inl low ↦ rw (length-encode u, le-ltb u 0x80 two, lt-ltb u 0x800 low) refl
+    | inr three ↦ elim outside [
+      | inl below ↦ rw (
+        length-encode u,
+        le-ltb u 0x80 two,
+        le-ltb u 0x800 three,
+        lt-ltb u 0x1_0000 small,
+        lt-leb 0xd800 u below,
+      ) refl
+      | inr above ↦ rw (
+        length-encode u,
+        le-ltb u 0x80 two,
+        le-ltb u 0x800 three,
+        lt-ltb u 0x1_0000 small,
+        le-leb 0xd800 u (omega (arith, above)),
+        le-ltb u 0xe000 above,
+      ) refl
+    ]
+  ]
+]
+
+share_surrogate : (u : ℕ) → 55296 ≤ u → u < 57344 → utf8_share u ≡ 2
+share_surrogate u from below = rw (
+  le-ltb u 0x80 (omega (arith, from)),
+  le-ltb u 0x800 (omega (arith, from)),
+  le-leb 0xd800 u from,
+  lt-ltb u 0xe000 below,
+) refl
+
+len_pair : (c : ℕ) → 0x1_0000 ≤ c → length (encode_utf8 c) ≡ 4
+len_pair c high = rw (
+  length-encode c,
+  le-ltb c 0x80 (omega (arith, high)),
+  le-ltb c 0x800 (omega (arith, high)),
+  le-ltb c 0x1_0000 high,
+) refl
+
+share_pair : (u v : ℕ) → IsPair u v
+    → sum_by utf8_share (u ∷ v ∷ []) ≡ length (encode_utf8 (surrogate_pair_char u v))
+share_pair u v pair = omega (
+  arith,
+  share_surrogate u pair.0 (omega (arith, pair.1)),
+  share_surrogate v (omega (arith, pair.2)) pair.3,
+  len_pair (surrogate_pair_char u v) (omega arith),
+)
+
 again_lone : (u : ℕ) (us : List ℕ) → u < 65536 → (u < 55296) ⊎ (57344 ≤ u) → Again us
     → Again (u ∷ us)
 again_lone u us small outside rest = again_more u (u ∷ []) us (lone u us outside)
-    (scalar_of u (omega (arith, small)) outside) (one_unit u small) rest
+    (scalar_of u (omega (arith, small)) outside) (one_unit u small) (share_lone u small outside) rest
 
 again_pair : (u v : ℕ) (us : List ℕ) → IsPair u v → Again us → Again (u ∷ v ∷ us)
 again_pair u v us pair rest =
@@ -151,7 +216,7 @@ again_pair u v us pair rest =
     (scalar_of (surrogate_pair_char u v) (omega (arith, pair.1, pair.3)) (inr (omega arith)))
     (ap encode_utf16 {x = surrogate_pair_char u v}
     {y = 0x1_0000 + ((u - 0xD800) * 0x400 + (v - 0xDC00))} (omega arith)
-    ∙ pair_units u v pair.0 pair.2 pair.3) rest
+    ∙ pair_units u v pair.0 pair.2 pair.3) (share_pair u v pair) rest
 
 again : (us : List ℕ) → AreSmall us → has_unpaired_surrogate us ≡ false → Again us
 again [] small paired = again_nil
@@ -308,3 +373,48 @@ pub utf8_valid : (bytes : List ℕ) → length bytes % 2 ≡ 0 → IsBytes bytes
 utf8_valid bytes whole small paired =
     let of = again (numbers_spelled 2 bytes) (units_small bytes small) paired in
     (chars_of_utf16 bytes, (of.chars, refl))
+
+-- ---- the length in UTF-8
+
+-- one more unit is counted
+pub share_more : (bytes : List ℕ) (at size unit : ℕ) → at < length bytes / 2
+    → unit ≡ unit_at bytes at → size ≡ sum_by utf8_share (take at (numbers_spelled 2 bytes))
+    → size + utf8_share unit ≡ sum_by utf8_share (take (at + 1) (numbers_spelled 2 bytes))
+share_more bytes at size unit below is so_far =
+    let units = numbers_spelled 2 bytes in
+    let here : get_or units at 0 ≡ unit = nth_unit bytes at below ∙ sym is in
+    rw (
+      take_more units at 0 (omega (arith, below, units_length bytes)),
+      here,
+      sum_by_push utf8_share (take at units) unit,
+      ← so_far,
+    ) refl
+
+form_bytes : (us : List ℕ) → IsBytes (flat_map (bytes_high_first 2) us)
+form_bytes [] i = omega arith
+form_bytes (u ∷ us) zero = omega arith
+form_bytes (u ∷ us) (suc zero) = omega arith
+form_bytes (u ∷ us) (suc (suc i)) = form_bytes us i
+
+-- the units count the bytes of their string in UTF-8
+pub shares_all : (bytes : List ℕ) (at : ℕ) → IsUtf16 bytes → length bytes / 2 ≤ at
+    → sum_by utf8_share (take at (numbers_spelled 2 bytes)) ≡ length (utf8_of_utf16 bytes)
+shares_all bytes at valid all =
+    let small = subst IsBytes (sym valid.form) (form_bytes (units_of (utf8_of_utf16 bytes))) in
+    rw (take_all at (numbers_spelled 2 bytes) (omega (arith, all, units_length bytes)))
+    (again (numbers_spelled 2 bytes) (units_small bytes small) valid.paired).size
+
+share_some : (unit : ℕ) → 1 ≤ utf8_share unit
+share_some unit = grind arith
+
+shares_some : (units : List ℕ) → length units ≤ sum_by utf8_share units
+shares_some [] = omega arith
+shares_some (u ∷ us) = omega (arith, share_some u, shares_some us, sum_by-cons utf8_share u us)
+
+-- a string has at least as many bytes in UTF-8 as units
+pub no_fewer_bytes : (bytes : List ℕ) → IsUtf16 bytes → length bytes / 2 ≤ length (utf8_of_utf16 bytes)
+no_fewer_bytes bytes valid =
+    let units = numbers_spelled 2 bytes in
+    let all = take_all (length bytes / 2) units (omega (arith, units_length bytes)) in
+    let sum = shares_all bytes (length bytes / 2) valid (omega arith) in
+    omega (arith, units_length bytes, shares_some units, ap (sum_by utf8_share) all, sum)

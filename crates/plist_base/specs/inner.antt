@@ -3,3 +3,4 @@ pub mod DateBits
 pub mod Hashing
 pub mod Names
 pub mod Windows
+pub mod UnitShares

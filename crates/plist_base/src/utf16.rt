@@ -1,6 +1,6 @@
 //! Strings in UTF-16.
 
-ghost use Rattle.std.specs.Prelude.{◌≡◌, ◌+◌, ◌*◌, ◌/◌, ◌<◌, ◌≤◌, false, true, drop, length, MatchOption};
+ghost use Rattle.std.specs.Prelude.{◌≡◌, ◌+◌, ◌*◌, ◌/◌, ◌<◌, ◌≤◌, false, true, drop, length, IfSome, MatchOption};
 ghost use Rattle.std.proofs.Props.{props};
 ghost use Rattle.std.specs.Char.Utf16.{has_unpaired_surrogate};
 ghost use Rattle.plist_base.specs.Container.{numbers_spelled};
@@ -8,6 +8,7 @@ ghost use Rattle.plist_base.specs.Faults.{InvalidUtf16String};
 ghost use Rattle.plist_base.specs.Object.{Faulty, Scalar, wide_text};
 ghost use Rattle.plist_base.specs.Trees.{String};
 ghost use Rattle.plist_base.specs.Utf16.{ArePaired, IsNextChar, IsUnpaired, IsUtf16, unit_at};
+ghost use Rattle.plist_base.specs.inner.UnitShares.{utf8_share};
 
 use crate::byte_test::{ByteTest, all_pass};
 use std::simd::prelude::*;
@@ -98,6 +99,22 @@ fn all_paired(bytes: &[u8]) -> bool
     true
 }
 
+// Returns how many bytes a unit adds to its string in UTF-8. The four bytes of the character of a
+// surrogate pair are those of two units.
+#[inline(always)]
+fn utf8_share(unit: u32) -> usize
+    ensures value { result ≡ utf8_share unit }
+    ensures small { result ≤ 3 }
+{
+    if unit < 0x80 {
+        return 1;
+    }
+    if unit < 0x800 || unit >= 0xd800 && unit < 0xe000 {
+        return 2;
+    }
+    3
+}
+
 /// A string in UTF-16: its units, each in two bytes in big-endian order. Each surrogate is paired.
 #[derive(Clone, Copy)]
 pub struct Utf16Str<'a> {
@@ -113,8 +130,9 @@ impl<'a> Utf16Str<'a> {
     /// Returns the string whose units these bytes are, or `None` if a surrogate is unpaired.
     pub fn new(bytes: &'a [u8]) -> Option<Utf16Str<'a>>
         requires { length bytes.now % 2 ≡ 0 }
-        ensures { MatchOption result (wide_text bytes.now ≡ Faulty InvalidUtf16String)
+        ensures string { MatchOption result (wide_text bytes.now ≡ Faulty InvalidUtf16String)
             (λ text. wide_text bytes.now ≡ Scalar (String (string_of_utf16 text))) }
+        ensures bytes { IfSome result (λ text. text.bytes.now ≡ bytes.now) }
     {
         if all_pass::<BelowSurrogates>(bytes) || all_paired(bytes) {
             return Some(Utf16Str { bytes });
@@ -138,6 +156,17 @@ impl<'a> Utf16Str<'a> {
         ensures string { utf8_of_utf16 result.now ≡ string_of_utf16 self.entry }
     {
         self.bytes
+    }
+
+    /// Returns the number of bytes that the string has in UTF-8.
+    pub fn len_utf8(self) -> usize
+        ensures { result ≡ length (string_of_utf16 self.entry) }
+    {
+        let mut size = 0;
+        for at in 0..self.bytes.len() / 2 {
+            size += utf8_share(unit_at(self.bytes, at));
+        }
+        size
     }
 
     /// Returns an iterator over the characters.

@@ -1,11 +1,11 @@
 //! Hands decoded objects to a visitor.
 
-ghost use Rattle.std.specs.Prelude.{◌≡◌, Some, false, true, OnOk};
-ghost use Rattle.plist_base.specs.Object.{date, text, wide_text};
+ghost use Rattle.std.specs.Prelude.{◌≡◌, None, Some, false, true, IfSome, OnOk};
+ghost use Rattle.plist_base.specs.Object.{Object, date, text, wide_text};
 ghost use Rattle.plist_decode.specs.CountedContent.{AreUnits, content_means, unit_size};
 ghost use Rattle.plist_decode.specs.Decoded.{EndsIn64Bits, FailsInContent, FitsBefore, IsLong, IsLongBytes, small_count};
 ghost use Rattle.plist_binread.specs.ObjectEvents.{SetsContentAt, SetsDecoded, SetsLarge, is_refused};
-ghost use Rattle.plist_decode.specs.Decoding.{start_event};
+ghost use Rattle.plist_decode.specs.Decoding.{DecodesLarge, start_event};
 ghost use Rattle.plist_decode.specs.FaultOffsets.{ErrWithin};
 ghost use Rattle.plist_base.specs.Events.{ScalarEvent};
 ghost use Rattle.plist_binread.specs.Handovers.{HandsItem};
@@ -14,11 +14,11 @@ ghost use Rattle.plist_base.specs.Sources.{CountsIo};
 ghost use Rattle.plist_decode.specs.StepFaults.{result_with};
 ghost use Rattle.plist_decode.specs.declared.decoded.ContentKind.TheVariants.{Text as KindText};
 
-use plist_base::{Date, EventVisitor, Integer, RealBits, Source, Uid};
+use plist_base::{Date, EventVisitor, Integer, OwnedEvent, RealBits, Source, Uid, Utf16Str};
 use plist_decode::counter::DecodeCounter;
 use plist_decode::decoded::{CollectionKind, Content, ContentKind, Decoded};
 use plist_decode::decoder::Decoder;
-use plist_decode::long_content::{read_long, wide_text_event};
+use plist_decode::long_content::{content_event, read_content, wide_text_event};
 use plist_decode::packed::PackedKind;
 use plist_decode::step_fault::StepFault;
 use plist_decode::utf8::text_in;
@@ -82,11 +82,47 @@ fn hand_text<V: EventVisitor>(bytes: &[u8], visitor: &mut V) -> Result<ControlFl
     }
 }
 
+// Hands over a string in UTF-16 if the visitor takes it in this form. Otherwise returns `None`. A
+// string that is invalid is a fault.
+//
+// A string of at most eight bytes in UTF-8 is decoded together with the first bytes of its object.
+// So there can be one here only if the source returned other bytes before. The fault is `Memory`
+// then.
+#[inline(always)]
+fn hand_units<V: EventVisitor>(
+    bytes: &[u8],
+    visitor: &mut V,
+) -> Option<Result<ControlFlow<()>, StepFault>>
+    requires { AreUnits 2 bytes.now }
+    ensures handed { IfSome result (λ answer. HandsItem V.step visitor.old visitor.new (Some answer)
+        (SetsLarge (wide_text bytes.now) answer)) }
+    ensures declined { result ≡ None → visitor.new ≡ visitor.old }
+{
+    let Some(text) = Utf16Str::new(bytes) else {
+        return Some(Err(StepFault::NotUtf16));
+    };
+    if bytes.len() <= 16 && text.len_utf8() <= 8 {
+        return Some(Err(StepFault::Memory));
+    }
+    Some(Ok(visitor.utf16_string(text)?))
+}
+
+// Hands over an event, unless it couldn't be decoded.
+fn hand_event<V: EventVisitor>(
+    decoded: Result<OwnedEvent, StepFault>,
+    visitor: &mut V,
+) -> Result<ControlFlow<()>, StepFault>
+    ensures { (object : Object) → DecodesLarge object decoded.entry
+        → HandsItem V.step visitor.old visitor.new (Some result) (SetsLarge object result) }
+{
+    Ok(visitor.event(decoded?))
+}
+
 // Decodes a string in UTF-16 of any length into memory of its own, and hands it over. Returns a
 // fault if the string is invalid.
 #[cold]
 #[inline(never)]
-fn hand_long_wide_text<V: EventVisitor>(
+fn hand_long_utf8<V: EventVisitor>(
     alloc: Global,
     bytes: &[u8],
     visitor: &mut V,
@@ -95,16 +131,33 @@ fn hand_long_wide_text<V: EventVisitor>(
     ensures { HandsItem V.step visitor.old visitor.new (Some result)
         (SetsLarge (wide_text bytes.now) result) }
 {
-    let event = wide_text_event(alloc, bytes)?;
-    Ok(visitor.event(event))
+    hand_event(wide_text_event(alloc, bytes), visitor)
 }
 
-// Hands over a string in UTF-16, or returns a fault if it is invalid.
-// A string of at most `MAX_UNITS` units is decoded on the stack.
-//
-// A string of at most eight bytes in UTF-8 is decoded together with the first bytes of its object.
-// So there can be one here only if the source returned other bytes before. The fault is `Memory`
-// then.
+// Hands over a string in UTF-16 in UTF-8, or returns a fault if it is invalid. A string of at most
+// `MAX_UNITS` units is decoded on the stack.
+#[inline(never)]
+fn hand_in_utf8<V: EventVisitor>(
+    alloc: Global,
+    bytes: &[u8],
+    visitor: &mut V,
+) -> Result<ControlFlow<()>, StepFault>
+    requires { AreUnits 2 bytes.now }
+    ensures { HandsItem V.step visitor.old visitor.new (Some result)
+        (SetsLarge (wide_text bytes.now) result) }
+{
+    if bytes.len() > 2 * MAX_UNITS {
+        return hand_long_utf8(alloc, bytes, visitor);
+    }
+    let mut text = [0; 3 * MAX_UNITS];
+    match utf16_text_in(bytes, &mut text) {
+        Some(text) if text.len() > 8 => Ok(visitor.string(CowStr::Borrowed(text))),
+        Some(_) => Err(StepFault::Memory),
+        None => Err(StepFault::NotUtf16),
+    }
+}
+
+// Hands over a string in UTF-16, in this form or in UTF-8, or returns a fault if it is invalid.
 #[inline(never)]
 fn hand_wide_text<V: EventVisitor>(
     alloc: Global,
@@ -115,14 +168,9 @@ fn hand_wide_text<V: EventVisitor>(
     ensures { HandsItem V.step visitor.old visitor.new (Some result)
         (SetsLarge (wide_text bytes.now) result) }
 {
-    if bytes.len() > 2 * MAX_UNITS {
-        return hand_long_wide_text(alloc, bytes, visitor);
-    }
-    let mut text = [0; 3 * MAX_UNITS];
-    match utf16_text_in(bytes, &mut text) {
-        Some(text) if text.len() > 8 => Ok(visitor.string(CowStr::Borrowed(text))),
-        Some(_) => Err(StepFault::Memory),
-        None => Err(StepFault::NotUtf16),
+    match hand_units(bytes, visitor) {
+        Some(answer) => answer,
+        None => hand_in_utf8(alloc, bytes, visitor),
     }
 }
 
@@ -144,6 +192,27 @@ pub fn hand_bytes<V: EventVisitor>(
         ContentKind::Text => hand_text(bytes, visitor),
         ContentKind::WideText => hand_wide_text(alloc, bytes, visitor),
     }
+}
+
+// Hands over the string or data in these bytes, or returns a fault if a string is invalid. The
+// visitor may keep the bytes.
+fn hand_owned<V: EventVisitor>(
+    alloc: Global,
+    kind: ContentKind,
+    bytes: Vec<u8>,
+    visitor: &mut V,
+) -> Result<ControlFlow<()>, StepFault>
+    requires units { AreUnits (unit_size kind) bytes.items }
+    requires long { IsLongBytes kind bytes.items }
+    ensures { HandsItem V.step visitor.old visitor.new (Some result)
+        (SetsLarge (content_means kind bytes.items) result) }
+{
+    if let ContentKind::WideText = kind
+        && let Some(answer) = hand_units(&bytes, visitor)
+    {
+        return answer;
+    }
+    hand_event(content_event(alloc, kind, bytes), visitor)
 }
 
 // Reads the string or data of the object at this offset, which isn't buffered, and hands it over.
@@ -172,8 +241,8 @@ fn hand_far<S: Source, C: DecodeCounter, V: EventVisitor>(
     ensures failures { CountsIo (Some (result_with result decoder.new.details))
         (S.failures source.old) (S.failures source.new) }
 {
-    let event = read_long(source, decoder, place, content)?;
-    Ok(visitor.event(event))
+    let bytes = read_content(source, decoder, place, content)?;
+    hand_owned(decoder.alloc, content.kind, bytes, visitor)
 }
 
 // Hands over the start of a collection of this many items or pairs.

@@ -4,7 +4,7 @@
 ghost use Rattle.std.specs.Prelude.{◌≡◌};
 
 use plist_base::{
-    Allowance, Error, Event, EventVisitor, Integer, LimitCounter, OwnedEvent, RealBits, Uid,
+    Allowance, Error, Event, EventVisitor, Integer, LimitCounter, OwnedEvent, RealBits, Uid, Utf16Str,
 };
 use std::alloc::Global;
 use std::borrow::{CowSlice, CowStr};
@@ -67,6 +67,11 @@ impl<'v, V: EventVisitor> EventVisitor for Relay<'v, V> {
     #[inline(always)]
     fn string(&mut self, text: CowStr<'_>) -> ControlFlow<()> {
         self.visitor.string(text)
+    }
+
+    #[inline(always)]
+    fn utf16_string(&mut self, text: Utf16Str<'_>) -> Option<ControlFlow<()>> {
+        self.visitor.utf16_string(text)
     }
 
     #[inline(always)]

@@ -4,8 +4,7 @@ use Rattle.plist_base.specs.declared.error.Error.{Error}
 use Rattle.plist_base.specs.Faults.{kind_of}
 use Rattle.plist_base.specs.Object.{Object, Scalar, Faulty, date, meaning_of_front, object_in}
 use Rattle.plist_decode.specs.CountedContent.{content_means, unit_size}
-use Rattle.plist_base.specs.declared.event.Event.{Event}
-use Rattle.plist_decode.specs.Decoding.{AreReferencesAt, Decodes, IsCollection, IsRefusedAs, child_count, children_in, start_event}
+use Rattle.plist_decode.specs.Decoding.{AreReferencesAt, IsCollection, IsRefusedAs, child_count, children_in, start_event}
 use Rattle.plist_decode.specs.Reading.{bytes_at, object_at}
 use Rattle.plist_decode.specs.Packed.{content_bytes, is_packed, unpacked}
 use Rattle.plist_decode.specs.FaultOffsets.{ErrWithin}
@@ -131,14 +130,6 @@ FitsBefore trailer place (decoded.Faulty fault) = ⊤
 -- the offset of the content's end is less than 2^64
 abbrev pub EndsIn64Bits : (place : ℕ) → Content → Type 0
 EndsIn64Bits place content = place + content.start + content_size content < 2 ^ 64
-
--- if the content lies within known bytes, the result is the event of its object
-abbrev pub ReadsContent : (known : Option (List ℕ)) → (place : ℕ) → Content → Result Event Error
-    → Type 0
-ReadsContent known place content answer = IfSome known (λ bytes.
-    place + content.start + content_size content ≤ length bytes
-    → Decodes (content_means content.kind
-    (take (content_size content) (drop (place + content.start) bytes))) place answer)
 
 -- if a read fails, the error's offset lies between the object's offset and the content's end
 abbrev pub FailsInContent : {A : Type 0} → (place : ℕ) → Content → Result A Error → Type 0

@@ -6,4 +6,5 @@ pub mod Printers
 pub mod Runs
 pub mod ScalarLines
 pub mod SourceItems
+pub mod Utf16Lines
 pub mod LineExamples

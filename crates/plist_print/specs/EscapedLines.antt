@@ -2,6 +2,7 @@
 use Rattle.std.specs.Prelude.{ℕ, ℤ, ◌+◌, ◌/◌, ◌%◌, Bool, true, false, not, ◌&&◌, List, [], ◌∷◌, ◌++◌, Option, None, Some, Ok, Err, map, ◌==◌, nat_le, nat_lt, if◌then◌else◌, codes}
 use Rattle.std.specs.List.{flat_map}
 use Rattle.std.specs.Fmt.{decimal, signed_decimal}
+use Rattle.std.specs.Str.{encode_utf8_all}
 use Rattle.plist_base.specs.declared.real.RealBits.{RealBits}
 use Rattle.plist_base.specs.declared.real.RealBits.TheVariants.{Four, Eight}
 use Rattle.plist_base.specs.Faults.{Fault}
@@ -32,6 +33,10 @@ escaped_byte byte =
 -- how a string is printed, between its quotes
 abbrev pub escaped_text : List ℕ → List ℕ
 escaped_text bytes = flat_map escaped_byte bytes
+
+-- how the characters of a string are printed, as the bytes of each in UTF-8 are
+abbrev pub escaped_chars : List ℕ → List ℕ
+escaped_chars chars = escaped_text (encode_utf8_all chars)
 
 -- the printed form of a start: its word, and after a space its length, if that is known
 abbrev pub text_of_start : (word : List ℕ) → (length : Option ℕ) → List ℕ

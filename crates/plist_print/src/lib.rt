@@ -10,5 +10,6 @@ mod lines;
 mod plain_bytes;
 mod print;
 mod printer;
+mod utf16;
 
 pub use print::{print_events, print_reader, print_source};

@@ -1,7 +1,7 @@
 //! The printed form of a string: an escape for `"`, `\` and any byte that isn't printable ASCII,
 //! and any other byte as it is.
 
-ghost use Rattle.std.specs.Prelude.{◌≡◌, ◌++◌, ◌+◌, ◌*◌, ◌≤◌, length, true};
+ghost use Rattle.std.specs.Prelude.{◌≡◌, ◌++◌, ◌+◌, ◌*◌, ◌≤◌, false, length, true};
 ghost use Rattle.plist_base.specs.Events.{ScalarEvent};
 ghost use Rattle.plist_base.specs.Sinks.{buffered, room};
 ghost use Rattle.plist_base.specs.Trees.{String};
@@ -76,9 +76,20 @@ impl ByteTest for Plain {
     }
 }
 
-// Pushes a byte of a string, or its escape.
+/// Pushes the escape of a byte that isn't printed as it is.
 #[inline(always)]
-fn push_byte(line: &mut FixedBuffer, byte: u8)
+pub fn push_escape(line: &mut FixedBuffer, byte: u8)
+    requires escaped { stands_for_itself byte ≡ false }
+    requires room { 4 ≤ room line.old }
+    ensures pushed { buffered line.new ≡ buffered line.old ++ escaped_byte byte }
+    ensures room { room line.old ≤ room line.new + 4 }
+{
+    line.push(&[b'\\', b'x', digit_of(byte / 16), digit_of(byte % 16)]);
+}
+
+/// Pushes a byte of a string, or its escape.
+#[inline(always)]
+pub fn push_byte(line: &mut FixedBuffer, byte: u8)
     requires { 4 ≤ room line.old }
     ensures pushed { buffered line.new ≡ buffered line.old ++ escaped_byte byte }
     ensures room { room line.old ≤ room line.new + 4 }
@@ -87,7 +98,7 @@ fn push_byte(line: &mut FixedBuffer, byte: u8)
         line.push(&[byte]);
         return;
     }
-    line.push(&[b'\\', b'x', digit_of(byte / 16), digit_of(byte % 16)]);
+    push_escape(line, byte);
 }
 
 // Pushes a string byte by byte.

@@ -1,17 +1,20 @@
 //! Defines a visitor that prints each event on a line of its own.
 
-ghost use Rattle.std.specs.Prelude.{◌≡◌, ◌++◌, ◌+◌, ◌*◌, ◌≤◌, [], Ok, OnOk, length};
+ghost use Rattle.std.specs.Prelude.{◌≡◌, ◌++◌, ◌+◌, ◌*◌, ◌≤◌, [], Ok, OnOk, codes, length};
 ghost use Rattle.plist_base.specs.Events.{ScalarEvent};
 ghost use Rattle.plist_base.specs.Sinks.{Puts, room, sink_capacity};
 ghost use Rattle.plist_base.specs.Trees.{Data, String};
-ghost use Rattle.plist_print.specs.EscapedLines.{event_of_short, in_notation};
+ghost use Rattle.plist_base.specs.Utf16Strings.{chars_left, string_of_utf16};
+ghost use Rattle.plist_print.specs.EscapedLines.{escaped_chars, event_of_short, in_notation};
 ghost use Rattle.plist_print.specs.PrintRuns.{PrintsRun};
 
 use crate::lines::{
     MAX_FIXED_LINE, Notation, ShortLine, push_bytes, push_data, push_short, push_string,
 };
+use crate::utf16::push_chars;
 use plist_base::{
-    Date, Error, ErrorKind, Event, EventSource, EventVisitor, Integer, RealBits, Sink, Uid, Visited,
+    Date, Error, ErrorKind, Event, EventSource, EventVisitor, Integer, RealBits, Sink, Uid,
+    Utf16Chars, Utf16Str, Visited,
 };
 use std::borrow::{CowSlice, CowStr};
 use std::io::Write;
@@ -21,6 +24,10 @@ use std::ops::ControlFlow;
 // The line of a string or data of at most this many bytes fits into an empty buffer, even if each
 // byte is escaped.
 const MOST_AT_ONCE: usize = 16_368;
+
+// The line of a string in UTF-16 of at most this many bytes fits into an empty buffer, even if each
+// character has three bytes in UTF-8 and each of these is escaped.
+const MOST_AT_ONCE_UTF16: usize = 10_912;
 
 // A longer string or data is printed in blocks of this many bytes.
 const BLOCK: usize = 4096;
@@ -191,6 +198,38 @@ impl<'p, W: Write> Printer<'p, W> {
         }
     }
 
+    // Prints the characters that an iterator still has to yield, and the end of the line. The
+    // pending bytes are written whenever the buffer is full.
+    fn print_chars(&mut self, chars: &mut Utf16Chars<'_>) -> ControlFlow<()>
+        requires { 16 ≤ room self.old.sink.buffer.now }
+        ensures { PrintsBytes W.contents self.old
+            (escaped_chars (chars_left chars.old) ++ codes "\"\n") result self.new }
+    {
+        while !push_chars(self.sink.buffer, chars) {
+            match self.write_pending() {
+                ControlFlow::Continue(()) => {}
+                ControlFlow::Break(()) => return ControlFlow::Break(()),
+            }
+        }
+        self.sink.buffer.push(b"\"\n");
+        ControlFlow::Continue(())
+    }
+
+    // Prints a string in UTF-16. The line of a short one is never written in two parts.
+    fn print_utf16(&mut self, text: Utf16Str<'_>) -> ControlFlow<()>
+        ensures { PrintsLine W.contents self.old
+            (ScalarEvent (String (string_of_utf16 text.entry))) result self.new }
+    {
+        let at_once = text.as_bytes().len().min(MOST_AT_ONCE_UTF16);
+        match self.make_room(6 * at_once + MAX_FIXED_LINE) {
+            ControlFlow::Continue(()) => {
+                self.sink.buffer.push(b"String \"");
+                self.print_chars(&mut text.chars())
+            }
+            ControlFlow::Break(()) => ControlFlow::Break(()),
+        }
+    }
+
     // Prints data.
     fn print_data(&mut self, bytes: &[u8]) -> ControlFlow<()>
         ensures { PrintsLine W.contents self.old (ScalarEvent (Data bytes.now)) result self.new }
@@ -325,5 +364,10 @@ impl<'p, W: Write> EventVisitor for Printer<'p, W> {
     #[inline(always)]
     fn string(&mut self, text: CowStr<'_>) -> ControlFlow<()> {
         self.print_text(text.as_str())
+    }
+
+    #[inline(always)]
+    fn utf16_string(&mut self, text: Utf16Str<'_>) -> Option<ControlFlow<()>> {
+        Some(self.print_utf16(text))
     }
 }

@@ -1,4 +1,4 @@
-use Rattle.std.proofs.Common.{◌∙◌, ap, arith, length, refl}
+use Rattle.std.proofs.Common.{arith, refl}
 use Rattle.std.proofs.str.Utf16.{utf16_chars-drop_all}
 use Rattle.plist_base.specs.Container.{numbers_spelled}
 use Rattle.plist_base.proofs.Utf16Units.{units_length}

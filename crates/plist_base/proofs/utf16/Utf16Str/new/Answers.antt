@@ -1,5 +1,4 @@
-use Rattle.std.proofs.Common.{◌≡◌, arith}
-use Rattle.plist_base.specs.Utf16.{ArePaired, IsUtf16}
+use Rattle.std.proofs.Common.{arith}
 use Rattle.plist_base.proofs.Utf16Forms.{is_utf16, no_surrogates}
 use Rattle.plist_base.proofs.utf16.Utf16Str.new.Goals as goal
 use Rattle.plist_base.proofs.utf16.Utf16Str.new.Goals.{then-all_pass-via-then-all_pass, then-all_pass-via-else-all_pass+then-all_paired}
