@@ -20,7 +20,7 @@ use Rattle.plist_base.specs.ByteTests.{EachByte}
 use Rattle.plist_base.specs.Container.{number_at, number_of, numbers_spelled}
 use Rattle.plist_base.specs.Object.{Scalar, text_of_units}
 use Rattle.plist_base.specs.Trees.{String}
-use Rattle.plist_base.specs.Utf16.{ArePaired, IsUtf16, units_of, utf16_form, utf8_of_utf16}
+use Rattle.plist_base.specs.Utf16.{ArePaired, IsUtf16, chars_of_utf16, units_of, utf16_form, utf8_of_utf16}
 use Rattle.plist_base.specs.Utf16.{unit_at}
 use Rattle.plist_base.proofs.Utf16Units.{next_lone, nth_unit, scalar_of, units_length}
 
@@ -366,6 +366,13 @@ form_valid text (cs, (s, is)) =
       paired = rw (units, units_read cs s, units_back cs s) (all_paired cs);
       form = ap utf16_form (sym (form_back text (cs, (s, is))));
     }
+
+-- the string that whole units without unpaired surrogates encode is in UTF-8
+pub utf8_valid : (bytes : List ℕ) → length bytes % 2 ≡ 0 → IsBytes bytes → ArePaired bytes
+    → IsUtf8 (utf8_of_utf16 bytes)
+utf8_valid bytes whole small paired =
+    let of = again (numbers_spelled 2 bytes) (units_small bytes small) paired in
+    (chars_of_utf16 bytes, (of.chars, refl))
 
 -- ---- the length in UTF-8
 

@@ -8,7 +8,7 @@ use Rattle.std.proofs.lemmas.Bool.{cases_lt, le-ltb, lt-ltb}
 use Rattle.plist_base.specs.Utf16.{units_of}
 use Rattle.std.specs.List.{sum_by}
 use Rattle.plist_binwrite.specs.inner.Units.{units_begun}
-use Rattle.plist_binwrite.proofs.Reading.{units_are}
+use Rattle.plist_buffer.proofs.TextUnits.{units_are}
 
 begins_none : (b : ℕ) → 0x80 ≤ b → b < 0xc0 → units_begun b ≡ 0
 begins_none b least most = rw (le-ltb b 0x80 least, lt-ltb b 0xc0 most) refl

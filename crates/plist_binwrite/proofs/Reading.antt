@@ -1,39 +1,25 @@
--- The units of a string, and how each form is read back as its object, whatever follows.
-use Rattle.std.proofs.Common.{◌≡◌, inl, inr, ℕ, ◌+◌, ◌-◌, ◌/◌, ◌%◌, ◌≤◌, List, [], ◌++◌, length, flat_map, chars, encode_utf8, IsUtf8, ap, sym, ◌∙◌, arith, length-append, suc, ◌*◌, ◌^◌, ◌<◌, true, false, not, cond, ◌∷◌, map, Some, refl, is_some}
+-- How each form is read back as its object, whatever follows.
+use Rattle.std.proofs.Common.{◌≡◌, inl, inr, ℕ, ◌+◌, ◌-◌, ◌/◌, ◌%◌, ◌≤◌, List, [], ◌++◌, length, flat_map, ap, ◌∙◌, arith, length-append, suc, ◌*◌, ◌^◌, ◌<◌, true, false, cond, ◌∷◌, refl}
 use Rattle.std.specs.Char.Escape.{encode_utf16}
-use Rattle.std.specs.Char.{len_utf8}
-use Rattle.std.proofs.lemmas.Bool.{lt-ltb, le-ltb, cases_lt, le-leb, lt-leb, and_parts}
+use Rattle.std.proofs.lemmas.Bool.{lt-ltb, le-ltb, cases_lt, and_parts}
 use Rattle.std.proofs.lemmas.Grind.{flat_map-append}
-use Rattle.std.proofs.lemmas.Str.{chars_past_char, chars-nil, length-encode, is_utf8-from_IsUtf8, chars-encodes, utf16_chars-nil, utf16_chars_lone, utf16_chars_pair}
-use Rattle.std.proofs.lemmas.List.{nil_from_length}
+use Rattle.std.proofs.lemmas.Str.{is_utf8-from_IsUtf8}
 use Rattle.plist_base.specs.declared.marker.CountedKind.TheVariants as kind
 use Rattle.plist_base.specs.Utf16.{units_of}
-use Rattle.plist_binwrite.specs.Forms.{is_ascii_text, length_form, scalar_form, table_form, form, key_numbers, value_numbers, IsWritableScalar, AllFit, IsWritable}
+use Rattle.plist_buffer.specs.AsciiTexts.{is_ascii_text}
+use Rattle.plist_binwrite.specs.Forms.{length_form, scalar_form, table_form, form, key_numbers, value_numbers, IsWritableScalar, AllFit, IsWritable}
 use Rattle.std.specs.Int.{bytes_high_first}
-use Rattle.std.specs.List.{zip, list_any}
-use Rattle.std.specs.Str.{encode_utf8_all}
-use Rattle.std.specs.Char.Utf16.{utf16_chars, lone_unit_char, surrogate_pair_char}
-use Rattle.std.specs.Option.{unwrap_or}
+use Rattle.std.specs.List.{zip}
 use Rattle.std.proofs.Math.Utf8.{scalar, scalars, scalar_cases}
 use Rattle.std.proofs.Math.Seq.{take-append_seam, drop-append_seam}
 use Rattle.plist_base.specs.declared.real.RealBits.TheVariants.{Four, Eight}
 use Rattle.plist_base.specs.Trees as trees
-use Rattle.plist_base.specs.Object.{Object, Scalar, Array, Dictionary, Faulty, object_in, text, text_of_units, dictionary, date, date_if_any}
+use Rattle.plist_base.specs.Object.{Object, Scalar, Array, Dictionary, Faulty, object_in, text_of_units, dictionary, date, date_if_any}
 use Rattle.plist_base.proofs.Utf16Forms.{text_of_chars}
 use Rattle.plist_base.proofs.Layouts.{layout-data, layout-text, layout-wide_text, layout-array, layout-dictionary}
+use Rattle.plist_buffer.proofs.TextUnits.{few_units_in, units_are}
 use Rattle.plist_buffer.proofs.Uniques.{all_both}
 use Rattle.plist_binwrite.proofs.ReadingNumbers.{counted, front, integer_read, length-table, numbers_back, uid_read}
-
-pub units_empty : (text : List ℕ) → length text ≡ 0 → units_of text ≡ []
-unfolding units_of
-units_empty text none =
-    ap (flat_map _) (ap chars (nil_from_length _ none) ∙ chars-nil)
-
-pub units_step : (text rest : List ℕ) (c : ℕ) → IsUtf8 text → text ≡ encode_utf8 c ++ rest
-    → units_of text ≡ encode_utf16 c ++ units_of rest
-unfolding units_of
-units_step text rest c utf8 parts =
-    ap (flat_map _) (chars_past_char _ _ c utf8 parts)
 
 -- these are the bytes of a surrogate pair
 pub pair_units : (c : ℕ) → 0x1_0000 ≤ c
@@ -41,22 +27,6 @@ pub pair_units : (c : ℕ) → 0x1_0000 ≤ c
     ++ bytes_high_first 2 (0xdc00 + (c - 0x1_0000) % 0x400)
     ≡ table_form 2 (encode_utf16 c)
 pair_units c high = rw (le-ltb c _ high) refl
-
--- a character has no more units than bytes
-pub few_units : (c : ℕ) → length (encode_utf16 c) ≤ length (encode_utf8 c)
-few_units c =
-    elim (cases_lt c 0x1_0000) [
-      | inl low ↦ rw (lt-ltb c 0x1_0000 low) (omega (arith, length-encode c, least))
-      | inr high ↦ rw (le-ltb c 0x1_0000 high) (omega (arith, length-encode c, most high))
-    ]
-  where
-    least : 1 ≤ len_utf8 c
-    least = grind arith
-
-    most : 0x1_0000 ≤ c → 2 ≤ len_utf8 c
-    most h =
-        rw (le-ltb c 0x80 (omega arith), le-ltb c 0x800 (omega arith), le-ltb c _ h)
-        (omega arith)
 
 -- ---- strings
 
@@ -75,23 +45,6 @@ units_fit [] s = tt
 units_fit (c ∷ cs) s =
     let k = and_parts (scalar c) (scalars cs) s in
     all_both _ _ _ (unit_bounds c k.0) (units_fit cs k.1)
-
-few_units_in : (cs : List ℕ) → length (flat_map encode_utf16 cs) ≤ length (encode_utf8_all cs)
-few_units_in [] = omega arith
-few_units_in (c ∷ cs) =
-    omega (
-      arith,
-      few_units c,
-      few_units_in cs,
-      length-append (encode_utf16 c)
-          (flat_map encode_utf16 cs),
-      length-append (encode_utf8 c) (encode_utf8_all cs),
-    )
-
-pub units_are : (text cs : List ℕ) → scalars cs ≡ true → encode_utf8_all cs ≡ text
-    → units_of text ≡ flat_map encode_utf16 cs
-unfolding units_of
-units_are text cs s e = ap (flat_map _) (ap chars (sym e) ∙ chars-encodes cs s)
 
 pub text_read : (width : ℕ) (t rest : List ℕ) → IsWritableScalar (trees.String t)
     → object_in width (scalar_form (trees.String t) ++ rest) ≡ Scalar (trees.String t)

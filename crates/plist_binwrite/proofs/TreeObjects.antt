@@ -9,7 +9,8 @@ use Rattle.plist_base.specs.declared.event.EventShape.TheVariants as shape
 use Rattle.plist_buffer.specs.Occurrences.{event_count, OccursAt, ItemsOccurAt, PairsOccurAt}
 use Rattle.plist_binwrite.specs.Classes.{object_of}
 use Rattle.plist_base.specs.Utf16.{units_of}
-use Rattle.plist_binwrite.specs.Forms.{length_form, is_ascii_text, scalar_form, form, key_numbers, value_numbers, IsWritable, IsWritableScalar, AllFit}
+use Rattle.plist_buffer.specs.AsciiTexts.{is_ascii_text}
+use Rattle.plist_binwrite.specs.Forms.{length_form, scalar_form, form, key_numbers, value_numbers, IsWritable, IsWritableScalar, AllFit}
 use Rattle.std.specs.Int.{bytes_high_first}
 use Rattle.plist_buffer.specs.EventTable.{HasItem, LacksItem, is_end, event_at, item_indices, key_indices, value_indices, IsBracketed}
 use Rattle.plist_binwrite.specs.Sizes.{object_size}

@@ -12,7 +12,7 @@ use Rattle.plist_base.specs.declared.fixed_buffer.FixedBuffer.{FixedBuffer}
 use Rattle.plist_base.specs.Utf16.{units_of}
 use Rattle.plist_binwrite.specs.Forms.{table_form}
 use Rattle.plist_binwrite.specs.inner.Layout.{PushesUnits}
-use Rattle.plist_binwrite.proofs.Reading.{units_step}
+use Rattle.plist_buffer.proofs.TextUnits.{units_step}
 
 -- a character has a unit
 some_units : (c : ℕ) → 1 ≤ length (encode_utf16 c)

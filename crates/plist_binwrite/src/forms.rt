@@ -11,7 +11,8 @@ ghost use Rattle.plist_base.specs.Trees as trees;
 ghost use Rattle.plist_binwrite.specs.Forms.{IsWritableScalar, unsigned_form, length_form, scalar_form, table_form};
 ghost use Rattle.plist_binwrite.specs.inner.Numbering.{IsCapped};
 ghost use Rattle.std.specs.Int.{bytes_high_first};
-ghost use Rattle.plist_buffer.specs.StoredScalars.{scalar_of_ref};
+ghost use Rattle.plist_base.specs.Utf16.{utf8_of_utf16};
+ghost use Rattle.plist_buffer.specs.StoredScalars.{IsStored, IsWide, scalar_of_ref};
 ghost use Rattle.plist_base.specs.Sinks.{Puts, PutsBytes, PutsNothing, room};
 ghost use Rattle.plist_binwrite.specs.Written.{table_and_trailer, trailer_of};
 
@@ -19,12 +20,13 @@ use crate::push::{
     push_boolean, push_date, push_integer, push_length, push_number, push_real, push_uid,
 };
 pub use crate::text::put_text;
-use crate::text::{count_units, is_ascii_text};
+use crate::text::{count_units, put_wide};
 use crate::widths::{least_width, offset_width, reference_width};
 pub use plist_base::marker::CountedKind;
 use plist_base::marker::LowHalf;
 use plist_base::{Date, Error, Integer, RealBits, Sink, Uid};
 use plist_buffer::stored_scalar::ScalarRef;
+use plist_buffer::wide::is_ascii_text;
 use std::io::Write;
 
 /// The greatest number of bytes in the object of a scalar other than a string or data.
@@ -74,11 +76,13 @@ pub fn put_length<W: Write>(
 
 /// Puts the object of a scalar. An error is that of [`Sink::put`].
 pub fn put_scalar<W: Write>(sink: &mut Sink<'_, W>, scalar: ScalarRef<'_>) -> Result<(), Error>
+    requires { IsStored scalar }
     ensures { Puts W.contents sink.old (scalar_form (scalar_of_ref scalar.entry)) result sink.new }
 {
     sink.make_room(MAX_FIXED_OBJECT)?;
     match scalar {
         ScalarRef::String(text) => return put_text(sink, text),
+        ScalarRef::WideString(units) => return put_wide(sink, units),
         ScalarRef::Data(bytes) => return put_data(sink, bytes),
         ScalarRef::Boolean(value) => push_boolean(sink.buffer, value),
         ScalarRef::Date(date) => push_date(sink.buffer, date),
@@ -219,6 +223,18 @@ fn length_of_text(text: &str) -> u64
         .saturating_add(length_of_count(count))
 }
 
+// Returns the length of the object of a string that isn't ASCII, given its units in UTF-16, or
+// 2^64 - 1 if it is greater.
+fn length_of_wide(units: &[u8]) -> u64
+    requires { IsWide units.now }
+    ensures value { IsCapped result
+        (length (scalar_form (trees.String (utf8_of_utf16 units.now)))) }
+    ensures writable { IsWritableScalar (trees.String (utf8_of_utf16 units.now)) }
+{
+    let size = units.len() as u64;
+    size.saturating_add(length_of_count(size / 2))
+}
+
 // Returns the length of an integer's object.
 fn length_of_integer(value: Integer) -> u64
     ensures value { result ≡ length (scalar_form (trees.Integer value)) }
@@ -233,6 +249,7 @@ fn length_of_integer(value: Integer) -> u64
 
 /// Returns the length of a scalar's object in bytes, or 2^64 - 1 if it is greater.
 pub(crate) fn length_of_scalar(scalar: ScalarRef<'_>) -> u64
+    requires { IsStored scalar }
     ensures value { IsCapped result (length (scalar_form (scalar_of_ref scalar.entry))) }
     ensures writable { IsWritableScalar (scalar_of_ref scalar.entry) }
 {
@@ -247,5 +264,6 @@ pub(crate) fn length_of_scalar(scalar: ScalarRef<'_>) -> u64
         },
         ScalarRef::String(text) => length_of_text(text),
         ScalarRef::Uid(uid) => length_of_unsigned(uid.get()),
+        ScalarRef::WideString(units) => length_of_wide(units),
     }
 }

@@ -5,16 +5,19 @@
 ghost use Rattle.std.specs.Prelude.{◌≡◌, ◌+◌, ◌++◌, ◌∷◌, ◌≤◌, length, true, false};
 ghost use Rattle.plist_base.specs.Sinks.{buffered, room};
 ghost use Rattle.plist_base.specs.Trees as trees;
-ghost use Rattle.plist_binwrite.specs.Forms.{integer_marker, is_ascii_text, unsigned_form, length_form, scalar_form};
+ghost use Rattle.plist_binwrite.specs.Forms.{integer_marker, unsigned_form, length_form, scalar_form};
 ghost use Rattle.std.specs.Int.{bytes_high_first};
-ghost use Rattle.plist_buffer.specs.StoredScalars.{scalar_of_ref};
+ghost use Rattle.plist_buffer.specs.AsciiTexts.{is_ascii_text};
+ghost use Rattle.plist_base.specs.Utf16.{utf8_of_utf16};
+ghost use Rattle.plist_buffer.specs.StoredScalars.{IsStored, IsWide, scalar_of_ref};
 ghost use Rattle.plist_base.specs.Object.{byte_of};
 
-use crate::text::{count_units, is_ascii_text, push_units};
+use crate::text::{count_units, push_units};
 use crate::widths::least_width;
 use plist_base::marker::{CountedKind, LowHalf, Marker, UidWidth};
 use plist_base::{Date, FixedBuffer, Integer, RealBits, Uid};
 use plist_buffer::stored_scalar::ScalarRef;
+use plist_buffer::wide::is_ascii_text;
 
 // Returns the marker of a number of this width.
 #[inline(always)]
@@ -163,8 +166,9 @@ pub fn push_integer(buffer: &mut FixedBuffer, value: Integer)
     }
 }
 
-// Pushes a string in UTF-16, if it surely fits into the buffer, and returns whether it was pushed.
-fn push_wide_text(buffer: &mut FixedBuffer, text: &str) -> bool
+// Encodes a string that isn't ASCII in UTF-16 and pushes it, if it surely fits into the buffer, and
+// returns whether it was pushed.
+fn push_encoded(buffer: &mut FixedBuffer, text: &str) -> bool
     requires wide { is_ascii_text text.now ≡ false }
     ensures pushed { result ≡ true
         → buffered buffer.new ≡ buffered buffer.old ++ scalar_form (trees.String text.now) }
@@ -191,10 +195,28 @@ fn push_text(buffer: &mut FixedBuffer, text: &str) -> bool
         return false;
     }
     if !is_ascii_text(text) {
-        return push_wide_text(buffer, text);
+        return push_encoded(buffer, text);
     }
     push_length(buffer, CountedKind::Text, text.len() as u64);
     buffer.push(text.as_bytes());
+    true
+}
+
+// Pushes a string, given its units in UTF-16, if it surely fits into the buffer, and returns whether
+// it was pushed.
+#[inline(always)]
+fn push_wide(buffer: &mut FixedBuffer, units: &[u8]) -> bool
+    requires room { 17 ≤ room buffer.old }
+    requires wide { IsWide units.now }
+    ensures pushed { result ≡ true → buffered buffer.new ≡ buffered buffer.old
+        ++ scalar_form (trees.String (utf8_of_utf16 units.now)) }
+    ensures unchanged { result ≡ false → buffer.new ≡ buffer.old }
+{
+    if units.len() > buffer.room() - 10 {
+        return false;
+    }
+    push_length(buffer, CountedKind::WideText, (units.len() / 2) as u64);
+    buffer.push(units);
     true
 }
 
@@ -219,13 +241,15 @@ fn push_data(buffer: &mut FixedBuffer, bytes: &[u8]) -> bool
 /// loop calls this before `put_scalar`, because then no large `Result` is zeroed.
 #[inline(always)]
 pub fn push_scalar(buffer: &mut FixedBuffer, scalar: ScalarRef<'_>) -> bool
-    requires { 17 ≤ room buffer.old }
+    requires room { 17 ≤ room buffer.old }
+    requires stored { IsStored scalar }
     ensures pushed { result ≡ true
         → buffered buffer.new ≡ buffered buffer.old ++ scalar_form (scalar_of_ref scalar.entry) }
     ensures unchanged { result ≡ false → buffer.new ≡ buffer.old }
 {
     match scalar {
         ScalarRef::String(text) => return push_text(buffer, text),
+        ScalarRef::WideString(units) => return push_wide(buffer, units),
         ScalarRef::Data(bytes) => return push_data(buffer, bytes),
         ScalarRef::Boolean(value) => push_boolean(buffer, value),
         ScalarRef::Date(date) => push_date(buffer, date),

@@ -5,9 +5,10 @@ ghost use Rattle.std.specs.Str.{IsUtf8};
 ghost use Rattle.std.specs.Str.Iter.{chars_rest};
 ghost use Rattle.std.specs.Char.Escape.{encode_utf16};
 ghost use Rattle.plist_base.specs.Trees.{String};
-ghost use Rattle.plist_base.specs.Utf16.{units_of};
-ghost use Rattle.plist_binwrite.specs.Forms.{is_ascii_text, length_form, scalar_form, table_form};
+ghost use Rattle.plist_base.specs.Utf16.{units_of, utf8_of_utf16};
+ghost use Rattle.plist_binwrite.specs.Forms.{length_form, scalar_form, table_form};
 ghost use Rattle.plist_base.specs.Sinks.{Puts, buffered, room};
+ghost use Rattle.plist_buffer.specs.StoredScalars.{IsWide};
 ghost use Rattle.std.specs.List.{sum_by};
 ghost use Rattle.plist_binwrite.specs.inner.Layout.{PushesUnits};
 ghost use Rattle.plist_binwrite.specs.inner.Units.{units_begun};
@@ -15,6 +16,7 @@ ghost use Rattle.plist_binwrite.specs.inner.Units.{units_begun};
 use crate::forms::{CountedKind, put_length};
 use crate::push::push_number;
 use plist_base::{Error, FixedBuffer, Sink};
+use plist_buffer::wide::is_ascii_text;
 use std::io::Write;
 use std::str::Chars;
 
@@ -107,18 +109,6 @@ pub fn count_units(text: &str) -> usize
     count
 }
 
-/// Returns whether each byte of a string is ASCII.
-pub fn is_ascii_text(text: &str) -> bool
-    ensures value { result ≡ is_ascii_text text.now }
-{
-    // The loop doesn't stop early, so that it can be vectorized.
-    let mut greatest = 0u8;
-    for byte in text.as_bytes() {
-        greatest = greatest.max(*byte);
-    }
-    greatest < 128
-}
-
 // Puts a string whose bytes are all ASCII.
 fn put_ascii<W: Write>(sink: &mut Sink<'_, W>, text: &str) -> Result<(), Error>
     ensures { Puts W.contents sink.old
@@ -129,8 +119,8 @@ fn put_ascii<W: Write>(sink: &mut Sink<'_, W>, text: &str) -> Result<(), Error>
     sink.put(text.as_bytes())
 }
 
-// Puts a string in UTF-16.
-fn put_wide<W: Write>(sink: &mut Sink<'_, W>, text: &str) -> Result<(), Error>
+// Encodes a string that isn't ASCII in UTF-16.
+fn put_encoded<W: Write>(sink: &mut Sink<'_, W>, text: &str) -> Result<(), Error>
     ensures { Puts W.contents sink.old
         (length_form CountedKind.WideText (length (units_of text.now))
         ++ table_form 2 (units_of text.now)) result sink.new }
@@ -148,6 +138,16 @@ pub fn put_text<W: Write>(sink: &mut Sink<'_, W>, text: &str) -> Result<(), Erro
     if is_ascii_text(text) {
         put_ascii(sink, text)
     } else {
-        put_wide(sink, text)
+        put_encoded(sink, text)
     }
+}
+
+/// Puts a string that isn't ASCII, given its units in UTF-16. An error is that of [`Sink::put`].
+pub fn put_wide<W: Write>(sink: &mut Sink<'_, W>, units: &[u8]) -> Result<(), Error>
+    requires { IsWide units.now }
+    ensures { Puts W.contents sink.old (scalar_form (String (utf8_of_utf16 units.now))) result
+        sink.new }
+{
+    put_length(sink, CountedKind::WideText, (units.len() / 2) as u64)?;
+    sink.put(units)
 }

@@ -87,6 +87,13 @@ abbrev IsAccepted : Transition → Type 0
 IsAccepted c = (c ≡ change.Closed) ⊎ ((c ≡ change.Kept)
     ⊎ (((w : Expect) × (c ≡ change.Pushed w)) ⊎ ((w : Expect) × (c ≡ change.Replaced w))))
 
+pub is_accepted : (c : Transition) → (c ≡ Refused → ⊥) → IsAccepted c
+is_accepted Refused n = absurd (n refl)
+is_accepted change.Closed n = inl refl
+is_accepted change.Kept n = inr (inl refl)
+is_accepted (change.Pushed w) n = inr (inr (inl (w, refl)))
+is_accepted (change.Replaced w) n = inr (inr (inr (w, refl)))
+
 not_refused : (c : Transition) → IsAccepted c → c ≡ Refused → ⊥
 not_refused c (inl is) r = cc
 not_refused c (inr (inl is)) r = cc

@@ -17,3 +17,4 @@ pub mod Innermost
 pub mod ChildIndices
 pub mod Padding
 pub mod GrownScalars
+pub mod TextUnits

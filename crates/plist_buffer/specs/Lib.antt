@@ -1,6 +1,8 @@
 pub mod Expects
 pub mod Occurrences
 pub mod ShortContents
+pub mod AsciiTexts
+pub mod WideStrings
 pub mod StoredScalars
 pub mod EventTable
 pub mod Children

@@ -1,8 +1,10 @@
 -- The scalars of a table, as contracts describe them.
-use Rattle.std.specs.Prelude.{pos}
+use Rattle.std.specs.Prelude.{◌≡◌, ℕ, List, false, pos, ⊤}
 use Rattle.plist_base.specs.Events.{PlainEvent, ScalarEvent}
 use Rattle.plist_base.specs.Trees.{Scalar, Boolean, Data, Date, Integer, Real, String, Uid}
 use Rattle.plist_buffer.specs.ShortContents.{short_data, short_string}
+use Rattle.plist_base.specs.Utf16.{IsUtf16, utf8_of_utf16}
+use Rattle.plist_buffer.specs.AsciiTexts.{is_ascii_text}
 use Rattle.plist_buffer.specs.declared.stored_scalar.ScalarRef.{ScalarRef}
 use Rattle.plist_buffer.specs.declared.stored_scalar.ScalarRef.TheVariants as lent
 use Rattle.plist_buffer.specs.declared.small_scalar.SmallScalar.{SmallScalar}
@@ -18,7 +20,18 @@ scalar_of_ref (lent.Date date) = Date date
 scalar_of_ref (lent.Integer value) = Integer value
 scalar_of_ref (lent.Real bits) = Real bits
 scalar_of_ref (lent.String text) = String text.now
+scalar_of_ref (lent.WideString units) = String (utf8_of_utf16 units.now)
 scalar_of_ref (lent.Uid uid) = Uid uid
+
+-- these bytes are a string in UTF-16 that isn't ASCII
+pub record IsWide (units : List ℕ) : Type 0 where
+  pub valid : IsUtf16 units
+  pub wide : is_ascii_text (utf8_of_utf16 units) ≡ false
+
+-- if the scalar is given as a string in UTF-16, it is one, and isn't ASCII
+abbrev pub IsStored : ScalarRef → Type 0
+IsStored (lent.WideString units) = IsWide units.now
+IsStored other = ⊤
 
 -- a small scalar
 abbrev pub scalar_of_small : SmallScalar → Scalar

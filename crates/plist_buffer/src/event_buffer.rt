@@ -1,15 +1,18 @@
 //! The buffer of the open property list's events, and what is expected next.
 
 ghost use Rattle.std.proofs.Props.{props};
-ghost use Rattle.std.specs.Prelude.{◌≡◌};
-ghost use Rattle.plist_base.specs.Events.{event_of};
+ghost use Rattle.std.specs.Prelude.{◌≡◌, ℕ, List};
+ghost use Rattle.plist_base.specs.Events.{ScalarEvent, event_of};
+ghost use Rattle.plist_base.specs.Trees.{String};
 ghost use Rattle.plist_buffer.specs.EventTable.{plain_events};
 ghost use Rattle.plist_buffer.specs.inner.Expected.{ExpectsNext, change_on, expected_inside, innermost, next_expected};
 
 use crate::event_table::EventTable;
 use crate::expects::{Expect, Transition};
-use plist_base::{Event, EventKind};
+use crate::wide::WideStr;
+use plist_base::{Event, EventKind, Utf16Str};
 use std::alloc::{AllocError, Global};
+use std::borrow::CowStr;
 
 /// The reason why an event wasn't buffered. The type is small because the memory of a result is
 /// zeroed on every call, and an `Error` has 120 bytes.
@@ -57,6 +60,13 @@ fn change_on(expects: Option<Expect>, event: &Event<'_>) -> Transition
     }
 }
 
+// Returns how a string changes what is expected next.
+fn change_by_string(expects: Option<Expect>) -> Transition
+    ensures { (text : List ℕ) → result ≡ change_on expects (ScalarEvent (String text)) }
+{
+    change_on(expects, &Event::String(CowStr::Borrowed("")))
+}
+
 // Returns what is expected next. The event that made this change is already in `held`.
 fn next_expected(
     change: Transition,
@@ -74,8 +84,11 @@ fn next_expected(
 }
 
 impl EventBuffer {
-    ghost use Rattle.std.specs.Prelude.{◌≡◌, [], false, OnOk, OnErr, IfErr};
-    ghost use Rattle.plist_base.specs.Events.{event_of};
+    ghost use Rattle.std.specs.Prelude.{◌≡◌, [], false, None, IfErr, IfSome, OnOk, OnErr};
+    ghost use Rattle.plist_base.specs.Events.{ScalarEvent, event_of};
+    ghost use Rattle.plist_base.specs.Trees.{String};
+    ghost use Rattle.plist_base.specs.Utf16Strings.{string_of_utf16};
+    ghost use Rattle.plist_buffer.specs.WideStrings.{string_of_wide};
     ghost use Rattle.plist_buffer.specs.EventBuffers.{buffered_events, is_whole, misplaced_error, Accepts, BuffersNext, CanTake, RejectsEvent};
     ghost use Rattle.plist_buffer.specs.inner.Expected.{change_on};
 
@@ -132,6 +145,60 @@ impl EventBuffer {
         self.held.push_copy(alloc, event)?;
         self.expects = next_expected(change, self.expects, &self.held);
         Ok(())
+    }
+
+    // Buffers a string in UTF-16 that can follow the buffered events, given how it changes what is
+    // expected next.
+    fn hold_wide(
+        &mut self,
+        alloc: Global,
+        text: WideStr<'_>,
+        change: Transition,
+    ) -> Result<(), AllocError>
+        requires still { is_whole self.old ≡ false }
+        requires accepted { CanTake self.old (ScalarEvent (String (string_of_wide text))) }
+        requires change { change
+            ≡ change_on self.old.expects (ScalarEvent (String (string_of_wide text))) }
+        ensures taken { OnOk result (BuffersNext self.old
+            (ScalarEvent (String (string_of_wide text.entry))) self.new) }
+        ensures unchanged { OnErr result (buffered_events self.new ≡ buffered_events self.old) }
+        ensures whole { OnErr result (is_whole self.new ≡ is_whole self.old) }
+    {
+        self.held.make_room();
+        self.held.copy_wide(alloc, text)?;
+        self.expects = next_expected(change, self.expects, &self.held);
+        Ok(())
+    }
+
+    /// Buffers a string in UTF-16, which may be a key, if it can follow the buffered events, which
+    /// must not be those of a whole property list. Returns `None` and changes nothing if it can't
+    /// follow them, if it is ASCII, or if it has at most eight bytes in UTF-8: then it is to be
+    /// passed to [`EventBuffer::try_push`].
+    ///
+    /// # Errors
+    ///
+    /// `OutOfMemory` if an allocation fails. The buffered events are unchanged then.
+    pub fn try_push_utf16(
+        &mut self,
+        alloc: Global,
+        text: Utf16Str<'_>,
+    ) -> Option<Result<(), PushError>>
+        requires still { is_whole self.old ≡ false }
+        ensures taken { IfSome result (λ answer. OnOk answer (Accepts self.old
+            (ScalarEvent (String (string_of_utf16 text.entry))) self.new)) }
+        ensures refused { IfSome result (λ answer. IfErr answer (RejectsEvent self.old
+            (ScalarEvent (String (string_of_utf16 text.entry))) self.new)) }
+        ensures declined { result ≡ None → self.new ≡ self.old }
+    {
+        let change = change_by_string(self.expects);
+        if let Transition::Refused = change {
+            return None;
+        }
+        let wide = WideStr::new(text)?;
+        match self.hold_wide(alloc, wide, change) {
+            Ok(()) => Some(Ok(())),
+            Err(error) => Some(Err(PushError::from(error))),
+        }
     }
 
     /// Buffers an event if it can follow the buffered ones, which must not be those of a whole

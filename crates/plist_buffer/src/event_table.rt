@@ -11,6 +11,7 @@ use crate::expects::Expect;
 use crate::long_scalar::LongScalar;
 use crate::small_scalar::SmallScalar;
 use crate::stored_scalar::ScalarRef;
+use crate::wide::{WideStr, is_ascii_text};
 use indexmap::IndexSet;
 use plist_base::{CompactNumbers, Error, Event, EventShape, Integer};
 use std::alloc::{AllocError, Global};
@@ -54,7 +55,7 @@ fn additional_scalars(count: usize, held: usize, expected: usize) -> usize
 }
 
 impl<'e> EventTable<'e> {
-    ghost use Rattle.plist_buffer.specs.StoredScalars.{event_of_long, event_of_small, scalar_of_ref};
+    ghost use Rattle.plist_buffer.specs.StoredScalars.{IsStored, event_of_long, event_of_small, scalar_of_ref};
     ghost use Rattle.std.specs.Prelude.{[], None, Some, false, slice_get, IfSome, ◌+◌};
     ghost use Rattle.std.specs.Cow.{cow_slice_items, cow_str_bytes};
     ghost use Rattle.plist_base.specs.Trees.{Data as DataScalar, Integer as IntegerScalar, String as StringScalar};
@@ -203,6 +204,7 @@ impl<'e> EventTable<'e> {
         requires { index < length (plain_events self.now) }
         ensures some { IfSome result (λ scalar. table_event self.now index
             ≡ ScalarEvent (scalar_of_ref scalar)) }
+        ensures stored { IfSome result IsStored }
         ensures none { result ≡ None → is_leaf (table_event self.now index) ≡ false }
     {
         match self.entries.scalar(index)? {
@@ -339,7 +341,21 @@ impl<'e> EventTable<'e> {
         self.push_small(SmallScalar::of_integer(value))
     }
 
-    // Appends a string. If it has more than eight bytes, it remains borrowed or owned.
+    // Appends a string of more than eight bytes. It remains borrowed or owned if it is ASCII.
+    fn push_long_text(&mut self, text: CowStr<'e>) -> Result<(), AllocError>
+        requires { 8 < length (cow_str_bytes text) }
+        ensures events { OnOk result (GrowsBy self.old
+            (ScalarEvent (StringScalar (cow_str_bytes text.entry))) self.new) }
+        ensures unchanged { OnErr result (plain_events self.new ≡ plain_events self.old) }
+    {
+        if is_ascii_text(text.as_str()) {
+            return self.push_long(LongScalar::of_ascii(text));
+        }
+        let alloc = *self.long.allocator();
+        self.push_long(LongScalar::encode(alloc, text.as_str())?)
+    }
+
+    // Appends a string.
     fn push_text(&mut self, text: CowStr<'e>) -> Result<(), AllocError>
         ensures events { OnOk result (GrowsBy self.old
             (ScalarEvent (StringScalar (cow_str_bytes text.entry))) self.new) }
@@ -347,7 +363,7 @@ impl<'e> EventTable<'e> {
     {
         match SmallScalar::of_text(text.as_str()) {
             Some(small) => self.push_small(small),
-            None => self.push_long(LongScalar::of_text(text)),
+            None => self.push_long_text(text),
         }
     }
 
@@ -415,18 +431,35 @@ impl EventTable<'static> {
     ghost use Rattle.std.specs.Cow.{cow_slice_items, cow_str_bytes};
     ghost use Rattle.plist_base.specs.Trees.{Data as DataScalar, String as StringScalar};
     ghost use Rattle.plist_buffer.specs.EventTable.{plain_event, plain_events, GrowsBy};
+    ghost use Rattle.plist_buffer.specs.WideStrings.{string_of_wide};
 
-    // Appends a string of more than eight bytes, which is copied unless an equal one is stored.
+    // Appends a string of more than eight bytes. It is encoded if it isn't ASCII, and otherwise
+    // copied unless an equal one is stored.
     fn copy_long_text(&mut self, alloc: Global, text: &str) -> Result<(), AllocError>
         requires { 8 < length text.now }
         ensures events { OnOk result (GrowsBy self.old
             (ScalarEvent (StringScalar text.now)) self.new) }
         ensures unchanged { OnErr result (plain_events self.new ≡ plain_events self.old) }
     {
-        if let Some(index) = self.find_long(&LongScalar::borrowed_text(text)) {
+        if !is_ascii_text(text) {
+            return self.push_long(LongScalar::encode(alloc, text)?);
+        }
+        if let Some(index) = self.find_long(&LongScalar::borrowed_ascii(text)) {
             return self.repeat_long(index);
         }
-        self.push_long(LongScalar::copy_of_text(alloc, text)?)
+        self.push_long(LongScalar::copy_of_ascii(alloc, text)?)
+    }
+
+    // Appends a string in UTF-16, which is copied unless an equal one is stored.
+    pub(crate) fn copy_wide(&mut self, alloc: Global, text: WideStr<'_>) -> Result<(), AllocError>
+        ensures events { OnOk result (GrowsBy self.old
+            (ScalarEvent (StringScalar (string_of_wide text.entry))) self.new) }
+        ensures unchanged { OnErr result (plain_events self.new ≡ plain_events self.old) }
+    {
+        if let Some(index) = self.find_long(&LongScalar::borrowed_wide(text)) {
+            return self.repeat_long(index);
+        }
+        self.push_long(LongScalar::copy_of_wide(alloc, text)?)
     }
 
     // Appends data of more than eight bytes, which is copied unless equal data is stored.

@@ -16,7 +16,9 @@ pub mod repeated_keys;
 mod short;
 mod small_scalar;
 pub mod stored_scalar;
+pub mod wide;
 
 pub use event_table::EventTable;
 pub use expects::{Expect, Transition};
 pub use stored_scalar::ScalarRef;
+pub use wide::WideStr;

@@ -1,13 +1,27 @@
 //! Strings and data of more than eight bytes, as a table stores them.
 
 ghost use Rattle.std.specs.Prelude.{◌≡◌, ◌<◌};
-ghost use Rattle.plist_buffer.specs.inner.LongContents.{content_length};
+ghost use Rattle.std.proofs.Props.{props};
+ghost use Rattle.plist_buffer.specs.inner.LongContents.{content_length, form_in, form_of_scalar, scalar_of_content};
 
 use crate::short::{ShortBytes, ShortText};
 use crate::stored_scalar::ScalarRef;
+use crate::wide::{OwnedUtf16, ShortUtf16, WideStr, is_ascii_text};
+use plist_base::Utf16Str;
 use std::alloc::{AllocError, Global};
 use std::borrow::{CowSlice, CowStr};
 use std::hash::{Hash, Hasher};
+
+/// The form in which a string or data is stored.
+#[derive(Clone, Copy, PartialEq, Eq)]
+pub enum Form {
+    /// A string in ASCII.
+    Ascii,
+    /// A string that isn't ASCII, in UTF-16.
+    Wide,
+    /// Data.
+    Data,
+}
 
 /// A string or data. If it has at most 30 bytes, these are stored in the value itself. More bytes
 /// are borrowed or owned.
@@ -19,6 +33,12 @@ pub enum Content<'e> {
     BorrowedString(&'e str),
     /// An owned string of more than 30 bytes.
     OwnedString(String),
+    /// A string of at most 30 bytes in UTF-16.
+    ShortWide(ShortUtf16),
+    /// A borrowed string in UTF-16 to compare with.
+    BorrowedWide(Utf16Str<'e>),
+    /// An owned string of more than 30 bytes in UTF-16.
+    OwnedWide(OwnedUtf16),
     /// Data of at most 30 bytes.
     ShortData(ShortBytes<30>),
     /// Borrowed data of more than 30 bytes, or data to compare with.
@@ -28,15 +48,17 @@ pub enum Content<'e> {
 }
 
 impl<'e> Content<'e> {
+    ghost use Rattle.std.specs.Prelude.{IfOk};
     ghost use Rattle.std.specs.Cow.{cow_slice_items, cow_str_bytes};
-    ghost use Rattle.plist_base.specs.Scalars.{scalar_eq};
-    ghost use Rattle.plist_base.specs.Trees.{Data, String as StringScalar};
-    ghost use Rattle.plist_buffer.specs.StoredScalars.{scalar_of_ref};
-    ghost use Rattle.plist_buffer.specs.inner.LongContents.{scalar_of_content};
+    ghost use Rattle.plist_base.specs.Trees.{Data as DataScalar, String as StringScalar};
+    ghost use Rattle.plist_base.specs.Utf16Strings.{string_of_utf16};
+    ghost use Rattle.plist_buffer.specs.inner.LongContents.{bytes_in};
 
-    // Stores a string. A string of more than 30 bytes remains borrowed or owned, as it was.
-    fn of_text(text: CowStr<'e>) -> Content<'e>
-        ensures { scalar_of_content result ≡ StringScalar (cow_str_bytes text.entry) }
+    // Stores a string in ASCII. A string of more than 30 bytes remains borrowed or owned, as it
+    // was.
+    fn of_ascii(text: CowStr<'e>) -> Content<'e>
+        ensures scalar { scalar_of_content result ≡ StringScalar (cow_str_bytes text.entry) }
+        ensures form { form_in result ≡ Form.Ascii }
     {
         if let Some(short) = ShortText::new(text.as_str()) {
             return Content::ShortString(short);
@@ -49,7 +71,8 @@ impl<'e> Content<'e> {
 
     // Stores data. Data of more than 30 bytes remains borrowed or owned, as it was.
     fn of_data(bytes: CowSlice<'e, u8>) -> Content<'e>
-        ensures { scalar_of_content result ≡ Data (cow_slice_items bytes.entry) }
+        ensures scalar { scalar_of_content result ≡ DataScalar (cow_slice_items bytes.entry) }
+        ensures form { form_in result ≡ Form.Data }
     {
         if let Some(short) = ShortBytes::new(bytes.as_slice()) {
             return Content::ShortData(short);
@@ -60,54 +83,36 @@ impl<'e> Content<'e> {
         }
     }
 
-    // Returns the string or data as a reference.
-    #[inline(always)]
-    fn get(&self) -> ScalarRef<'_>
-        ensures { scalar_of_ref result ≡ scalar_of_content self.now }
+    // Stores a string in UTF-16, or fails if an allocation fails.
+    fn encode(alloc: Global, text: &str) -> Result<Content<'e>, AllocError>
+        ensures scalar { IfOk result (λ content. scalar_of_content content
+            ≡ StringScalar text.now) }
+        ensures form { IfOk result (λ content. form_in content ≡ Form.Wide) }
     {
-        match self {
-            Content::ShortString(text) => ScalarRef::String(text.as_str()),
-            Content::BorrowedString(text) => ScalarRef::String(text),
-            Content::OwnedString(text) => ScalarRef::String(text.as_str()),
-            Content::ShortData(bytes) => ScalarRef::Data(bytes.as_slice()),
-            Content::BorrowedData(bytes) => ScalarRef::Data(bytes),
-            Content::OwnedData(bytes) => ScalarRef::Data(bytes.as_slice()),
+        let owned = OwnedUtf16::encode(alloc, text)?;
+        match ShortUtf16::new(owned.get()) {
+            Some(short) => Ok(Content::ShortWide(short)),
+            None => Ok(Content::OwnedWide(owned)),
         }
     }
 
-    // Returns whether this is a certain string.
-    fn is_text(&self, text: &str) -> bool
-        ensures { result ≡ scalar_eq (StringScalar text.now) (scalar_of_content self.now) }
+    // Stores a copy of a string in UTF-16, or fails if an allocation fails.
+    fn copy_of_wide(alloc: Global, text: Utf16Str<'_>) -> Result<Content<'e>, AllocError>
+        ensures scalar { IfOk result (λ content. scalar_of_content content
+            ≡ StringScalar (string_of_utf16 text.entry)) }
+        ensures form { IfOk result (λ content. form_in content ≡ Form.Wide) }
     {
-        match self {
-            Content::ShortString(own) => text == own.as_str(),
-            Content::BorrowedString(own) => text == *own,
-            Content::OwnedString(own) => text == own.as_str(),
-            Content::ShortData(_) | Content::BorrowedData(_) | Content::OwnedData(_) => false,
+        if let Some(short) = ShortUtf16::new(text) {
+            return Ok(Content::ShortWide(short));
         }
+        Ok(Content::OwnedWide(OwnedUtf16::copy(alloc, text)?))
     }
 
-    // Returns whether this is certain data.
-    fn is_data(&self, bytes: &[u8]) -> bool
-        ensures { result ≡ scalar_eq (Data bytes.now) (scalar_of_content self.now) }
-    {
-        match self {
-            Content::ShortData(own) => bytes == own.as_slice(),
-            Content::BorrowedData(own) => bytes == *own,
-            Content::OwnedData(own) => bytes == own.as_slice(),
-            Content::ShortString(_) | Content::BorrowedString(_) | Content::OwnedString(_) => false,
-        }
-    }
-}
-
-impl Content<'static> {
-    ghost use Rattle.std.specs.Prelude.{IfOk};
-    ghost use Rattle.plist_base.specs.Trees.{Data, String as StringScalar};
-    ghost use Rattle.plist_buffer.specs.inner.LongContents.{scalar_of_content};
-
-    // Stores a copy of a string, or fails if an allocation fails.
-    fn copy_of_text(alloc: Global, text: &str) -> Result<Content<'static>, AllocError>
-        ensures { IfOk result (λ stored. scalar_of_content stored ≡ StringScalar text.now) }
+    // Stores a copy of a string in ASCII, or fails if an allocation fails.
+    fn copy_of_ascii(alloc: Global, text: &str) -> Result<Content<'e>, AllocError>
+        ensures scalar { IfOk result (λ content. scalar_of_content content
+            ≡ StringScalar text.now) }
+        ensures form { IfOk result (λ content. form_in content ≡ Form.Ascii) }
     {
         if let Some(short) = ShortText::new(text) {
             return Ok(Content::ShortString(short));
@@ -116,54 +121,95 @@ impl Content<'static> {
     }
 
     // Stores a copy of data, or fails if an allocation fails.
-    fn copy_of_data(alloc: Global, bytes: &[u8]) -> Result<Content<'static>, AllocError>
-        ensures { IfOk result (λ stored. scalar_of_content stored ≡ Data bytes.now) }
+    fn copy_of_data(alloc: Global, bytes: &[u8]) -> Result<Content<'e>, AllocError>
+        ensures scalar { IfOk result (λ content. scalar_of_content content
+            ≡ DataScalar bytes.now) }
+        ensures form { IfOk result (λ content. form_in content ≡ Form.Data) }
     {
         if let Some(short) = ShortBytes::new(bytes) {
             return Ok(Content::ShortData(short));
         }
         Ok(Content::OwnedData(Vec::from_slice(alloc, bytes)?))
     }
+
+    // Returns the form in which the string or data is stored.
+    #[inline(always)]
+    fn form(&self) -> Form
+        ensures { result ≡ form_in self.now }
+    {
+        match self {
+            Content::ShortString(_) | Content::BorrowedString(_) | Content::OwnedString(_) => {
+                Form::Ascii
+            }
+            Content::ShortWide(_) | Content::BorrowedWide(_) | Content::OwnedWide(_) => Form::Wide,
+            Content::ShortData(_) | Content::BorrowedData(_) | Content::OwnedData(_) => Form::Data,
+        }
+    }
+
+    // Returns the stored bytes, which are the units of a string that isn't ASCII.
+    #[inline(always)]
+    fn bytes(&self) -> &[u8]
+        ensures { result.now ≡ bytes_in self.now }
+    {
+        match self {
+            Content::ShortString(text) => text.as_str().as_bytes(),
+            Content::BorrowedString(text) => text.as_bytes(),
+            Content::OwnedString(text) => text.as_str().as_bytes(),
+            Content::ShortWide(text) => text.get().as_bytes(),
+            Content::BorrowedWide(text) => text.as_bytes(),
+            Content::OwnedWide(text) => text.get().as_bytes(),
+            Content::ShortData(bytes) => bytes.as_slice(),
+            Content::BorrowedData(bytes) => bytes,
+            Content::OwnedData(bytes) => bytes.as_slice(),
+        }
+    }
 }
 
-/// A string or data of more than eight bytes.
+/// A string or data of more than eight bytes. A string is stored in ASCII, or in UTF-16 if it isn't
+/// ASCII.
 ///
 /// Two of them are equal if they are of one kind and have equal contents.
 #[derive(Drop)]
 pub struct LongScalar<'e> {
     content: Content<'e>,
     ghost long: { 8 < content_length content },
+    ghost form: { form_in content ≡ form_of_scalar (scalar_of_content content) } by { Prim.hlevel props },
 }
 
 impl<'e> LongScalar<'e> {
-    ghost use Rattle.std.specs.Prelude.{length};
+    ghost use Rattle.std.specs.Prelude.{false, length, true, IfOk};
     ghost use Rattle.std.specs.Cow.{cow_slice_items, cow_str_bytes};
-    ghost use Rattle.plist_base.specs.Trees.{Data, String as StringScalar};
-    ghost use Rattle.plist_buffer.specs.StoredScalars.{scalar_of_long, scalar_of_ref};
+    ghost use Rattle.plist_base.specs.Trees.{Data as DataScalar, String as StringScalar};
+    ghost use Rattle.plist_buffer.specs.AsciiTexts.{is_ascii_text};
+    ghost use Rattle.plist_buffer.specs.StoredScalars.{IsStored, scalar_of_long, scalar_of_ref};
+    ghost use Rattle.plist_buffer.specs.WideStrings.{string_of_wide};
 
-    /// Stores a string. A string of more than 30 bytes remains borrowed or owned, as it was.
-    pub fn of_text(text: CowStr<'e>) -> LongScalar<'e>
-        requires { 8 < length (cow_str_bytes text) }
+    /// Stores a string in ASCII. A string of more than 30 bytes remains borrowed or owned, as it
+    /// was.
+    pub fn of_ascii(text: CowStr<'e>) -> LongScalar<'e>
+        requires long { 8 < length (cow_str_bytes text) }
+        requires ascii { is_ascii_text (cow_str_bytes text) ≡ true }
         ensures { scalar_of_long result ≡ StringScalar (cow_str_bytes text.entry) }
     {
         LongScalar {
-            content: Content::of_text(text),
+            content: Content::of_ascii(text),
         }
     }
 
     /// Stores data. Data of more than 30 bytes remains borrowed or owned, as it was.
     pub fn of_data(bytes: CowSlice<'e, u8>) -> LongScalar<'e>
         requires { 8 < length (cow_slice_items bytes) }
-        ensures { scalar_of_long result ≡ Data (cow_slice_items bytes.entry) }
+        ensures { scalar_of_long result ≡ DataScalar (cow_slice_items bytes.entry) }
     {
         LongScalar {
             content: Content::of_data(bytes),
         }
     }
 
-    /// Borrows a string to compare with.
-    pub fn borrowed_text(text: &'e str) -> LongScalar<'e>
-        requires { 8 < length text.now }
+    /// Borrows a string in ASCII to compare with.
+    pub fn borrowed_ascii(text: &'e str) -> LongScalar<'e>
+        requires long { 8 < length text.now }
+        requires ascii { is_ascii_text text.now ≡ true }
         ensures { scalar_of_long result ≡ StringScalar text.now }
     {
         LongScalar {
@@ -171,46 +217,80 @@ impl<'e> LongScalar<'e> {
         }
     }
 
+    /// Borrows a string in UTF-16 to compare with.
+    pub fn borrowed_wide(text: WideStr<'e>) -> LongScalar<'e>
+        ensures { scalar_of_long result ≡ StringScalar (string_of_wide text.entry) }
+    {
+        LongScalar {
+            content: Content::BorrowedWide(text.get()),
+        }
+    }
+
     /// Borrows data to compare with.
     pub fn borrowed_data(bytes: &'e [u8]) -> LongScalar<'e>
         requires { 8 < length bytes.now }
-        ensures { scalar_of_long result ≡ Data bytes.now }
+        ensures { scalar_of_long result ≡ DataScalar bytes.now }
     {
         LongScalar {
             content: Content::BorrowedData(bytes),
         }
     }
 
-    /// Returns the scalar as a reference, which borrows its string or data.
-    #[inline(always)]
-    pub fn get(&self) -> ScalarRef<'_>
-        ensures { scalar_of_ref result ≡ scalar_of_long self.now }
-    {
-        self.content.get()
-    }
-}
-
-impl LongScalar<'static> {
-    ghost use Rattle.std.specs.Prelude.{length, IfOk};
-    ghost use Rattle.plist_base.specs.Trees.{Data, String as StringScalar};
-    ghost use Rattle.plist_buffer.specs.StoredScalars.{scalar_of_long};
-
-    /// Stores a copy of a string, or fails if an allocation fails.
-    pub fn copy_of_text(alloc: Global, text: &str) -> Result<LongScalar<'static>, AllocError>
-        requires { 8 < length text.now }
+    /// Stores a string that isn't ASCII in UTF-16, or fails if an allocation fails.
+    pub fn encode(alloc: Global, text: &str) -> Result<LongScalar<'e>, AllocError>
+        requires long { 8 < length text.now }
+        requires wide { is_ascii_text text.now ≡ false }
         ensures { IfOk result (λ stored. scalar_of_long stored ≡ StringScalar text.now) }
     {
-        let content = Content::copy_of_text(alloc, text)?;
+        let content = Content::encode(alloc, text)?;
+        Ok(LongScalar { content })
+    }
+
+    /// Stores a copy of a string in UTF-16, or fails if an allocation fails.
+    pub fn copy_of_wide(alloc: Global, text: WideStr<'_>) -> Result<LongScalar<'e>, AllocError>
+        ensures { IfOk result (λ stored. scalar_of_long stored
+            ≡ StringScalar (string_of_wide text.entry)) }
+    {
+        let content = Content::copy_of_wide(alloc, text.get())?;
+        Ok(LongScalar { content })
+    }
+
+    /// Stores a copy of a string in ASCII, or fails if an allocation fails.
+    pub fn copy_of_ascii(alloc: Global, text: &str) -> Result<LongScalar<'e>, AllocError>
+        requires long { 8 < length text.now }
+        requires ascii { is_ascii_text text.now ≡ true }
+        ensures { IfOk result (λ stored. scalar_of_long stored ≡ StringScalar text.now) }
+    {
+        let content = Content::copy_of_ascii(alloc, text)?;
         Ok(LongScalar { content })
     }
 
     /// Stores a copy of data, or fails if an allocation fails.
-    pub fn copy_of_data(alloc: Global, bytes: &[u8]) -> Result<LongScalar<'static>, AllocError>
+    pub fn copy_of_data(alloc: Global, bytes: &[u8]) -> Result<LongScalar<'e>, AllocError>
         requires { 8 < length bytes.now }
-        ensures { IfOk result (λ stored. scalar_of_long stored ≡ Data bytes.now) }
+        ensures { IfOk result (λ stored. scalar_of_long stored ≡ DataScalar bytes.now) }
     {
         let content = Content::copy_of_data(alloc, bytes)?;
         Ok(LongScalar { content })
+    }
+
+    /// Returns the scalar as a reference, which borrows its string or data.
+    #[inline(always)]
+    pub fn get(&self) -> ScalarRef<'_>
+        ensures scalar { scalar_of_ref result ≡ scalar_of_long self.now }
+        ensures stored { IsStored result }
+    {
+        match &self.content {
+            Content::ShortString(text) => ScalarRef::String(text.as_str()),
+            Content::BorrowedString(text) => ScalarRef::String(text),
+            Content::OwnedString(text) => ScalarRef::String(text.as_str()),
+            Content::ShortWide(text) => ScalarRef::WideString(text.get().as_bytes()),
+            Content::BorrowedWide(text) => ScalarRef::WideString(text.as_bytes()),
+            Content::OwnedWide(text) => ScalarRef::WideString(text.get().as_bytes()),
+            Content::ShortData(bytes) => ScalarRef::Data(bytes.as_slice()),
+            Content::BorrowedData(bytes) => ScalarRef::Data(bytes),
+            Content::OwnedData(bytes) => ScalarRef::Data(bytes.as_slice()),
+        }
     }
 }
 
@@ -225,14 +305,7 @@ impl PartialEq for LongScalar<'_> {
     ghost laws = { partial_equiv_from_equiv (on_equiv scalar_of_long scalars_equiv) };
 
     fn eq(&self, other: &Self) -> bool {
-        match &self.content {
-            Content::ShortString(text) => other.content.is_text(text.as_str()),
-            Content::BorrowedString(text) => other.content.is_text(text),
-            Content::OwnedString(text) => other.content.is_text(text.as_str()),
-            Content::ShortData(bytes) => other.content.is_data(bytes.as_slice()),
-            Content::BorrowedData(bytes) => other.content.is_data(bytes),
-            Content::OwnedData(bytes) => other.content.is_data(bytes.as_slice()),
-        }
+        self.content.form() == other.content.form() && self.content.bytes() == other.content.bytes()
     }
 }
 
@@ -244,24 +317,18 @@ impl Eq for LongScalar<'_> {
     ghost laws = { on_equiv scalar_of_long scalars_equiv };
 }
 
-/// Writes the bytes of the string or data to the hasher.
+/// Writes the stored bytes of the string or data to the hasher.
 impl Hash for LongScalar<'_> {
-    ghost use Rattle.plist_base.specs.Scalars.{writes_of_scalar};
+    ghost use Rattle.std.specs.Prelude.{◌∷◌, []};
     ghost use Rattle.plist_buffer.specs.StoredScalars.{scalar_of_long};
+    ghost use Rattle.plist_buffer.specs.inner.LongContents.{bytes_of_scalar};
     ghost use Rattle.plist_buffer.specs.inner.StoredEquality.{equal_long_write_same};
 
-    ghost hash_input = { λ scalar. writes_of_scalar (scalar_of_long scalar) };
+    ghost hash_input = { λ scalar. bytes_of_scalar (scalar_of_long scalar) ∷ [] };
 
     ghost respects_eq = { λ a b. equal_long_write_same (scalar_of_long a) (scalar_of_long b) };
 
     fn hash<H: Hasher>(&self, state: &mut H) {
-        match &self.content {
-            Content::ShortString(text) => state.write(text.as_str().as_bytes()),
-            Content::BorrowedString(text) => state.write(text.as_bytes()),
-            Content::OwnedString(text) => state.write(text.as_str().as_bytes()),
-            Content::ShortData(bytes) => state.write(bytes.as_slice()),
-            Content::BorrowedData(bytes) => state.write(bytes),
-            Content::OwnedData(bytes) => state.write(bytes.as_slice()),
-        }
+        state.write(self.content.bytes());
     }
 }

@@ -4,22 +4,15 @@ ghost use Rattle.std.specs.Prelude.{◌≡◌, ◌<◌, ◌≤◌, IfSome, None,
 ghost use Rattle.std.specs.Str.{bytes_eq};
 ghost use Rattle.plist_buffer.specs.inner.Padded.{with_zeros};
 
-use std::alloc::AllocError;
 use std::str;
 
 /// A list of at most `N` bytes. The bytes after the last one are zeros.
-#[derive(Copy)]
+#[derive(Clone, Copy)]
 pub struct ShortBytes<const N: usize> {
     len: u8,
     bytes: [u8; N],
     ghost fits: { len ≤ N },
     ghost zeros: { bytes ≡ with_zeros N (take len bytes) },
-}
-
-impl<const N: usize> Clone for ShortBytes<N> {
-    fn clone(&self) -> Result<ShortBytes<N>, AllocError> {
-        Ok(*self)
-    }
 }
 
 impl<const N: usize> ShortBytes<N> {
@@ -74,16 +67,10 @@ impl ShortBytes<8> {
 }
 
 /// A string of at most `N` bytes in UTF-8.
-#[derive(Copy)]
+#[derive(Clone, Copy)]
 pub struct ShortText<const N: usize> {
     content: ShortBytes<N>,
     ghost utf8: { ∥ IsUtf8 (take content.len content.bytes) ∥₁ },
-}
-
-impl<const N: usize> Clone for ShortText<N> {
-    fn clone(&self) -> Result<ShortText<N>, AllocError> {
-        Ok(*self)
-    }
 }
 
 impl<const N: usize> ShortText<N> {

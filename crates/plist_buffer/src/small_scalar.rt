@@ -5,20 +5,13 @@ ghost use Rattle.std.specs.Prelude.{◌≡◌, ◌<ℤ◌, pos, IfSome, None, le
 use crate::short::{ShortBytes, ShortText};
 use crate::stored_scalar::ScalarRef;
 use plist_base::{Date, Integer, RealBits, Uid};
-use std::alloc::AllocError;
 use std::hash::{Hash, Hasher};
 
 /// A negative integer.
-#[derive(Copy)]
+#[derive(Clone, Copy)]
 pub struct NegativeInteger {
     number: i64,
     ghost negative: { number <ℤ pos 0 },
-}
-
-impl Clone for NegativeInteger {
-    fn clone(&self) -> Result<NegativeInteger, AllocError> {
-        Ok(*self)
-    }
 }
 
 /// A scalar that isn't a string or data of more than eight bytes.
@@ -46,7 +39,7 @@ pub enum SmallScalar {
 
 impl SmallScalar {
     ghost use Rattle.plist_base.specs.Trees.{Data as DataScalar, Integer as IntegerScalar, String as StringScalar};
-    ghost use Rattle.plist_buffer.specs.StoredScalars.{scalar_of_ref, scalar_of_small};
+    ghost use Rattle.plist_buffer.specs.StoredScalars.{IsStored, scalar_of_ref, scalar_of_small};
     ghost use Rattle.std.specs.Prelude.{◌<◌};
 
     /// Stores an integer.
@@ -82,7 +75,8 @@ impl SmallScalar {
     /// Returns the scalar as a reference, which borrows its string or data.
     #[inline(always)]
     pub fn get(&self) -> ScalarRef<'_>
-        ensures { scalar_of_ref result ≡ scalar_of_small self.now }
+        ensures scalar { scalar_of_ref result ≡ scalar_of_small self.now }
+        ensures stored { IsStored result }
     {
         match self {
             SmallScalar::Boolean(value) => ScalarRef::Boolean(*value),

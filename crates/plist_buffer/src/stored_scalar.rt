@@ -15,8 +15,11 @@ pub enum ScalarRef<'a> {
     Integer(Integer),
     /// The bytes of a real.
     Real(RealBits),
-    /// A string.
+    /// A string, which is ASCII or has at most eight bytes if it is from a table.
     String(&'a str),
     /// The number of an object in a keyed archive.
     Uid(Uid),
+    /// A string that isn't ASCII and has more than eight bytes in UTF-8: its units in UTF-16, each
+    /// in two bytes in big-endian order.
+    WideString(&'a [u8]),
 }

@@ -1,26 +1,66 @@
 -- The contents of long scalars.
-use Rattle.std.specs.Prelude.{ℕ, length}
+use Rattle.std.specs.Prelude.{ℕ, List, [], length, if◌then◌else◌}
 use Rattle.std.specs.String.{string_bytes}
 use Rattle.plist_base.specs.Trees.{Scalar, Data, String}
+use Rattle.plist_base.specs.Utf16.{utf16_form, utf8_of_utf16}
+use Rattle.plist_buffer.specs.AsciiTexts.{is_ascii_text}
 use Rattle.plist_buffer.specs.ShortContents.{short_data, short_string}
 use Rattle.plist_buffer.specs.declared.long_scalar.Content.{Content}
-use Rattle.plist_buffer.specs.declared.long_scalar.Content.TheVariants.{ShortString, BorrowedString, OwnedString, ShortData, BorrowedData, OwnedData}
+use Rattle.plist_buffer.specs.declared.long_scalar.Content.TheVariants as content
+use Rattle.plist_buffer.specs.declared.long_scalar.Form.{Form}
+use Rattle.plist_buffer.specs.declared.long_scalar.Form.TheVariants as form
+
+-- the form in which the string or data is stored
+abbrev pub form_in : Content → Form
+form_in (content.ShortString text) = form.Ascii
+form_in (content.BorrowedString text) = form.Ascii
+form_in (content.OwnedString text) = form.Ascii
+form_in (content.ShortWide text) = form.Wide
+form_in (content.BorrowedWide text) = form.Wide
+form_in (content.OwnedWide text) = form.Wide
+form_in (content.ShortData bytes) = form.Data
+form_in (content.BorrowedData bytes) = form.Data
+form_in (content.OwnedData bytes) = form.Data
+
+-- the stored bytes
+abbrev pub bytes_in : Content → List ℕ
+bytes_in (content.ShortString text) = short_string text
+bytes_in (content.BorrowedString text) = text.now
+bytes_in (content.OwnedString text) = string_bytes text
+bytes_in (content.ShortWide text) = short_data text.units
+bytes_in (content.BorrowedWide text) = text.bytes.now
+bytes_in (content.OwnedWide text) = text.units.items
+bytes_in (content.ShortData bytes) = short_data bytes
+bytes_in (content.BorrowedData bytes) = bytes.now
+bytes_in (content.OwnedData bytes) = bytes.items
+
+-- the scalar that these bytes encode in a form
+abbrev pub scalar_in : Form → List ℕ → Scalar
+scalar_in form.Ascii bytes = String bytes
+scalar_in form.Wide bytes = String (utf8_of_utf16 bytes)
+scalar_in form.Data bytes = Data bytes
 
 -- the string or data as a scalar
 abbrev pub scalar_of_content : Content → Scalar
-scalar_of_content (ShortString text) = String (short_string text)
-scalar_of_content (BorrowedString text) = String text.now
-scalar_of_content (OwnedString text) = String (string_bytes text)
-scalar_of_content (ShortData bytes) = Data (short_data bytes)
-scalar_of_content (BorrowedData bytes) = Data bytes.now
-scalar_of_content (OwnedData bytes) = Data bytes.items
+scalar_of_content stored = scalar_in (form_in stored) (bytes_in stored)
 
--- the number of bytes of a string or data, and 0 for any other scalar
+-- the form of a string or data
+abbrev pub form_of_scalar : Scalar → Form
+form_of_scalar (String text) = if is_ascii_text text then form.Ascii else form.Wide
+form_of_scalar scalar = form.Data
+
+-- the bytes of a string or data in its form
+abbrev pub bytes_of_scalar : Scalar → List ℕ
+bytes_of_scalar (String text) = if is_ascii_text text then text else utf16_form text
+bytes_of_scalar (Data bytes) = bytes
+bytes_of_scalar scalar = []
+
+-- the number of bytes of a string in UTF-8 or of data, and 0 for any other scalar
 abbrev pub bytes_in_scalar : Scalar → ℕ
 bytes_in_scalar (String text) = length text
 bytes_in_scalar (Data bytes) = length bytes
 bytes_in_scalar scalar = 0
 
--- the number of bytes of the string or data
+-- the number of bytes of the string in UTF-8 or of the data
 abbrev pub content_length : Content → ℕ
-content_length content = bytes_in_scalar (scalar_of_content content)
+content_length stored = bytes_in_scalar (scalar_of_content stored)

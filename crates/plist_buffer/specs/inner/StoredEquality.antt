@@ -4,6 +4,7 @@ use Rattle.std.specs.Cmp.{IsEquivalence, both_ways}
 use Rattle.std.specs.Hash as fed
 use Rattle.plist_base.specs.Scalars.{scalar_eq, scalar_is, scalar_refl, writes_of_scalar}
 use Rattle.plist_base.specs.Trees.{Scalar, Data, Integer, String}
+use Rattle.plist_buffer.specs.inner.LongContents.{bytes_of_scalar}
 use Rattle.plist_buffer.specs.inner.Padded.{with_zeros}
 
 -- `scalar_eq` is true of identical scalars
@@ -39,5 +40,5 @@ equal_small_write_same a b h = ap writes_of_small (scalar_is a b h)
 
 -- equal long scalars write the same to a hasher
 pub equal_long_write_same : (a b : Scalar) → scalar_eq a b ≡ true
-    → writes_of_scalar a ≡ writes_of_scalar b
-equal_long_write_same a b h = ap writes_of_scalar (scalar_is a b h)
+    → bytes_of_scalar a ∷ [] ≡ bytes_of_scalar b ∷ []
+equal_long_write_same a b h = ap (λ scalar. bytes_of_scalar scalar ∷ []) (scalar_is a b h)

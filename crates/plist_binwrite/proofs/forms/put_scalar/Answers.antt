@@ -38,3 +38,7 @@ pub returns-in-Uid : goal.returns-in-Uid
 returns-in-Uid g c =
     rw c.in-Uid.is (puts_then c.in_ok-make_room.ensures.put
     (puts_pending (record { writer = refl; buffer = refl }) refl c.push_uid.ensures.pushed refl))
+
+pub returns-in-WideString : goal.returns-in-WideString
+returns-in-WideString g c =
+    rw c.in-WideString.is (puts_then c.in_ok-make_room.ensures.put c.put_wide.ensures)

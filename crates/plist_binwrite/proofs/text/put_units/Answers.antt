@@ -4,7 +4,7 @@ use Rattle.std.proofs.lemmas.Grind.{flat_map-append}
 use Rattle.plist_base.proofs.SinkSteps.{puts_as, puts_none, puts_pending, puts_refused, puts_then}
 use Rattle.plist_base.specs.Utf16.{units_of}
 use Rattle.plist_binwrite.specs.Forms.{table_form}
-use Rattle.plist_binwrite.proofs.Reading.{units_empty}
+use Rattle.plist_buffer.proofs.TextUnits.{units_empty}
 use Rattle.plist_binwrite.proofs.UnitLists.{whole_units}
 use Rattle.plist_binwrite.proofs.text.put_units.Goals as goal
 

@@ -3,9 +3,9 @@ use Rattle.plist_base.specs.declared.marker.CountedKind.TheVariants as kind
 use Rattle.plist_base.specs.Sinks.{buffered}
 use Rattle.plist_base.specs.Utf16.{units_of}
 use Rattle.plist_binwrite.specs.Forms.{length_form, table_form}
-use Rattle.plist_binwrite.proofs.Reading.{units_empty}
+use Rattle.plist_buffer.proofs.TextUnits.{units_empty}
 use Rattle.plist_binwrite.proofs.UnitLists.{whole_units}
-use Rattle.plist_binwrite.proofs.push.push_wide_text.Goals as goal
+use Rattle.plist_binwrite.proofs.push.push_encoded.Goals as goal
 
 pub returns-clause-pushed : goal.returns-clause-pushed
 returns-clause-pushed c = λ done.
