@@ -2,12 +2,14 @@
 
 ghost use Rattle.std.specs.Prelude.{◌≡◌, false, true};
 ghost use Rattle.plist_base.specs.Bracketing.{CanContinue};
-ghost use Rattle.plist_base.specs.Events.{event_of};
+ghost use Rattle.plist_base.specs.Events.{ScalarEvent, event_of};
+ghost use Rattle.plist_base.specs.Trees.{String};
+ghost use Rattle.plist_base.specs.Utf16Strings.{string_of_utf16};
 ghost use Rattle.plist_buffer.specs.EventBuffers.{TestsWhole, buffered_events, is_whole};
 ghost use Rattle.plist_commands.specs.Converting.{IfOkIs};
 ghost use Rattle.plist_commands.specs.CollectorSteps.{HoldsMore};
 
-use plist_base::{Error, Event, EventVisitor, Visited};
+use plist_base::{Error, Event, EventVisitor, Utf16Str, Visited};
 use plist_buffer::event_buffer::{EventBuffer, PushError};
 use std::alloc::{AllocError, Global};
 use std::mem;
@@ -31,6 +33,28 @@ fn take(alloc: Global, pending: &mut EventBuffer, event: Event<'_>) -> Result<bo
         Ok(()) => Ok(true),
         Err(PushError::Misplaced { .. }) => Ok(false),
         Err(PushError::OutOfMemory) => Err(AllocError),
+    }
+}
+
+// Buffers a string in UTF-16 and returns `true`, or returns `false` and changes nothing if the
+// string is to be passed to `take`.
+fn take_utf16(
+    alloc: Global,
+    pending: &mut EventBuffer,
+    text: Utf16Str<'_>,
+) -> Result<bool, AllocError>
+    ensures taken { IfOkIs result true (HoldsMore (is_whole pending.new)
+        (buffered_events pending.old)
+        (ScalarEvent (String (string_of_utf16 text.entry))) (buffered_events pending.new)) }
+    ensures declined { IfOkIs result false (pending.new ≡ pending.old) }
+{
+    if pending.is_whole() {
+        return Ok(false);
+    }
+    match pending.try_push_utf16(alloc, text) {
+        Some(Ok(())) => Ok(true),
+        Some(Err(_)) => Err(AllocError),
+        None => Ok(false),
     }
 }
 
@@ -148,6 +172,14 @@ impl EventVisitor for Collector {
             Ok(true) => self.go_on(),
             Ok(false) => self.end(StopReason::Misplaced),
             Err(error) => self.end(StopReason::Failed(Error::from(error))),
+        }
+    }
+
+    fn utf16_string(&mut self, text: Utf16Str<'_>) -> Option<ControlFlow<()>> {
+        match take_utf16(self.alloc, &mut self.pending, text) {
+            Ok(true) => Some(self.go_on()),
+            Ok(false) => None,
+            Err(error) => Some(self.end(StopReason::Failed(Error::from(error)))),
         }
     }
 }
