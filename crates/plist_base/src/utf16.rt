@@ -224,7 +224,8 @@ impl<'a> Utf16Chars<'a> {
     /// Yields the next eight characters if all of them are ASCII. Otherwise yields none of them.
     #[inline(always)]
     pub fn next_eight_ascii(&mut self) -> Option<[u8; 8]>
-        ensures yielded { IfSome result (λ block. chars_left self.old ≡ block ++ chars_left self.new) }
+        ensures yielded { IfSome result
+            (λ block. chars_left self.old ≡ block ++ chars_left self.new) }
         ensures ascii { IfSome result (λ block. EachByte (λ byte. byte < 128) block) }
         ensures unchanged { result ≡ None → self.new ≡ self.old }
     {

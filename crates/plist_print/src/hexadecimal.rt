@@ -19,8 +19,8 @@ fn digit_at(value: u8) -> u8
     DIGIT_TABLE[value as usize]
 }
 
-/// Returns the two hexadecimal digits of a byte. For a single byte, look-ups in the table are faster
-/// than the comparisons of `digit_of`.
+/// Returns the two hexadecimal digits of a byte. For a single byte, two look-ups in the table are
+/// faster than the comparisons of `digit_of`.
 #[inline(always)]
 pub fn digits_of(byte: u8) -> [u8; 2]
     ensures { result ≡ hexadecimal (byte ∷ []) }

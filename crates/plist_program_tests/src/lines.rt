@@ -15,8 +15,8 @@ fn repeated(rt: &(impl Abort + AllocGlobal), front: &[u8], bytes: &[u8], end: &[
     all
 }
 
-// Checks that a value's line is this one, and that it is written in parts of at most 64 KiB, both if
-// the value is printed and if its file is.
+// Checks that a value's line is this one, and that it is written in parts of at most 64 KiB, both
+// if the value is printed and if its file is.
 fn expect_parts(rt: &(impl Abort + AllocGlobal), value: Value, line: &[u8]) {
     let mut out = sound(rt);
     must(rt, print_value(rt.alloc(), &value, &mut out));
@@ -37,7 +37,12 @@ fn long_lines_are_written_in_parts(rt: HostRuntime) {
     let line = repeated(&rt, b"Data ", b"0af599", b"\n");
     expect_parts(&rt, data, line.as_slice());
     let mut text = String::new(rt.alloc());
-    add_times(&rt, &mut text, "\u{e9}\u{20ac}\u{1f600}\"\\ and plain text", 30_000);
+    add_times(
+        &rt,
+        &mut text,
+        "\u{e9}\u{20ac}\u{1f600}\"\\ and plain text",
+        30_000,
+    );
     let escapes = b"\\xc3\\xa9\\xe2\\x82\\xac\\xf0\\x9f\\x98\\x80\\x22\\x5c and plain text";
     let line = repeated(&rt, b"String \"", escapes, b"\"\n");
     expect_parts(&rt, Value::String(text), line.as_slice());
