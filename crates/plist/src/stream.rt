@@ -8,8 +8,8 @@ pub mod writing;
 pub use events::Events;
 pub use plist_ascii::AsciiReader;
 pub use plist_base::{
-    Event, EventSource, EventVisitor, OwnedEvent, Seeking, Sequential, Source, Utf16Chars, Utf16Str,
-    Visited, Writer, copy_events,
+    Event, EventSource, EventVisitor, OwnedEvent, Seeking, Sequential, Source, Utf16Chars,
+    Utf16Str, Visited, Writer, copy_events,
 };
 pub use plist_binread::BinaryReader;
 pub use plist_binwrite::BinaryWriter;
