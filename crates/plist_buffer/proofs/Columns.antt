@@ -7,7 +7,7 @@ use Rattle.plist_buffer.specs.declared.entries.EntryKind.{EntryKind}
 use Rattle.plist_buffer.specs.declared.entries.EntryKind.TheVariants as kind
 use Rattle.plist_buffer.specs.declared.entries.ScalarNumber.{ScalarNumber}
 use Rattle.plist_buffer.specs.declared.entries.ScalarNumber.TheVariants.{Small, Long}
-use Rattle.plist_buffer.specs.inner.Columns.{kind_in, number_in, scalar_in, index_of_number, scalar_named, entry_of, entries_from, IsEntryNumber}
+use Rattle.plist_buffer.specs.inner.Columns.{kind_in, number_in, number_named, index_of_number, scalar_named, entry_of, entries_from, IsEntryNumber}
 use Rattle.plist_buffer.specs.inner.Entries.{ScalarLists, entry_at, is_leaf, event_of_entry}
 
 -- an entry is made up of its kind and its number
@@ -69,7 +69,7 @@ number_read kinds numbers p same =
     (ap kind_in there ∙ same_kind (get_or kinds p kind.End) (get_or numbers p 0)) ∙ sym there
 
 -- an entry with the number of a scalar is the entry that refers to this scalar
-pub named : (e : EventEntry) (number : ScalarNumber) → scalar_in e ≡ Some number
+pub named : (e : EventEntry) (number : ScalarNumber) → number_named e ≡ Some number
     → e ≡ entry.Scalar number
 named entry.End number is = cc
 named e number is = cc

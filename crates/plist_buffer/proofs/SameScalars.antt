@@ -11,10 +11,10 @@ use Rattle.plist_buffer.specs.declared.long_scalar.LongScalar.{LongScalar}
 use Rattle.plist_buffer.specs.declared.small_scalar.SmallScalar.{SmallScalar}
 use Rattle.plist_buffer.specs.declared.small_scalar.SmallScalar.TheVariants as small
 use Rattle.plist_buffer.specs.AsciiTexts.{is_ascii_text}
-use Rattle.plist_buffer.specs.declared.long_scalar.Content.{Content}
-use Rattle.plist_buffer.specs.declared.long_scalar.Content.TheVariants as content
+use Rattle.plist_buffer.specs.declared.long_scalar.LongContent.{LongContent}
+use Rattle.plist_buffer.specs.declared.long_scalar.LongContent.TheVariants as content
 use Rattle.plist_buffer.specs.declared.long_scalar.Form.TheVariants as form
-use Rattle.plist_buffer.specs.inner.LongContents.{bytes_in, bytes_in_scalar, bytes_of_scalar, form_in, form_of_scalar, scalar_in, scalar_of_content}
+use Rattle.plist_buffer.specs.inner.LongContents.{bytes_stored, bytes_in_scalar, bytes_of_scalar, form_in, form_of_scalar, scalar_from, scalar_of_content}
 use Rattle.plist_buffer.proofs.Padding.{short_length}
 
 -- a test's result, which says whether the two are equal
@@ -117,8 +117,8 @@ units_kept true text wide units is same = cc
 units_kept false text wide units is same = same
 
 -- the stored bytes are those of the scalar in its form
-bytes_kept : (c : Content) → form_in c ≡ form_of_scalar (scalar_of_content c)
-    → bytes_in c ≡ bytes_of_scalar (scalar_of_content c)
+bytes_kept : (c : LongContent) → form_in c ≡ form_of_scalar (scalar_of_content c)
+    → bytes_stored c ≡ bytes_of_scalar (scalar_of_content c)
 bytes_kept (content.ShortString text) is = text_kept _ _ _ is
 bytes_kept (content.BorrowedString text) is = text_kept _ _ _ is
 bytes_kept (content.OwnedString text) is = text_kept _ _ _ is
@@ -129,7 +129,7 @@ bytes_kept (content.ShortData bytes) is = refl
 bytes_kept (content.BorrowedData bytes) is = refl
 bytes_kept (content.OwnedData bytes) is = refl
 
-pub stored_bytes : (a : LongScalar) → bytes_in a.content ≡ bytes_of_scalar (scalar_of_long a)
+pub stored_bytes : (a : LongScalar) → bytes_stored a.content ≡ bytes_of_scalar (scalar_of_long a)
 stored_bytes a = bytes_kept a.content a.form
 
 -- a string that is stored in UTF-16 isn't ASCII
@@ -150,13 +150,13 @@ wide_form text is = rw is refl
 
 -- long scalars with the same form and the same bytes are equal
 pub forms_same : (a b : LongScalar) → form_in a.content ≡ form_in b.content
-    → bytes_in a.content ≡ bytes_in b.content → long_eq a b ≡ true
+    → bytes_stored a.content ≡ bytes_stored b.content → long_eq a b ≡ true
 forms_same a b forms bytes =
-    same_long a b (λ i. ScalarEvent (scalar_in (forms i) (bytes i)))
+    same_long a b (λ i. ScalarEvent (scalar_from (forms i) (bytes i)))
 
 -- equal long scalars have the same form and the same bytes
 pub same_forms : (a b : LongScalar) → long_eq a b ≡ true
-    → (form_in a.content ≡ form_in b.content) × (bytes_in a.content ≡ bytes_in b.content)
+    → (form_in a.content ≡ form_in b.content) × (bytes_stored a.content ≡ bytes_stored b.content)
 same_forms a b h =
     let same : scalar_of_long a ≡ scalar_of_long b = scalar_is _ _ h in
     (a.form ∙ ap form_of_scalar same ∙ sym b.form, stored_bytes a ∙ ap bytes_of_scalar same ∙ sym (stored_bytes b))

@@ -2,7 +2,7 @@
 //! takes four bytes as long as the numbers fit.
 
 ghost use Rattle.std.specs.Prelude.{◌≡◌, ◌-◌, ◌^◌, ◌<◌, ◌++◌, ◌∷◌, [], length, set, take, true, OnOk, OnErr};
-ghost use Rattle.plist_buffer.specs.inner.Columns.{entry_of, kind_in, number_in, scalar_in, shape_of_kind, IsEntryNumber};
+ghost use Rattle.plist_buffer.specs.inner.Columns.{entry_of, kind_in, number_in, number_named, shape_of_kind, IsEntryNumber};
 ghost use Rattle.plist_buffer.specs.inner.Entries.{index_after_at, ended_at, entry_at, is_start};
 
 use plist_base::{CompactNumbers, EventShape};
@@ -165,7 +165,7 @@ impl Entries {
     #[inline(always)]
     pub fn scalar(&self, index: usize) -> Option<ScalarNumber>
         requires { index < length self.now }
-        ensures { result ≡ scalar_in (entry_at self.now index) }
+        ensures { result ≡ number_named (entry_at self.now index) }
     {
         match self.kind_at(index) {
             EntryKind::Small => Some(ScalarNumber::Small(self.number_at(index))),

@@ -26,7 +26,7 @@ pub enum Form {
 /// A string or data. If it has at most 30 bytes, these are stored in the value itself. More bytes
 /// are borrowed or owned.
 #[derive(Drop)]
-pub enum Content<'e> {
+pub enum LongContent<'e> {
     /// A string of at most 30 bytes.
     ShortString(ShortText<30>),
     /// A borrowed string of more than 30 bytes, or a string to compare with.
@@ -47,89 +47,89 @@ pub enum Content<'e> {
     OwnedData(Vec<u8>),
 }
 
-impl<'e> Content<'e> {
+impl<'e> LongContent<'e> {
     ghost use Rattle.std.specs.Prelude.{IfOk};
     ghost use Rattle.std.specs.Cow.{cow_slice_items, cow_str_bytes};
     ghost use Rattle.plist_base.specs.Trees.{Data as DataScalar, String as StringScalar};
     ghost use Rattle.plist_base.specs.Utf16Strings.{string_of_utf16};
-    ghost use Rattle.plist_buffer.specs.inner.LongContents.{bytes_in};
+    ghost use Rattle.plist_buffer.specs.inner.LongContents.{bytes_stored};
 
     // Stores a string in ASCII. A string of more than 30 bytes remains borrowed or owned, as it
     // was.
-    fn of_ascii(text: CowStr<'e>) -> Content<'e>
+    fn of_ascii(text: CowStr<'e>) -> LongContent<'e>
         ensures scalar { scalar_of_content result ≡ StringScalar (cow_str_bytes text.entry) }
         ensures form { form_in result ≡ Form.Ascii }
     {
         if let Some(short) = ShortText::new(text.as_str()) {
-            return Content::ShortString(short);
+            return LongContent::ShortString(short);
         }
         match text {
-            CowStr::Borrowed(borrowed) => Content::BorrowedString(borrowed),
-            CowStr::Owned(owned) => Content::OwnedString(owned),
+            CowStr::Borrowed(borrowed) => LongContent::BorrowedString(borrowed),
+            CowStr::Owned(owned) => LongContent::OwnedString(owned),
         }
     }
 
     // Stores data. Data of more than 30 bytes remains borrowed or owned, as it was.
-    fn of_data(bytes: CowSlice<'e, u8>) -> Content<'e>
+    fn of_data(bytes: CowSlice<'e, u8>) -> LongContent<'e>
         ensures scalar { scalar_of_content result ≡ DataScalar (cow_slice_items bytes.entry) }
         ensures form { form_in result ≡ Form.Data }
     {
         if let Some(short) = ShortBytes::new(bytes.as_slice()) {
-            return Content::ShortData(short);
+            return LongContent::ShortData(short);
         }
         match bytes {
-            CowSlice::Borrowed(borrowed) => Content::BorrowedData(borrowed),
-            CowSlice::Owned(owned) => Content::OwnedData(owned),
+            CowSlice::Borrowed(borrowed) => LongContent::BorrowedData(borrowed),
+            CowSlice::Owned(owned) => LongContent::OwnedData(owned),
         }
     }
 
     // Stores a string in UTF-16, or fails if an allocation fails.
-    fn encode(alloc: Global, text: &str) -> Result<Content<'e>, AllocError>
+    fn encode(alloc: Global, text: &str) -> Result<LongContent<'e>, AllocError>
         ensures scalar { IfOk result (λ content. scalar_of_content content
             ≡ StringScalar text.now) }
         ensures form { IfOk result (λ content. form_in content ≡ Form.Wide) }
     {
         let owned = OwnedUtf16::encode(alloc, text)?;
         match ShortUtf16::new(owned.get()) {
-            Some(short) => Ok(Content::ShortWide(short)),
-            None => Ok(Content::OwnedWide(owned)),
+            Some(short) => Ok(LongContent::ShortWide(short)),
+            None => Ok(LongContent::OwnedWide(owned)),
         }
     }
 
     // Stores a copy of a string in UTF-16, or fails if an allocation fails.
-    fn copy_of_wide(alloc: Global, text: Utf16Str<'_>) -> Result<Content<'e>, AllocError>
+    fn copy_of_wide(alloc: Global, text: Utf16Str<'_>) -> Result<LongContent<'e>, AllocError>
         ensures scalar { IfOk result (λ content. scalar_of_content content
             ≡ StringScalar (string_of_utf16 text.entry)) }
         ensures form { IfOk result (λ content. form_in content ≡ Form.Wide) }
     {
         if let Some(short) = ShortUtf16::new(text) {
-            return Ok(Content::ShortWide(short));
+            return Ok(LongContent::ShortWide(short));
         }
-        Ok(Content::OwnedWide(OwnedUtf16::copy(alloc, text)?))
+        Ok(LongContent::OwnedWide(OwnedUtf16::copy(alloc, text)?))
     }
 
     // Stores a copy of a string in ASCII, or fails if an allocation fails.
-    fn copy_of_ascii(alloc: Global, text: &str) -> Result<Content<'e>, AllocError>
+    fn copy_of_ascii(alloc: Global, text: &str) -> Result<LongContent<'e>, AllocError>
         ensures scalar { IfOk result (λ content. scalar_of_content content
             ≡ StringScalar text.now) }
         ensures form { IfOk result (λ content. form_in content ≡ Form.Ascii) }
     {
         if let Some(short) = ShortText::new(text) {
-            return Ok(Content::ShortString(short));
+            return Ok(LongContent::ShortString(short));
         }
-        Ok(Content::OwnedString(text.to_string(alloc)?))
+        Ok(LongContent::OwnedString(text.to_string(alloc)?))
     }
 
     // Stores a copy of data, or fails if an allocation fails.
-    fn copy_of_data(alloc: Global, bytes: &[u8]) -> Result<Content<'e>, AllocError>
+    fn copy_of_data(alloc: Global, bytes: &[u8]) -> Result<LongContent<'e>, AllocError>
         ensures scalar { IfOk result (λ content. scalar_of_content content
             ≡ DataScalar bytes.now) }
         ensures form { IfOk result (λ content. form_in content ≡ Form.Data) }
     {
         if let Some(short) = ShortBytes::new(bytes) {
-            return Ok(Content::ShortData(short));
+            return Ok(LongContent::ShortData(short));
         }
-        Ok(Content::OwnedData(Vec::from_slice(alloc, bytes)?))
+        Ok(LongContent::OwnedData(Vec::from_slice(alloc, bytes)?))
     }
 
     // Returns the form in which the string or data is stored.
@@ -138,29 +138,31 @@ impl<'e> Content<'e> {
         ensures { result ≡ form_in self.now }
     {
         match self {
-            Content::ShortString(_) | Content::BorrowedString(_) | Content::OwnedString(_) => {
-                Form::Ascii
-            }
-            Content::ShortWide(_) | Content::BorrowedWide(_) | Content::OwnedWide(_) => Form::Wide,
-            Content::ShortData(_) | Content::BorrowedData(_) | Content::OwnedData(_) => Form::Data,
+            LongContent::ShortString(_)
+            | LongContent::BorrowedString(_)
+            | LongContent::OwnedString(_) => { Form::Ascii }
+            LongContent::ShortWide(_) | LongContent::BorrowedWide(_) | LongContent::OwnedWide(_) =>
+                Form::Wide,
+            LongContent::ShortData(_) | LongContent::BorrowedData(_) | LongContent::OwnedData(_) =>
+                Form::Data,
         }
     }
 
     // Returns the stored bytes, which are the units of a string that isn't ASCII.
     #[inline(always)]
     fn bytes(&self) -> &[u8]
-        ensures { result.now ≡ bytes_in self.now }
+        ensures { result.now ≡ bytes_stored self.now }
     {
         match self {
-            Content::ShortString(text) => text.as_str().as_bytes(),
-            Content::BorrowedString(text) => text.as_bytes(),
-            Content::OwnedString(text) => text.as_str().as_bytes(),
-            Content::ShortWide(text) => text.get().as_bytes(),
-            Content::BorrowedWide(text) => text.as_bytes(),
-            Content::OwnedWide(text) => text.get().as_bytes(),
-            Content::ShortData(bytes) => bytes.as_slice(),
-            Content::BorrowedData(bytes) => bytes,
-            Content::OwnedData(bytes) => bytes.as_slice(),
+            LongContent::ShortString(text) => text.as_str().as_bytes(),
+            LongContent::BorrowedString(text) => text.as_bytes(),
+            LongContent::OwnedString(text) => text.as_str().as_bytes(),
+            LongContent::ShortWide(text) => text.get().as_bytes(),
+            LongContent::BorrowedWide(text) => text.as_bytes(),
+            LongContent::OwnedWide(text) => text.get().as_bytes(),
+            LongContent::ShortData(bytes) => bytes.as_slice(),
+            LongContent::BorrowedData(bytes) => bytes,
+            LongContent::OwnedData(bytes) => bytes.as_slice(),
         }
     }
 }
@@ -171,7 +173,7 @@ impl<'e> Content<'e> {
 /// Two of them are equal if they are of one kind and have equal contents.
 #[derive(Drop)]
 pub struct LongScalar<'e> {
-    content: Content<'e>,
+    content: LongContent<'e>,
     ghost long: { 8 < content_length content },
     ghost form: { form_in content ≡ form_of_scalar (scalar_of_content content) } by { Prim.hlevel props },
 }
@@ -192,7 +194,7 @@ impl<'e> LongScalar<'e> {
         ensures { scalar_of_long result ≡ StringScalar (cow_str_bytes text.entry) }
     {
         LongScalar {
-            content: Content::of_ascii(text),
+            content: LongContent::of_ascii(text),
         }
     }
 
@@ -202,7 +204,7 @@ impl<'e> LongScalar<'e> {
         ensures { scalar_of_long result ≡ DataScalar (cow_slice_items bytes.entry) }
     {
         LongScalar {
-            content: Content::of_data(bytes),
+            content: LongContent::of_data(bytes),
         }
     }
 
@@ -213,7 +215,7 @@ impl<'e> LongScalar<'e> {
         ensures { scalar_of_long result ≡ StringScalar text.now }
     {
         LongScalar {
-            content: Content::BorrowedString(text),
+            content: LongContent::BorrowedString(text),
         }
     }
 
@@ -222,7 +224,7 @@ impl<'e> LongScalar<'e> {
         ensures { scalar_of_long result ≡ StringScalar (string_of_wide text.entry) }
     {
         LongScalar {
-            content: Content::BorrowedWide(text.get()),
+            content: LongContent::BorrowedWide(text.get()),
         }
     }
 
@@ -232,7 +234,7 @@ impl<'e> LongScalar<'e> {
         ensures { scalar_of_long result ≡ DataScalar bytes.now }
     {
         LongScalar {
-            content: Content::BorrowedData(bytes),
+            content: LongContent::BorrowedData(bytes),
         }
     }
 
@@ -242,7 +244,7 @@ impl<'e> LongScalar<'e> {
         requires wide { is_ascii_text text.now ≡ false }
         ensures { IfOk result (λ stored. scalar_of_long stored ≡ StringScalar text.now) }
     {
-        let content = Content::encode(alloc, text)?;
+        let content = LongContent::encode(alloc, text)?;
         Ok(LongScalar { content })
     }
 
@@ -251,7 +253,7 @@ impl<'e> LongScalar<'e> {
         ensures { IfOk result (λ stored. scalar_of_long stored
             ≡ StringScalar (string_of_wide text.entry)) }
     {
-        let content = Content::copy_of_wide(alloc, text.get())?;
+        let content = LongContent::copy_of_wide(alloc, text.get())?;
         Ok(LongScalar { content })
     }
 
@@ -261,7 +263,7 @@ impl<'e> LongScalar<'e> {
         requires ascii { is_ascii_text text.now ≡ true }
         ensures { IfOk result (λ stored. scalar_of_long stored ≡ StringScalar text.now) }
     {
-        let content = Content::copy_of_ascii(alloc, text)?;
+        let content = LongContent::copy_of_ascii(alloc, text)?;
         Ok(LongScalar { content })
     }
 
@@ -270,7 +272,7 @@ impl<'e> LongScalar<'e> {
         requires { 8 < length bytes.now }
         ensures { IfOk result (λ stored. scalar_of_long stored ≡ DataScalar bytes.now) }
     {
-        let content = Content::copy_of_data(alloc, bytes)?;
+        let content = LongContent::copy_of_data(alloc, bytes)?;
         Ok(LongScalar { content })
     }
 
@@ -281,15 +283,15 @@ impl<'e> LongScalar<'e> {
         ensures stored { IsStored result }
     {
         match &self.content {
-            Content::ShortString(text) => ScalarRef::String(text.as_str()),
-            Content::BorrowedString(text) => ScalarRef::String(text),
-            Content::OwnedString(text) => ScalarRef::String(text.as_str()),
-            Content::ShortWide(text) => ScalarRef::WideString(text.get().as_bytes()),
-            Content::BorrowedWide(text) => ScalarRef::WideString(text.as_bytes()),
-            Content::OwnedWide(text) => ScalarRef::WideString(text.get().as_bytes()),
-            Content::ShortData(bytes) => ScalarRef::Data(bytes.as_slice()),
-            Content::BorrowedData(bytes) => ScalarRef::Data(bytes),
-            Content::OwnedData(bytes) => ScalarRef::Data(bytes.as_slice()),
+            LongContent::ShortString(text) => ScalarRef::String(text.as_str()),
+            LongContent::BorrowedString(text) => ScalarRef::String(text),
+            LongContent::OwnedString(text) => ScalarRef::String(text.as_str()),
+            LongContent::ShortWide(text) => ScalarRef::WideString(text.get().as_bytes()),
+            LongContent::BorrowedWide(text) => ScalarRef::WideString(text.as_bytes()),
+            LongContent::OwnedWide(text) => ScalarRef::WideString(text.get().as_bytes()),
+            LongContent::ShortData(bytes) => ScalarRef::Data(bytes.as_slice()),
+            LongContent::BorrowedData(bytes) => ScalarRef::Data(bytes),
+            LongContent::OwnedData(bytes) => ScalarRef::Data(bytes.as_slice()),
         }
     }
 }

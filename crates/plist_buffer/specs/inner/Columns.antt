@@ -36,9 +36,9 @@ shape_of_kind kind.Small = shape.Scalar
 shape_of_kind kind.Long = shape.Scalar
 
 -- the number of the scalar that an entry refers to, or `None`
-abbrev pub scalar_in : EventEntry → Option ScalarNumber
-scalar_in (entry.Scalar number) = Some number
-scalar_in other = None
+abbrev pub number_named : EventEntry → Option ScalarNumber
+number_named (entry.Scalar number) = Some number
+number_named other = None
 
 -- the index of a scalar among all different ones, of which the small ones come first
 abbrev pub index_of_number : ScalarLists → ScalarNumber → ℕ
@@ -47,7 +47,7 @@ index_of_number scalars (Long index) = length scalars.small + index
 
 -- the index of the scalar that an entry refers to among all different scalars, or `None`
 abbrev pub scalar_named : ScalarLists → EventEntry → Option ℕ
-scalar_named scalars e = option_map (index_of_number scalars) (scalar_in e)
+scalar_named scalars e = option_map (index_of_number scalars) (number_named e)
 
 -- the entry of a kind and a number
 abbrev pub entry_of : EntryKind → ℕ → EventEntry
