@@ -28,6 +28,30 @@ pub trait ByteTest {
         ensures { result ≡ true → passes byte };
 }
 
+/// Tests whether bytes are ASCII.
+pub struct Ascii;
+
+impl ByteTest for Ascii {
+    ghost use Rattle.std.specs.Prelude.{◌<◌};
+
+    ghost passes = { λ byte. byte < 128 };
+
+    #[inline(always)]
+    fn sixteen(bytes: u8x16) -> bool {
+        bytes.simd_ge(u8x16::splat(128)).to_bitmask() == 0
+    }
+
+    #[inline(always)]
+    fn eight(bytes: u8x8) -> bool {
+        bytes.simd_ge(u8x8::splat(128)).to_bitmask() == 0
+    }
+
+    #[inline(always)]
+    fn one(byte: u8) -> bool {
+        byte < 128
+    }
+}
+
 // Tests at least sixteen bytes. The last sixteen are tested together, even if the previous test
 // included some of them.
 #[inline(always)]

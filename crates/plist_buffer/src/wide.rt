@@ -10,11 +10,12 @@ ghost use Rattle.plist_base.specs.Utf16.{IsUtf16, utf16_form, utf8_of_utf16};
 ghost use Rattle.plist_buffer.specs.AsciiTexts.{is_ascii_text};
 
 use crate::short::ShortBytes;
-use plist_base::Utf16Str;
+use plist_base::{Ascii, Utf16Str, all_pass};
 use std::alloc::{AllocError, Global};
 
-/// Returns whether each byte of a string is ASCII.
-pub fn is_ascii_text(text: &str) -> bool
+// Returns whether the greatest byte of a string is ASCII.
+#[inline(never)]
+fn has_ascii_greatest(text: &str) -> bool
     ensures value { result ≡ is_ascii_text text.now }
 {
     // The loop doesn't stop early, so that it can be vectorized.
@@ -23,6 +24,15 @@ pub fn is_ascii_text(text: &str) -> bool
         greatest = greatest.max(*byte);
     }
     greatest < 128
+}
+
+/// Returns whether each byte of a string is ASCII.
+#[inline(always)]
+pub fn is_ascii_text(text: &str) -> bool
+    ensures value { result ≡ is_ascii_text text.now }
+{
+    // Most strings are ASCII, and `all_pass` finds this out fastest, but doesn't tell the opposite.
+    all_pass::<Ascii>(text.as_bytes()) || has_ascii_greatest(text)
 }
 
 // Returns whether a character isn't ASCII, or one before it isn't.

@@ -2,32 +2,8 @@
 
 ghost use Rattle.std.specs.Prelude.{◌≡◌, ◌≤◌, take, IsUtf8, MatchOption};
 
-use plist_base::{ByteTest, all_pass};
+use plist_base::{Ascii, ByteTest, all_pass};
 use std::simd::prelude::*;
-
-// Tests whether bytes are ASCII.
-struct Ascii;
-
-impl ByteTest for Ascii {
-    ghost use Rattle.std.specs.Prelude.{◌<◌};
-
-    ghost passes = { λ byte. byte < 128 };
-
-    #[inline(always)]
-    fn sixteen(bytes: u8x16) -> bool {
-        bytes.simd_ge(u8x16::splat(128)).to_bitmask() == 0
-    }
-
-    #[inline(always)]
-    fn eight(bytes: u8x8) -> bool {
-        bytes.simd_ge(u8x8::splat(128)).to_bitmask() == 0
-    }
-
-    #[inline(always)]
-    fn one(byte: u8) -> bool {
-        byte < 128
-    }
-}
 
 // Returns the string in these bytes, or `None` if they aren't UTF-8. They needn't be ASCII.
 #[inline(never)]

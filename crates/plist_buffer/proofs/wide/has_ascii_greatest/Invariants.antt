@@ -1,6 +1,6 @@
 use Rattle.std.proofs.Common.{◌≡◌, nat_lt, take}
 use Rattle.std.specs.List.{list_all}
-use Rattle.plist_buffer.proofs.wide.is_ascii_text.Given as goal
+use Rattle.plist_buffer.proofs.wide.has_ascii_greatest.Given as goal
 
 -- all bytes so far are ASCII if and only if the greatest is
 abbrev pub invariant-loop-byte : goal.invariant-loop-byte

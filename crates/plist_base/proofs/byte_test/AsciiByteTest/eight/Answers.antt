@@ -1,6 +1,6 @@
 use Rattle.std.proofs.Common.{arith, leb, leb-false}
 use Rattle.plist_base.proofs.ByteBlocks.{none_right}
-use Rattle.plist_decode.proofs.utf8.AsciiByteTest.eight.Goals as goal
+use Rattle.plist_base.proofs.byte_test.AsciiByteTest.eight.Goals as goal
 
 pub returns : goal.returns
 returns c = λ none i within.
