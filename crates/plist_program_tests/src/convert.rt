@@ -28,6 +28,16 @@ const LAST_VALUES: &[u8] = b"bplist00\
     \xd2\x01\x02\x03\x04\x51\x61\x51\x62\x10\x03\x10\x02\x08\x0d\x0f\x11\x13\
     \0\0\0\0\0\0\x01\x01\0\0\0\0\0\0\0\x05\0\0\0\0\0\0\0\0\0\0\0\0\0\0\0\x15";
 
+// An array of one string twice, in UTF-8 and in UTF-16, and the file that is written for it.
+const TWO_FORMS: &[u8] = b"bplist00\
+    \xa2\x01\x02\x5a\xd0\xb0\xd0\xb1\xd0\xb2\xd0\xb3\xd0\xb4\
+    \x65\x04\x30\x04\x31\x04\x32\x04\x33\x04\x34\x08\x0b\x16\
+    \0\0\0\0\0\0\x01\x01\0\0\0\0\0\0\0\x03\0\0\0\0\0\0\0\0\0\0\0\0\0\0\0\x21";
+
+const ONE_FORM: &[u8] = b"bplist00\
+    \xa2\x01\x01\x65\x04\x30\x04\x31\x04\x32\x04\x33\x04\x34\x08\x0b\
+    \0\0\0\0\0\0\x01\x01\0\0\0\0\0\0\0\x02\0\0\0\0\0\0\0\0\0\0\0\0\0\0\0\x16";
+
 const EMPTY: &[u8] = b"bplist00\
     \xd0\x08\
     \0\0\0\0\0\0\x01\x01\0\0\0\0\0\0\0\x01\0\0\0\0\0\0\0\0\0\0\0\0\0\0\0\x09";
@@ -105,6 +115,7 @@ fn converts_files(rt: HostRuntime) {
         to_new(REPEATED, LAST_VALUES),
         to_new(LAST_VALUES, LAST_VALUES),
         to_new(EMPTY, EMPTY),
+        to_new(TWO_FORMS, ONE_FORM),
         Conversion {
             older: Some(&[b' '; 100]),
             ..to_new(SETTINGS, CONVERTED)
