@@ -4,7 +4,8 @@
 ghost use Rattle.std.specs.Prelude.{◌≡◌};
 
 use plist_base::{
-    Allowance, Error, Event, EventVisitor, Integer, LimitCounter, OwnedEvent, RealBits, Uid, Utf16Str,
+    Allowance, Error, Event, EventVisitor, Integer, LimitCounter, OwnedEvent, RealBits, Uid,
+    Utf16Str,
 };
 use std::alloc::Global;
 use std::borrow::{CowSlice, CowStr};

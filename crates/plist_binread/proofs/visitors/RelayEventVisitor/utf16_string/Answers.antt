@@ -10,8 +10,11 @@ returns-clause-taken g c =
     IfSome_then c.utf16_string.result c.utf16_string.ensures.taken (λ flow taken. record {
       same = refl;
       taken = taken;
-      given = (event.String (cow.Borrowed (record {
-        ref_ptr = c.args.text.bytes.ref_ptr;
-        now = string_of_utf16 c.args.text;
-      })), refl);
+      given = (
+        event.String (cow.Borrowed (record {
+          ref_ptr = c.args.text.bytes.ref_ptr;
+          now = string_of_utf16 c.args.text;
+        })),
+        refl,
+      );
     })
