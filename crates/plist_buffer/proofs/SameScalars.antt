@@ -1,20 +1,16 @@
 -- The tests of scalars decide whether two of them are equal.
-use Rattle.std.proofs.Common.{◌≡◌, ◌∙◌, ◌⊎◌, inl, inr, ℕ, ◌≤◌, Bool, true, false, if◌then◌else◌, List, refl, ap, sym, subst, arith}
+use Rattle.std.proofs.Common.{◌≡◌, ◌∙◌, ◌⊎◌, inl, inr, ℕ, ◌≤◌, Bool, true, false, List, ap, sym, subst, arith}
 use Rattle.std.specs.Str.{bytes_eq}
 use Rattle.std.proofs.lemmas.Bool.{cases_Bool, both_ways as never_both}
 use Rattle.std.proofs.lemmas.Slice.Eq.{bytes_eq-Decides}
 use Rattle.plist_base.specs.Events.{ScalarEvent}
 use Rattle.plist_base.specs.Scalars.{scalar_eq, scalar_is, scalar_refl}
-use Rattle.plist_base.specs.Trees.{Scalar, String}
+use Rattle.plist_base.specs.Trees.{Scalar}
 use Rattle.plist_buffer.specs.StoredScalars.{scalar_of_small, scalar_of_long, event_of_small, event_of_long}
 use Rattle.plist_buffer.specs.declared.long_scalar.LongScalar.{LongScalar}
 use Rattle.plist_buffer.specs.declared.small_scalar.SmallScalar.{SmallScalar}
 use Rattle.plist_buffer.specs.declared.small_scalar.SmallScalar.TheVariants as small
-use Rattle.plist_buffer.specs.AsciiTexts.{is_ascii_text}
-use Rattle.plist_buffer.specs.declared.long_scalar.LongContent.{LongContent}
-use Rattle.plist_buffer.specs.declared.long_scalar.LongContent.TheVariants as content
-use Rattle.plist_buffer.specs.declared.long_scalar.Form.TheVariants as form
-use Rattle.plist_buffer.specs.inner.LongContents.{bytes_stored, bytes_in_scalar, bytes_of_scalar, form_in, form_of_scalar, scalar_from, scalar_of_content}
+use Rattle.plist_buffer.specs.inner.LongContents.{bytes_in_scalar}
 use Rattle.plist_buffer.proofs.Padding.{short_length}
 
 -- a test's result, which says whether the two are equal
@@ -102,61 +98,3 @@ pub small_or_long : (a : SmallScalar) (b : LongScalar) → event_of_small a ≡ 
 small_or_long a b h =
     let e : scalar_of_small a ≡ scalar_of_long b = cc in
     omega (arith, small_bytes a, b.long, ap bytes_in_scalar e)
-
--- ---- the forms of long scalars
-
--- the text of a string that is stored in ASCII, or the bytes of one that is stored in UTF-16
-text_kept : (b : Bool) (text wide : List ℕ) → form.Ascii ≡ (if b then form.Ascii else form.Wide)
-    → text ≡ (if b then text else wide)
-text_kept true text wide is = refl
-text_kept false text wide is = cc
-
-units_kept : (b : Bool) (text wide units : List ℕ) → form.Wide ≡ (if b then form.Ascii else form.Wide)
-    → units ≡ wide → units ≡ (if b then text else wide)
-units_kept true text wide units is same = cc
-units_kept false text wide units is same = same
-
--- the stored bytes are those of the scalar in its form
-bytes_kept : (c : LongContent) → form_in c ≡ form_of_scalar (scalar_of_content c)
-    → bytes_stored c ≡ bytes_of_scalar (scalar_of_content c)
-bytes_kept (content.ShortString text) is = text_kept _ _ _ is
-bytes_kept (content.BorrowedString text) is = text_kept _ _ _ is
-bytes_kept (content.OwnedString text) is = text_kept _ _ _ is
-bytes_kept (content.ShortWide text) is = units_kept _ _ _ _ is text.valid.form
-bytes_kept (content.BorrowedWide text) is = units_kept _ _ _ _ is text.valid.form
-bytes_kept (content.OwnedWide text) is = units_kept _ _ _ _ is text.valid.form
-bytes_kept (content.ShortData bytes) is = refl
-bytes_kept (content.BorrowedData bytes) is = refl
-bytes_kept (content.OwnedData bytes) is = refl
-
-pub stored_bytes : (a : LongScalar) → bytes_stored a.content ≡ bytes_of_scalar (scalar_of_long a)
-stored_bytes a = bytes_kept a.content a.form
-
--- a string that is stored in UTF-16 isn't ASCII
-wide_if : (b : Bool) → form.Wide ≡ (if b then form.Ascii else form.Wide) → b ≡ false
-wide_if true is = cc
-wide_if false is = refl
-
-pub stored_wide : (text : List ℕ) → form.Wide ≡ form_of_scalar (String text)
-    → is_ascii_text text ≡ false
-stored_wide text is = wide_if (is_ascii_text text) is
-
--- the form of a string
-pub ascii_form : (text : List ℕ) → is_ascii_text text ≡ true → form_of_scalar (String text) ≡ form.Ascii
-ascii_form text is = rw is refl
-
-pub wide_form : (text : List ℕ) → is_ascii_text text ≡ false → form_of_scalar (String text) ≡ form.Wide
-wide_form text is = rw is refl
-
--- long scalars with the same form and the same bytes are equal
-pub forms_same : (a b : LongScalar) → form_in a.content ≡ form_in b.content
-    → bytes_stored a.content ≡ bytes_stored b.content → long_eq a b ≡ true
-forms_same a b forms bytes =
-    same_long a b (λ i. ScalarEvent (scalar_from (forms i) (bytes i)))
-
--- equal long scalars have the same form and the same bytes
-pub same_forms : (a b : LongScalar) → long_eq a b ≡ true
-    → (form_in a.content ≡ form_in b.content) × (bytes_stored a.content ≡ bytes_stored b.content)
-same_forms a b h =
-    let same : scalar_of_long a ≡ scalar_of_long b = scalar_is _ _ h in
-    (a.form ∙ ap form_of_scalar same ∙ sym b.form, stored_bytes a ∙ ap bytes_of_scalar same ∙ sym (stored_bytes b))
