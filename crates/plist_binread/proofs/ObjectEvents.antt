@@ -1,6 +1,6 @@
 -- The event of an object that was decoded.
 use Rattle.std.proofs.Common.{◌≡◌, ℕ, ◌+◌, ◌<◌, ◌≤◌, Bool, true, false, List, length, take, drop, get_or, Option, None, Some, Result, Ok, Err, IfSome, ap, sym, subst, ◌∙◌, arith}
-use Rattle.std.specs.Prelude.{OnOk, if◌then◌else◌}
+use Rattle.std.specs.Prelude.{OnOk, if◌then◌else◌, IsUtf8}
 use Rattle.std.proofs.lemmas.Bool.{false≢true, lt-leb}
 use Rattle.std.proofs.lemmas.List.{drop-drop}
 use Rattle.std.proofs.lemmas.Option.{IfSome_then}
@@ -12,6 +12,7 @@ use Rattle.plist_base.specs.Sources.{LiesAt}
 use Rattle.plist_base.specs.Trees as trees
 use Rattle.plist_base.specs.Object.{Object, Scalar, Array, Dictionary, Faulty, date, date_if_any, text}
 use Rattle.plist_decode.specs.CountedContent.{content_means}
+use Rattle.plist_decode.proofs.Contents.{text-utf8}
 use Rattle.plist_decode.specs.Decoded.{FitsBefore, content_size, small_count}
 use Rattle.plist_binread.specs.ObjectEvents.{FitsWalk, SetsContentAt, SetsDecoded, SetsEvent, event_of_object}
 use Rattle.plist_decode.specs.Decoding.{IsCollection, scalar_event_in}
@@ -142,6 +143,13 @@ large_text bytes current h is = by _ is
         let e : current ≡ ScalarEvent (trees.String bytes) = cc in
         ap is_small_event e ∙ lt-leb _ 8 h
     by false is = absurd (cc)
+
+-- the event of a string in UTF-8
+pub utf8_event : (bytes string : List ℕ) → string ≡ bytes → IsUtf8 bytes
+    → event_of_object (text bytes) ≡ Some (ScalarEvent (trees.String string))
+utf8_event bytes string same utf8 =
+    ap event_of_object (text-utf8 bytes utf8)
+    ∙ ap (λ content. Some (ScalarEvent (trees.String content))) (sym same)
 
 -- if the event isn't that of a small scalar, the object need not have been decoded as one
 pub large_unlike : {A E : Type 0} (answer : Result A E) (d : Decoded) (current : PlainEvent)

@@ -14,14 +14,15 @@ ghost use Rattle.plist_base.specs.Sources.{CountsIo};
 ghost use Rattle.plist_decode.specs.StepFaults.{result_with};
 ghost use Rattle.plist_decode.specs.declared.decoded.ContentKind.TheVariants.{Text as KindText};
 
-use plist_base::{Date, EventVisitor, Integer, OwnedEvent, RealBits, Source, Uid, Utf16Str};
+use plist_base::{
+    Ascii, Date, EventVisitor, Integer, OwnedEvent, RealBits, Source, Uid, Utf16Str, all_pass,
+};
 use plist_decode::counter::DecodeCounter;
 use plist_decode::decoded::{CollectionKind, Content, ContentKind, Decoded};
 use plist_decode::decoder::Decoder;
 use plist_decode::long_content::{content_event, read_content, wide_text_event};
 use plist_decode::packed::PackedKind;
 use plist_decode::step_fault::StepFault;
-use plist_decode::utf8::text_in;
 use plist_decode::utf16::{MAX_UNITS, utf16_text_in};
 use std::alloc::Global;
 use std::borrow::{CowSlice, CowStr};
@@ -69,17 +70,36 @@ fn hand_date<V: EventVisitor>(content: u64, visitor: &mut V) -> Result<ControlFl
     }
 }
 
+// Hands over a string that isn't small, or returns a fault if the bytes aren't UTF-8. They needn't
+// be ASCII.
+#[inline(never)]
+fn hand_utf8<V: EventVisitor>(bytes: &[u8], visitor: &mut V) -> Result<ControlFlow<()>, StepFault>
+    requires { IsLongBytes KindText bytes.now }
+    ensures { HandsItem V.step visitor.old visitor.new (Some result)
+        (SetsLarge (text bytes.now) result) }
+{
+    match str::from_utf8(bytes) {
+        Ok(text) => Ok(visitor.string(CowStr::Borrowed(text))),
+        Err(_) => Err(StepFault::NotUtf8),
+    }
+}
+
 // Hands over a string that isn't small, or returns a fault if the bytes aren't UTF-8.
+//
+// ASCII is tested first because most strings are ASCII, and this test takes a fraction of the time
+// of the test for UTF-8. A string in ASCII is handed over by a call of its own: if the string were
+// the result of both tests, it would be stored in memory in between, which takes longer.
 #[inline(always)]
 fn hand_text<V: EventVisitor>(bytes: &[u8], visitor: &mut V) -> Result<ControlFlow<()>, StepFault>
     requires { IsLongBytes KindText bytes.now }
     ensures { HandsItem V.step visitor.old visitor.new (Some result)
         (SetsLarge (text bytes.now) result) }
 {
-    match text_in(bytes) {
-        Some(text) => Ok(visitor.string(CowStr::Borrowed(text))),
-        None => Err(StepFault::NotUtf8),
+    if all_pass::<Ascii>(bytes) {
+        let text = unsafe { str::from_utf8_unchecked(bytes) };
+        return Ok(visitor.string(CowStr::Borrowed(text)));
     }
+    hand_utf8(bytes, visitor)
 }
 
 // Hands over a string in UTF-16 if the visitor takes it in this form. Otherwise returns `None`. A

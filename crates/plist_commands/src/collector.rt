@@ -12,6 +12,7 @@ ghost use Rattle.plist_commands.specs.CollectorSteps.{HoldsMore};
 use plist_base::{Error, Event, EventVisitor, Utf16Str, Visited};
 use plist_buffer::event_buffer::{EventBuffer, PushError};
 use std::alloc::{AllocError, Global};
+use std::borrow::CowStr;
 use std::mem;
 use std::ops::ControlFlow;
 
@@ -172,6 +173,15 @@ impl EventVisitor for Collector {
             Ok(true) => self.go_on(),
             Ok(false) => self.end(StopReason::Misplaced),
             Err(error) => self.end(StopReason::Failed(Error::from(error))),
+        }
+    }
+
+    // A string is handed over borrowed or owned. Each has a call of its own here, because the memory
+    // of an event that is either would be copied on the way to the buffer.
+    fn string(&mut self, text: CowStr<'_>) -> ControlFlow<()> {
+        match text {
+            CowStr::Borrowed(borrowed) => self.event(Event::String(CowStr::Borrowed(borrowed))),
+            CowStr::Owned(owned) => self.event(Event::String(CowStr::Owned(owned))),
         }
     }
 

@@ -2,7 +2,7 @@
 
 ghost use Rattle.std.specs.Prelude.{◌≡◌, ◌≤◌, take, IsUtf8, MatchOption};
 
-use plist_base::{Ascii, ByteTest, all_pass};
+use plist_base::{Ascii, ByteTest};
 use std::simd::prelude::*;
 
 // Returns the string in these bytes, or `None` if they aren't UTF-8. They needn't be ASCII.
@@ -29,19 +29,4 @@ pub fn short_text_in(bytes: &[u8; 8], size: usize) -> Option<&str>
         return Some(unsafe { str::from_utf8_unchecked(text) });
     }
     utf8_text_in(text)
-}
-
-/// Returns the string in these bytes, or `None` if they aren't UTF-8.
-///
-/// ASCII is tested first because most strings are ASCII, and this test takes a fraction of the time
-/// of the test for UTF-8.
-#[inline(always)]
-pub fn text_in(bytes: &[u8]) -> Option<&str>
-    ensures { MatchOption result (IsUtf8 bytes.now → ⊥)
-        (λ text. (text.now ≡ bytes.now) × IsUtf8 bytes.now) }
-{
-    if all_pass::<Ascii>(bytes) {
-        return Some(unsafe { str::from_utf8_unchecked(bytes) });
-    }
-    utf8_text_in(bytes)
 }

@@ -85,6 +85,7 @@ impl EventTable<'static> {
     }
 
     // Appends a string. An owned one is moved, and so its hash is computed only once.
+    #[inline(always)]
     fn take_text(&mut self, alloc: Global, text: CowStr<'_>) -> Result<(), AllocError>
         ensures events { OnOk result (GrowsBy self.old
             (ScalarEvent (StringScalar (cow_str_bytes text.entry))) self.new) }
@@ -97,6 +98,7 @@ impl EventTable<'static> {
     }
 
     // Appends data. Owned data is moved, and so its hash is computed only once.
+    #[inline(always)]
     fn take_data(&mut self, alloc: Global, bytes: CowSlice<'_, u8>) -> Result<(), AllocError>
         ensures events { OnOk result (GrowsBy self.old
             (ScalarEvent (DataScalar (cow_slice_items bytes.entry))) self.new) }

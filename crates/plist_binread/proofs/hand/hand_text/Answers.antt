@@ -1,17 +1,21 @@
-use Rattle.std.proofs.Common.{ap, sym, refl, ◌∙◌, Some}
-use Rattle.plist_base.specs.Events.{EndCollection, ScalarEvent}
+use Rattle.std.proofs.lemmas.Str.{IsUtf8-from_ascii}
+use Rattle.plist_base.specs.Events.{ScalarEvent}
 use Rattle.plist_base.specs.Trees.{String}
-use Rattle.plist_binread.specs.ObjectEvents.{event_of_object}
-use Rattle.plist_decode.proofs.Contents.{text-utf8, text-not_utf8}
-use Rattle.plist_binread.proofs.ObjectEvents.{large_text}
+use Rattle.plist_base.proofs.ByteBlocks.{ascii_from_each}
+use Rattle.plist_binread.proofs.ObjectEvents.{large_text, utf8_event}
 use Rattle.plist_binread.proofs.hand.hand_text.Goals as goal
 
-pub returns-in-Some : goal.returns-in-Some
-returns-in-Some g c =
-    let is = ap event_of_object (text-utf8 c.args.bytes.now c.in-Some.ensures.1)
-    ∙ ap (λ bytes. Some (ScalarEvent (String bytes))) (sym c.in-Some.ensures.0) in
+pub from_utf8_unchecked-text-requires : goal.from_utf8_unchecked-text-requires
+from_utf8_unchecked-text-requires g c =
+    IsUtf8-from_ascii _ (ascii_from_each _ (c.all_pass.ensures c.if-all_pass.true))
+
+pub returns-then-all_pass : goal.returns-then-all_pass
+returns-then-all_pass g c =
+    let ascii = ascii_from_each _ (c.all_pass.ensures c.if-all_pass.true) in
+    let is = utf8_event c.args.bytes.now c.from_utf8_unchecked-text.result.now c.from_utf8_unchecked-text.ensures
+    (IsUtf8-from_ascii _ ascii) in
     record {
-      event = ScalarEvent (String c.in-Some.text.now);
+      event = ScalarEvent (String c.from_utf8_unchecked-text.result.now);
       is = record {
         sets = λ details. is;
         large = large_text c.args.bytes.now _ c.requires is;
@@ -20,15 +24,3 @@ returns-in-Some g c =
       };
       taken = c.string.ensures;
     }
-
-pub returns-in-None : goal.returns-in-None
-returns-in-None g c = record {
-  event = EndCollection;
-  is = record {
-    sets = λ details. (text-not_utf8 c.args.bytes.now c.in-None.ensures, refl);
-    large = tt;
-    fault = λ details start end. record { placed = tt };
-    never_io = λ details. tt;
-  };
-  taken = refl;
-}
