@@ -12,7 +12,7 @@ ghost use Rattle.plist_commands.specs.CollectorSteps.{HoldsMore};
 use plist_base::{Error, Event, EventVisitor, Utf16Str, Visited};
 use plist_buffer::event_buffer::{EventBuffer, PushError};
 use std::alloc::{AllocError, Global};
-use std::borrow::CowStr;
+use std::borrow::{CowSlice, CowStr};
 use std::mem;
 use std::ops::ControlFlow;
 
@@ -176,8 +176,15 @@ impl EventVisitor for Collector {
         }
     }
 
-    // A string is handed over borrowed or owned. Each has a call of its own here, because the memory
-    // of an event that is either would be copied on the way to the buffer.
+    // Data is borrowed or owned, and so is a string. Each has a call of its own here, because
+    // otherwise the memory of an event that is either would be copied on the way to the buffer.
+    fn data(&mut self, bytes: CowSlice<'_, u8>) -> ControlFlow<()> {
+        match bytes {
+            CowSlice::Borrowed(borrowed) => self.event(Event::Data(CowSlice::Borrowed(borrowed))),
+            CowSlice::Owned(owned) => self.event(Event::Data(CowSlice::Owned(owned))),
+        }
+    }
+
     fn string(&mut self, text: CowStr<'_>) -> ControlFlow<()> {
         match text {
             CowStr::Borrowed(borrowed) => self.event(Event::String(CowStr::Borrowed(borrowed))),
