@@ -19,7 +19,7 @@ use Rattle.plist_buffer.specs.EventTable.{event_at}
 use Rattle.plist_buffer.specs.declared.entries.ScalarNumber.{ScalarNumber}
 use Rattle.plist_buffer.specs.declared.entries.ScalarNumber.TheVariants.{Small, Long}
 use Rattle.plist_buffer.specs.inner.Columns.{scalar_named, index_of_number}
-use Rattle.plist_buffer.specs.inner.Entries.{AreDistinct, ScalarLists, all_scalars, event_numbered, same_number, scalar_numbered, is_leaf, entry_at, event_of_entry, events_of_entries, is_sound, is_start, index_after_entry, index_after_at, closed_at, ended_at, names, AreEntriesOf, IsValidTable}
+use Rattle.plist_buffer.specs.inner.Entries.{AreDistinct, ScalarLists, all_scalars, event_numbered, same_number, scalar_numbered, is_leaf, entry_at, event_of_entry, events_of_entries, is_sound, is_start, index_after_entry, index_after_at, closed_at, ended_at, names, AreEntriesOf, IsValidTable, KeepsScalars}
 use Rattle.plist_buffer.specs.inner.UnclosedStarts.{unclosed_after_event, unclosed_after, skip_after_event, skip_after, without_innermost}
 use Rattle.plist_buffer.proofs.Changes.{at_set, at_more}
 use Rattle.plist_buffer.proofs.Columns.{indexed, unnamed}
@@ -102,13 +102,8 @@ number_same (Long i) = eq-eqb i i refl
 leaf_without_length : (e : PlainEvent) → is_leaf e ≡ true → without_length e ≡ e
 leaf_without_length e h = let f = leaf_is e h in rw f.1 refl
 
--- no scalar is lost
-abbrev Keeps : (old new : ScalarLists) → Type 0
-Keeps old new = (number : ScalarNumber) (e : PlainEvent) → scalar_numbered old number ≡ Some e
-    → scalar_numbered new number ≡ Some e
-
 -- more scalars change no event of the entries
-module _ (old new : ScalarLists) (keeps : Keeps old new) where
+module _ (old new : ScalarLists) (keeps : KeepsScalars old new) where
   one_kept : (e : EventEntry) → is_sound old e ≡ true → (is_sound new e ≡ true)
       × (event_of_entry new e ≡ event_of_entry old e)
   one_kept (entry.Scalar number) h =
@@ -327,7 +322,7 @@ either (Err x) P is same new old = rw same old
 
 -- after a call that stored the scalar e unless it was there, it has this number
 pub record Grown (old new : ScalarLists) (number : ScalarNumber) (e : PlainEvent) : Type 0 where
-  pub keeps : Keeps old new
+  pub keeps : KeepsScalars old new
   pub stored : scalar_numbered new number ≡ Some e
   pub apart : AreDistinct (all_scalars new)
   pub came : (other : ScalarNumber) (d : PlainEvent) → scalar_numbered new other ≡ Some d

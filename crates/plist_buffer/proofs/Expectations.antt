@@ -1,7 +1,7 @@
 -- What is expected after the buffered events, and how one more event changes that.
-use Rattle.std.proofs.Common.{◌≡◌, ◌⊎◌, inl, inr, List, [], ◌∷◌, ◌++◌, Option, IfSome, map, option_and_then, None, Some, false, refl, sym, ap, ◌∙◌, subst}
+use Rattle.std.proofs.Common.{◌≡◌, ◌⊎◌, inl, inr, List, [], ◌∷◌, ◌++◌, Option, IfSome, map, option_and_then, None, Some, false, true, refl, sym, ap, ◌∙◌, subst}
 use Rattle.std.specs.Option.{is_none}
-use Rattle.plist_base.specs.Bracketing.{without_length, CanContinue}
+use Rattle.plist_base.specs.Bracketing.{without_length, AreTreeEvents, CanContinue}
 use Rattle.plist_base.specs.Events.{PlainEvent, StartArray, StartDictionary, EndCollection, ScalarEvent}
 use Rattle.plist_base.specs.Trees.{String}
 use Rattle.plist_buffer.specs.Expects.{transition_of, changed, step, expected_after}
@@ -112,6 +112,13 @@ tests_whole es [] w = complete_of_whole es (bracketed es w)
 tests_whole es (x ∷ rest) w = λ whole.
     let q
     = sym (all_taken es _ whole.1) ∙ w in cc
+
+-- if the buffered events are those of a tree, nothing more is expected
+pub whole_of_tree : (s : EventBuffer) → AreTreeEvents (buffered_events s) → is_whole s ≡ true
+whole_of_tree s whole =
+    let taken = sym (all_taken (buffered_events s) _ whole.1) ∙ s.wanted.all in
+    let none : all_expected s.expects (expected_inside (buffered_events s)) ≡ [] = cc in
+    ap is_none (s.wanted.first ∙ ap innermost none)
 
 -- the length of a start doesn't matter
 same_wants : (es : List PlainEvent) (e : PlainEvent)

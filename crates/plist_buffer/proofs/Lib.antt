@@ -11,6 +11,7 @@ pub mod Stacks
 pub mod Grammar
 pub mod SameScalars
 pub mod Expectations
+pub mod BufferedEvents
 pub mod Uniques
 pub mod SetKeys
 pub mod Innermost

@@ -10,10 +10,12 @@ use Rattle.plist_buffer.specs.declared.event_buffer.EventBuffer.{EventBuffer}
 use Rattle.plist_buffer.specs.declared.event_buffer.PushError.{PushError}
 use Rattle.plist_buffer.specs.declared.event_buffer.PushError.TheVariants as push_error
 use Rattle.plist_buffer.specs.EventTable.{plain_events}
+use Rattle.plist_buffer.specs.StoredScalars.{events_of_small}
 
--- the buffered events, without the lengths of starts
+-- the buffered events, without the lengths of starts: those of the table, and the scalars that wait
+-- to be appended to it
 abbrev pub buffered_events : EventBuffer → List PlainEvent
-buffered_events pending = plain_events pending.held
+buffered_events pending = plain_events pending.held ++ events_of_small pending.waiting
 
 -- are the buffered events those of a whole property list?
 abbrev pub is_whole : EventBuffer → Bool

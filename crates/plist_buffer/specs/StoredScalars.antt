@@ -1,5 +1,5 @@
 -- The scalars of a table, as contracts describe them.
-use Rattle.std.specs.Prelude.{◌≡◌, ℕ, List, false, pos, ⊤}
+use Rattle.std.specs.Prelude.{◌≡◌, ℕ, List, false, map, pos, ⊤}
 use Rattle.plist_base.specs.Events.{PlainEvent, ScalarEvent}
 use Rattle.plist_base.specs.Trees.{Scalar, Boolean, Data, Date, Integer, Real, String, Uid}
 use Rattle.plist_buffer.specs.ShortContents.{short_data, short_string}
@@ -51,6 +51,10 @@ scalar_of_long stored = scalar_of_content stored.content
 -- the event of a small scalar
 abbrev pub event_of_small : SmallScalar → PlainEvent
 event_of_small stored = ScalarEvent (scalar_of_small stored)
+
+-- the events of small scalars
+abbrev pub events_of_small : List SmallScalar → List PlainEvent
+events_of_small scalars = map event_of_small scalars
 
 -- the event of a long scalar
 abbrev pub event_of_long : LongScalar → PlainEvent

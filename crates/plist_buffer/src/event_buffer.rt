@@ -1,14 +1,24 @@
 //! The buffer of the open property list's events, and what is expected next.
+//!
+//! The table of events stores each different scalar once, so that each scalar is looked up. In a
+//! large table a look-up mostly waits for memory, but the processor waits only once for look-ups
+//! that follow one another at once. So the small scalars of an array wait in the buffer until there
+//! are sixteen of them, and are then looked up together.
 
 ghost use Rattle.std.proofs.Props.{props};
-ghost use Rattle.std.specs.Prelude.{◌≡◌, ℕ, List};
+ghost use Rattle.std.specs.Prelude.{◌≡◌, ◌<◌, ◌++◌, ℕ, List, Some, length, IfSome};
 ghost use Rattle.plist_base.specs.Events.{ScalarEvent, event_of};
 ghost use Rattle.plist_base.specs.Trees.{String};
 ghost use Rattle.plist_buffer.specs.EventTable.{plain_events};
+ghost use Rattle.plist_buffer.specs.StoredScalars.{event_of_small, events_of_small};
+ghost use Rattle.plist_buffer.specs.declared.expects.Expect.TheVariants.{Items};
+ghost use Rattle.plist_buffer.specs.declared.expects.Transition.TheVariants.{Kept};
 ghost use Rattle.plist_buffer.specs.inner.Expected.{ExpectsNext, change_on, expected_inside, innermost, next_expected};
 
 use crate::event_table::EventTable;
 use crate::expects::{Expect, Transition};
+use crate::small_scalar::SmallScalar;
+use crate::waiting::WaitingScalars;
 use crate::wide::WideStr;
 use plist_base::{Event, EventKind, Utf16Str};
 use std::alloc::{AllocError, Global};
@@ -42,12 +52,18 @@ impl From<AllocError> for PushError {
 
 /// The buffered events of the open property list. Once they are those of a whole property list, no
 /// event can be added until they are cleared.
+///
+/// The last events, if they are small items of an array, may wait to be appended to the table. They
+/// are appended together, because their look-ups then wait for memory together.
 #[derive(Drop)]
 pub struct EventBuffer {
     held: EventTable<'static>,
+    // The scalars that wait. They are items of the innermost open collection, which is an array.
+    waiting: WaitingScalars,
     // What is expected next, or `None` if the events are those of a whole property list.
     expects: Option<Expect>,
-    ghost wanted: { ExpectsNext (plain_events held) expects } by { Prim.hlevel props },
+    ghost wanted: { ExpectsNext (plain_events held ++ events_of_small waiting) expects } by { Prim.hlevel props },
+    ghost items: { 0 < length waiting → expects ≡ Some Items } by { Prim.hlevel props },
 }
 
 // Returns how an event changes what is expected next.
@@ -67,6 +83,22 @@ fn change_by_string(expects: Option<Expect>) -> Transition
     change_on(expects, &Event::String(CowStr::Borrowed("")))
 }
 
+// Returns the scalar of an event that is a small item of an array, given how the event changes what
+// is expected next.
+#[inline(always)]
+fn small_item(change: Transition, event: &Event<'_>) -> Option<SmallScalar>
+    ensures kept { IfSome result (λ _. change ≡ Kept) }
+    ensures scalar { IfSome result (λ small. event_of_small small ≡ event_of event.now) }
+{
+    match change {
+        Transition::Kept => SmallScalar::of_event(event),
+        Transition::Refused
+        | Transition::Closed
+        | Transition::Pushed(_)
+        | Transition::Replaced(_) => None,
+    }
+}
+
 // Returns what is expected next. The event that made this change is already in `held`.
 fn next_expected(
     change: Transition,
@@ -84,11 +116,12 @@ fn next_expected(
 }
 
 impl EventBuffer {
-    ghost use Rattle.std.specs.Prelude.{◌≡◌, [], false, None, IfErr, IfSome, OnOk, OnErr};
+    ghost use Rattle.std.specs.Prelude.{◌≡◌, [], false, true, None, IfErr, IfSome, OnOk, OnErr};
     ghost use Rattle.plist_base.specs.Events.{ScalarEvent, event_of};
     ghost use Rattle.plist_base.specs.Trees.{String};
     ghost use Rattle.plist_base.specs.Utf16Strings.{string_of_utf16};
     ghost use Rattle.plist_buffer.specs.WideStrings.{string_of_wide};
+    ghost use Rattle.plist_buffer.specs.StoredScalars.{event_of_small};
     ghost use Rattle.plist_buffer.specs.EventBuffers.{buffered_events, is_whole, misplaced_error, Accepts, BuffersNext, CanTake, RejectsEvent};
     ghost use Rattle.plist_buffer.specs.inner.Expected.{change_on};
 
@@ -99,6 +132,7 @@ impl EventBuffer {
     {
         EventBuffer {
             held: EventTable::new(alloc),
+            waiting: WaitingScalars::new(),
             expects: Some(Expect::OneValue),
         }
     }
@@ -117,12 +151,90 @@ impl EventBuffer {
     fn error_of_kind(&self, found: EventKind) -> PushError
         ensures { result ≡ misplaced_error (buffered_events self.now) found }
     {
-        let expected = if self.held.len() == 0 {
+        let expected = if self.held.len() == 0 && self.waiting.is_empty() {
             EventKind::ValueOrStartCollection
         } else {
             EventKind::DictionaryKeyOrEndCollection
         };
         PushError::Misplaced { expected, found }
+    }
+
+    // Appends the scalars that wait to the table. If an allocation fails, some of them still wait.
+    #[inline(never)]
+    fn append_waiting(&mut self) -> Result<(), AllocError>
+        ensures events { buffered_events self.new ≡ buffered_events self.old }
+        ensures expects { self.new.expects ≡ self.old.expects }
+        ensures settled { OnOk result (self.new.waiting ≡ []) }
+    {
+        let appended = self.held.append_small(self.waiting.as_slice());
+        self.waiting.remove_first(appended);
+        if self.waiting.is_empty() {
+            Ok(())
+        } else {
+            Err(AllocError)
+        }
+    }
+
+    // Appends the scalars that wait, if any, to the table.
+    #[inline(always)]
+    fn settle(&mut self) -> Result<(), AllocError>
+        ensures events { buffered_events self.new ≡ buffered_events self.old }
+        ensures expects { self.new.expects ≡ self.old.expects }
+        ensures settled { OnOk result (self.new.waiting ≡ []) }
+    {
+        if self.waiting.is_empty() {
+            return Ok(());
+        }
+        self.append_waiting()
+    }
+
+    // Appends the scalars that wait if there are sixteen, so that another one can wait.
+    #[inline(always)]
+    fn make_place(&mut self) -> Result<(), AllocError>
+        ensures events { buffered_events self.new ≡ buffered_events self.old }
+        ensures expects { self.new.expects ≡ self.old.expects }
+        ensures place { OnOk result (length self.new.waiting < 16) }
+    {
+        if self.waiting.is_full() {
+            return self.append_waiting();
+        }
+        Ok(())
+    }
+
+    // Buffers a small item of an array, which waits.
+    #[inline(always)]
+    fn wait(&mut self, scalar: SmallScalar) -> Result<(), AllocError>
+        requires { self.old.expects ≡ Some Items }
+        ensures taken { OnOk result (BuffersNext self.old (event_of_small scalar) self.new) }
+        ensures unchanged { OnErr result (buffered_events self.new ≡ buffered_events self.old) }
+        ensures whole { OnErr result (is_whole self.new ≡ is_whole self.old) }
+    {
+        self.make_place()?;
+        self.waiting.push(scalar);
+        Ok(())
+    }
+
+    // Appends an event that can follow the buffered ones to the table, given how it changes what is
+    // expected next.
+    #[inline(always)]
+    fn hold_now(
+        &mut self,
+        alloc: Global,
+        event: Event<'_>,
+        change: Transition,
+    ) -> Result<(), AllocError>
+        requires still { is_whole self.old ≡ false }
+        requires accepted { CanTake self.old (event_of event) }
+        requires change { change ≡ change_on self.old.expects (event_of event) }
+        ensures taken { OnOk result (BuffersNext self.old (event_of event.entry) self.new) }
+        ensures unchanged { OnErr result (buffered_events self.new ≡ buffered_events self.old) }
+        ensures whole { OnErr result (is_whole self.new ≡ is_whole self.old) }
+    {
+        self.settle()?;
+        self.held.make_room();
+        self.held.push_copy(alloc, event)?;
+        self.expects = next_expected(change, self.expects, &self.held);
+        Ok(())
     }
 
     // Buffers an event that can follow the buffered ones, given how it changes what is expected
@@ -141,10 +253,10 @@ impl EventBuffer {
         ensures unchanged { OnErr result (buffered_events self.new ≡ buffered_events self.old) }
         ensures whole { OnErr result (is_whole self.new ≡ is_whole self.old) }
     {
-        self.held.make_room();
-        self.held.push_copy(alloc, event)?;
-        self.expects = next_expected(change, self.expects, &self.held);
-        Ok(())
+        match small_item(change, &event) {
+            Some(scalar) => self.wait(scalar),
+            None => self.hold_now(alloc, event, change),
+        }
     }
 
     // Buffers a string in UTF-16 that can follow the buffered events, given how it changes what is
@@ -164,6 +276,7 @@ impl EventBuffer {
         ensures unchanged { OnErr result (buffered_events self.new ≡ buffered_events self.old) }
         ensures whole { OnErr result (is_whole self.new ≡ is_whole self.old) }
     {
+        self.settle()?;
         self.held.make_room();
         self.held.copy_wide(alloc, text)?;
         self.expects = next_expected(change, self.expects, &self.held);
@@ -234,8 +347,9 @@ impl EventBuffer {
         self.expects.is_none()
     }
 
-    /// Returns the events.
+    /// Returns the events, which must be those of a whole property list.
     pub fn events(&self) -> &EventTable<'static>
+        requires { is_whole self.now ≡ true }
         ensures { plain_events result.now ≡ buffered_events self.now }
     {
         &self.held
@@ -247,6 +361,7 @@ impl EventBuffer {
         ensures whole { is_whole self.new ≡ false }
     {
         self.held.clear();
+        self.waiting.clear();
         self.expects = Some(Expect::OneValue);
     }
 }

@@ -6,6 +6,7 @@ ghost use Rattle.plist_base.specs.Events.{EndCollection, ScalarEvent, shape_of};
 ghost use Rattle.plist_base.specs.Outcomes.{OnlyMemory};
 ghost use Rattle.plist_buffer.specs.inner.Entries.{is_leaf, AreValidEntries};
 
+mod batches;
 mod copies;
 
 use crate::entries::{Entries, EventEntry, ScalarNumber};
@@ -63,7 +64,7 @@ impl<'e> EventTable<'e> {
     ghost use Rattle.plist_base.specs.Trees.{Data as DataScalar, Integer as IntegerScalar, String as StringScalar};
     ghost use Rattle.plist_buffer.specs.EventTable.{plain_event, plain_events, scalars_of, lists_in, event_at, GrowsBy, HasItem, IsScalarAt, LacksItem, table_event, entry_event};
     ghost use Rattle.plist_buffer.specs.inner.Columns.{scalar_named};
-    ghost use Rattle.plist_buffer.specs.inner.Entries.{entry_at, event_numbered, is_start, scalar_numbered, IsUnclosed};
+    ghost use Rattle.plist_buffer.specs.inner.Entries.{entry_at, event_numbered, is_start, scalar_numbered, IsUnclosed, KeepsScalars};
     ghost use Rattle.plist_buffer.specs.inner.Expected.{expected_inside, innermost};
     ghost use Rattle.plist_buffer.specs.inner.UnclosedStarts.{skip_after};
 
@@ -101,6 +102,7 @@ impl<'e> EventTable<'e> {
     #[inline(never)]
     fn reserve_scalars(&mut self)
         ensures events { plain_events self.new ≡ plain_events self.old }
+        ensures scalars { lists_in self.new ≡ lists_in self.old }
     {
         let held = self.count_scalars();
         if held >= self.expected {
@@ -128,6 +130,7 @@ impl<'e> EventTable<'e> {
     #[inline(always)]
     pub(crate) fn make_room(&mut self)
         ensures events { plain_events self.new ≡ plain_events self.old }
+        ensures scalars { lists_in self.new ≡ lists_in self.old }
     {
         if self.small.len() >= self.small_full_at || self.long.len() >= self.long_full_at {
             self.reserve_scalars();
@@ -290,6 +293,7 @@ impl<'e> EventTable<'e> {
     // allocation for its entry fails, a scalar that was stored by this call is removed again.
     fn push_small(&mut self, scalar: SmallScalar) -> Result<(), AllocError>
         ensures events { OnOk result (GrowsBy self.old (event_of_small scalar) self.new) }
+        ensures kept { OnOk result (KeepsScalars (lists_in self.old) (lists_in self.new)) }
         ensures unchanged { OnErr result (plain_events self.new ≡ plain_events self.old) }
     {
         let before = self.small.len();

@@ -16,6 +16,7 @@ pub mod repeated_keys;
 mod short;
 mod small_scalar;
 pub mod stored_scalar;
+mod waiting;
 pub mod wide;
 
 pub use event_table::EventTable;

@@ -4,7 +4,7 @@ ghost use Rattle.std.specs.Prelude.{◌≡◌, ◌<ℤ◌, pos, IfSome, None, le
 
 use crate::short::{ShortBytes, ShortText};
 use crate::stored_scalar::ScalarRef;
-use plist_base::{Date, Integer, RealBits, Uid};
+use plist_base::{Date, Event, Integer, RealBits, Uid};
 use std::hash::{Hash, Hasher};
 
 /// A negative integer.
@@ -39,7 +39,8 @@ pub enum SmallScalar {
 
 impl SmallScalar {
     ghost use Rattle.plist_base.specs.Trees.{Data as DataScalar, Integer as IntegerScalar, String as StringScalar};
-    ghost use Rattle.plist_buffer.specs.StoredScalars.{IsStored, scalar_of_ref, scalar_of_small};
+    ghost use Rattle.plist_base.specs.Events.{event_of};
+    ghost use Rattle.plist_buffer.specs.StoredScalars.{IsStored, event_of_small, scalar_of_ref, scalar_of_small};
     ghost use Rattle.std.specs.Prelude.{◌<◌};
 
     /// Stores an integer.
@@ -70,6 +71,25 @@ impl SmallScalar {
         ensures none { result ≡ None → 8 < length bytes.now }
     {
         Some(SmallScalar::Data(ShortBytes::new(bytes)?))
+    }
+
+    /// Stores the scalar of an event, or returns `None` if the event isn't a scalar, and if it is a
+    /// string or data of more than eight bytes. The function is inlined because most callers know
+    /// the kind of the event.
+    #[inline(always)]
+    pub fn of_event(event: &Event<'_>) -> Option<SmallScalar>
+        ensures { IfSome result (λ small. event_of_small small ≡ event_of event.now) }
+    {
+        match event {
+            Event::StartArray(_) | Event::StartDictionary(_) | Event::EndCollection => None,
+            Event::Boolean(value) => Some(SmallScalar::Boolean(*value)),
+            Event::Data(bytes) => SmallScalar::of_data(bytes.as_slice()),
+            Event::Date(date) => Some(SmallScalar::Date(*date)),
+            Event::Integer(value) => Some(SmallScalar::of_integer(*value)),
+            Event::Real(bits) => Some(SmallScalar::Real(*bits)),
+            Event::String(text) => SmallScalar::of_text(text.as_str()),
+            Event::Uid(uid) => Some(SmallScalar::Uid(*uid)),
+        }
     }
 
     /// Returns the scalar as a reference, which borrows its string or data.

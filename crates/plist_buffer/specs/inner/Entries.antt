@@ -1,5 +1,5 @@
 -- The entries in which events are buffered: the events that they represent, and their invariants.
-use Rattle.std.specs.Prelude.{◌≡◌, ℕ, ◌+◌, ◌<◌, ◌≤◌, ◌==◌, Bool, true, false, List, [], ◌∷◌, ◌++◌, length, slice_index_or, set, map, reverse, Option, None, Some, slice_get}
+use Rattle.std.specs.Prelude.{◌≡◌, ℕ, ◌+◌, ◌<◌, ◌≤◌, ◌==◌, Bool, true, false, List, [], ◌∷◌, ◌++◌, length, slice_index_or, set, map, reverse, Option, None, Some, IfSome, slice_get}
 use Rattle.std.specs.Option.{unwrap_or}
 use Rattle.std.specs.List.{list_any}
 use Rattle.plist_base.specs.Bracketing.{without_length}
@@ -33,6 +33,17 @@ all_scalars scalars = scalars.small ++ scalars.long
 abbrev pub scalar_numbered : ScalarLists → ScalarNumber → Option PlainEvent
 scalar_numbered scalars (Small index) = slice_get scalars.small index
 scalar_numbered scalars (Long index) = slice_get scalars.long index
+
+-- each scalar keeps its number
+abbrev pub KeepsScalars : (old new : ScalarLists) → Type 0
+KeepsScalars old new = (number : ScalarNumber) (e : PlainEvent)
+    → scalar_numbered old number ≡ Some e → scalar_numbered new number ≡ Some e
+
+-- if a number was found for one of these small scalars, it is its number
+abbrev pub AreFound : ScalarLists → List SmallScalar → (found : List (Option ℕ)) → Type 0
+AreFound scalars sought found = (k : ℕ) (x : SmallScalar) → k < length sought
+    → IfSome (slice_index_or found k None) (λ number. scalar_numbered scalars (Small number)
+    ≡ Some (event_of_small (slice_index_or sought k x)))
 
 -- the event of the scalar with a number, or an end if there is none
 abbrev pub event_numbered : ScalarLists → ScalarNumber → PlainEvent

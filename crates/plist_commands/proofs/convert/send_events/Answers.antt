@@ -2,10 +2,14 @@ use Rattle.std.proofs.Common.{inr, Ok, Err, refl, subst, sym, ◌∙◌, true≢
 use Rattle.std.proofs.lemmas.Result.{err_from_is_err_and}
 use Rattle.plist_base.specs.Faults.{fault_of}
 use Rattle.plist_buffer.specs.EventTable.{plain_events}
+use Rattle.plist_buffer.proofs.Expectations.{whole_of_tree}
 use Rattle.plist_commands.proofs.BufferedItems.{not_direct, sends_read}
 use Rattle.plist_binwrite.specs.SendingAs.{SendsAs}
 use Rattle.plist_binwrite.specs.Files.{least_files}
 use Rattle.plist_commands.proofs.convert.send_events.Goals as goal
+
+pub events-events-requires : goal.events-events-requires
+events-events-requires g c = whole_of_tree c.args.pending.now c.requires
 
 pub returns-then-branch-clause-converts : goal.returns-then-branch-clause-converts
 returns-then-branch-clause-converts g c = λ known held. record {

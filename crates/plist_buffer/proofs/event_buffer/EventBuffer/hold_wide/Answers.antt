@@ -1,21 +1,27 @@
+use Rattle.std.proofs.Common.{arith, ap, length}
 use Rattle.plist_base.specs.Events.{ScalarEvent}
 use Rattle.plist_base.specs.Trees.{String}
 use Rattle.plist_buffer.specs.WideStrings.{string_of_wide}
-use Rattle.plist_buffer.proofs.Expectations.{expects_next, tests_next}
+use Rattle.plist_buffer.proofs.BufferedEvents.{after_appending}
 use Rattle.plist_buffer.proofs.event_buffer.EventBuffer.hold_wide.Goals as goal
 
 pub invariant_of-self-2 : goal.invariant_of-self-2
-invariant_of-self-2 c = record {
-  wanted = expects_next c.args.self.now (ScalarEvent (String (string_of_wide c.args.text)))
-      c.requires.still c.requires.accepted
-      (rw c.make_room.ensures.events at c.in_ok-copy_wide.ensures.events) c.requires.change
-      c.next_expected-self.ensures;
-}
+invariant_of-self-2 c =
+    let settled = c.settle.ensures in
+    let next = after_appending c.args.self.now c.settle.new.self settled.events settled.expects
+    (ScalarEvent (String (string_of_wide c.args.text))) c.in_ok-settle.ensures.settled c.requires.still
+    c.requires.accepted (rw c.make_room.ensures.events at c.in_ok-copy_wide.ensures.events)
+    c.requires.change c.next_expected-self.ensures in
+    record {
+      wanted = next.expects;
+      items = λ more. absurd (omega (arith, more, ap length c.in_ok-settle.ensures.settled));
+    }
 
 pub returns-clause-taken : goal.returns-clause-taken
 returns-clause-taken c =
-    let more = rw c.make_room.ensures.events at c.in_ok-copy_wide.ensures.events in (
-      more,
-      tests_next c.args.self.now (ScalarEvent (String (string_of_wide c.args.text)))
-          c.requires.still c.requires.accepted more c.requires.change c.next_expected-self.ensures,
-    )
+    let settled = c.settle.ensures in
+    let next = after_appending c.args.self.now c.settle.new.self settled.events settled.expects
+    (ScalarEvent (String (string_of_wide c.args.text))) c.in_ok-settle.ensures.settled c.requires.still
+    c.requires.accepted (rw c.make_room.ensures.events at c.in_ok-copy_wide.ensures.events)
+    c.requires.change c.next_expected-self.ensures in
+    (next.more, next.whole)

@@ -34,3 +34,9 @@ returns-in-Ok-push-clause-events c =
     rw c.in-Ok-push.ensures.pushed
     (scalar_shown s.kept refl (grown_small s.small.keys _ s.long.keys c.args.scalar _ c.in-Ok.ensures.keys
     s.kept.apart c.in-Ok.ensures.unique c.in-Ok.index c.in-Ok.ensures.stored))
+
+pub returns-in-Ok-push-clause-kept : goal.returns-in-Ok-push-clause-kept
+returns-in-Ok-push-clause-kept c =
+    let s = c.args.self.now in
+    (grown_small s.small.keys _ s.long.keys c.args.scalar _ c.in-Ok.ensures.keys s.kept.apart
+    c.in-Ok.ensures.unique c.in-Ok.index c.in-Ok.ensures.stored).keeps

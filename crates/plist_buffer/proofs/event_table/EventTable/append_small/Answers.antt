@@ -1,0 +1,43 @@
+use Rattle.std.proofs.Common.{◌≡◌, ℕ, ◌+◌, ◌<◌, false, List, [], ◌∷◌, ◌++◌, length, take, Option, None, Some, IfSome, Result, Ok, Err, OnOk, slice_index_or, sym, ap, ◌∙◌, append_assoc}
+use Rattle.std.proofs.lemmas.List.{map-append, take_more}
+use Rattle.std.specs.Result.{is_err}
+use Rattle.plist_base.specs.Events.{PlainEvent}
+use Rattle.plist_buffer.specs.EventTable.{plain_events}
+use Rattle.plist_buffer.specs.StoredScalars.{event_of_small, events_of_small}
+use Rattle.plist_buffer.specs.declared.entries.ScalarNumber.TheVariants.{Small}
+use Rattle.plist_buffer.specs.declared.small_scalar.SmallScalar.{SmallScalar}
+use Rattle.plist_buffer.proofs.event_table.EventTable.append_small.Goals as goal
+
+on_ok : {T E : Type 0} (r : Result T E) {P : Type 0} → false ≡ is_err r → OnOk r P → P
+on_ok (Ok x) is h = h
+on_ok (Err e) is h = cc
+
+still_found : (found : Option ℕ) {P Q : ℕ → Type 0} → ((n : ℕ) → P n → Q n) → IfSome found P
+    → IfSome found Q
+still_found None keeps h = h
+still_found (Some n) keeps h = keeps n h
+
+-- after the first i scalars, the next one was appended
+one_more : (before : List PlainEvent) {now after : List PlainEvent} (xs : List SmallScalar) (i : ℕ)
+    (x : SmallScalar) → i < length xs → x ≡ slice_index_or xs i x
+    → now ≡ before ++ events_of_small (take i xs) → after ≡ now ++ event_of_small x ∷ []
+    → after ≡ before ++ events_of_small (take (i + 1) xs)
+one_more before xs i x lt is so_far grown =
+    grown ∙ ap (λ l. l ++ event_of_small x ∷ []) so_far
+    ∙ append_assoc before (events_of_small (take i xs)) (event_of_small x ∷ [])
+    ∙ ap (λ l. before ++ l) (sym (ap events_of_small (take_more xs i x lt
+    ∙ ap (λ y. take i xs ++ y ∷ []) (sym is))
+    ∙ map-append event_of_small (take i xs) (x ∷ [])))
+
+pub loop-index-preserved : goal.loop-index-preserved
+loop-index-preserved c =
+    let ok = c.if-is_err.ensures.value in
+    record {
+      events = one_more (plain_events c.args.self.now) c.args.scalars.now c.loop-index.index
+          c.index-scalars-index.result c.loop-index-test.true c.index-scalars-index.is
+          c.loop-index.invariant.events (on_ok c.push_found.result ok c.push_found.ensures.events);
+      found = λ k x lt.
+          still_found (slice_index_or c.find_each-found.result k None)
+          (λ number h. on_ok c.push_found.result ok c.push_found.ensures.kept (Small number) _ h)
+          (c.loop-index.invariant.found k x lt);
+    }

@@ -1,0 +1,90 @@
+//! Appends several small scalars to a table, which are looked up together.
+//!
+//! In a large table a look-up mostly waits for memory, but the processor waits only once for
+//! look-ups that follow one another at once.
+
+ghost use Rattle.std.specs.Prelude.{◌≡◌, ◌++◌, ◌≤◌, true, length, take, Some, IfSome, OnOk, OnErr};
+ghost use Rattle.plist_buffer.specs.StoredScalars.{event_of_small, events_of_small};
+
+use super::EventTable;
+use crate::entries::{EventEntry, ScalarNumber};
+use crate::small_scalar::SmallScalar;
+use std::alloc::AllocError;
+
+impl<'e> EventTable<'e> {
+    ghost use Rattle.plist_buffer.specs.EventTable.{plain_events, lists_in, GrowsBy};
+    ghost use Rattle.plist_buffer.specs.inner.Entries.{event_numbered, is_leaf, scalar_numbered, AreFound, KeepsScalars};
+
+    // Returns the index of a scalar among the small ones, or `None` if no equal one is stored.
+    #[inline(always)]
+    fn find_small(&self, scalar: &SmallScalar) -> Option<usize>
+        ensures { IfSome result (λ index. scalar_numbered (lists_in self.now)
+            (ScalarNumber.Small index) ≡ Some (event_of_small scalar.now)) }
+    {
+        self.small.get_index_of(scalar)
+    }
+
+    // Returns the index of each of at most sixteen scalars among the small ones, or `None` for those
+    // that aren't stored. The loop does nothing else, so that the look-ups wait for memory together.
+    #[inline(always)]
+    fn find_each(&self, scalars: &[SmallScalar]) -> [Option<usize>; 16]
+        requires { length scalars.now ≤ 16 }
+        ensures { AreFound (lists_in self.now) scalars.now result }
+    {
+        let mut found = [None; 16];
+        for index in 0..scalars.len() {
+            found[index] = self.find_small(&scalars[index]);
+        }
+        found
+    }
+
+    // Appends a small scalar that is already stored, given its index.
+    #[inline(always)]
+    fn repeat_small(&mut self, index: usize) -> Result<(), AllocError>
+        requires { is_leaf (event_numbered (lists_in self.old) (ScalarNumber.Small index)) ≡ true }
+        ensures events { OnOk result (GrowsBy self.old
+            (event_numbered (lists_in self.old) (ScalarNumber.Small index)) self.new) }
+        ensures scalars { lists_in self.new ≡ lists_in self.old }
+        ensures unchanged { OnErr result (plain_events self.new ≡ plain_events self.old) }
+    {
+        self.entries
+            .push(EventEntry::Scalar(ScalarNumber::Small(index)))?;
+        Ok(())
+    }
+
+    // Appends a small scalar, given its index, or `None` if none was found.
+    #[inline(always)]
+    fn push_found(&mut self, scalar: SmallScalar, found: Option<usize>) -> Result<(), AllocError>
+        requires { IfSome found (λ index. scalar_numbered (lists_in self.old)
+            (ScalarNumber.Small index) ≡ Some (event_of_small scalar)) }
+        ensures events { OnOk result (GrowsBy self.old (event_of_small scalar) self.new) }
+        ensures kept { OnOk result (KeepsScalars (lists_in self.old) (lists_in self.new)) }
+        ensures unchanged { OnErr result (plain_events self.new ≡ plain_events self.old) }
+    {
+        match found {
+            Some(index) => self.repeat_small(index),
+            None => {
+                self.make_room();
+                self.push_small(scalar)
+            }
+        }
+    }
+
+    // Appends small scalars, of which there are at most sixteen, and returns how many of them were
+    // appended: fewer than all only if an allocation failed. All are looked up first.
+    #[inline(never)]
+    pub(crate) fn append_small(&mut self, scalars: &[SmallScalar]) -> usize
+        requires { length scalars.now ≤ 16 }
+        ensures within { result ≤ length scalars.now }
+        ensures events { plain_events self.new
+            ≡ plain_events self.old ++ events_of_small (take result scalars.now) }
+    {
+        let found = self.find_each(scalars);
+        for index in 0..scalars.len() {
+            if self.push_found(scalars[index], found[index]).is_err() {
+                return index;
+            }
+        }
+        scalars.len()
+    }
+}
