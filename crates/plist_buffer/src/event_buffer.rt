@@ -2,8 +2,9 @@
 //!
 //! The table of events stores each different scalar once, so that each scalar is looked up. In a
 //! large table a look-up mostly waits for memory, but the processor waits only once for look-ups
-//! that follow one another at once. So the small scalars of an array wait in the buffer until there
-//! are sixteen of them, and are then looked up together.
+//! that follow one another at once. So the items of an array that are neither collections, nor
+//! strings, nor data wait in the buffer until there are sixteen of them, and are then looked up
+//! together. Most strings and data are too long for that.
 
 ghost use Rattle.std.proofs.Props.{props};
 ghost use Rattle.std.specs.Prelude.{◌≡◌, ◌<◌, ◌++◌, ℕ, List, Some, length, IfSome};
@@ -53,8 +54,8 @@ impl From<AllocError> for PushError {
 /// The buffered events of the open property list. Once they are those of a whole property list, no
 /// event can be added until they are cleared.
 ///
-/// The last events, if they are small items of an array, may wait to be appended to the table. They
-/// are appended together, because their look-ups then wait for memory together.
+/// The last events, if they are items of an array that have a fixed size, may wait to be appended to
+/// the table. They are appended together, because their look-ups then wait for memory together.
 #[derive(Drop)]
 pub struct EventBuffer {
     held: EventTable<'static>,
@@ -83,15 +84,15 @@ fn change_by_string(expects: Option<Expect>) -> Transition
     change_on(expects, &Event::String(CowStr::Borrowed("")))
 }
 
-// Returns the scalar of an event that is a small item of an array, given how the event changes what
-// is expected next.
+// Returns the scalar of an event that is an item of an array and has a fixed size, given how the
+// event changes what is expected next.
 #[inline(always)]
-fn small_item(change: Transition, event: &Event<'_>) -> Option<SmallScalar>
+fn fixed_item(change: Transition, event: &Event<'_>) -> Option<SmallScalar>
     ensures kept { IfSome result (λ _. change ≡ Kept) }
     ensures scalar { IfSome result (λ small. event_of_small small ≡ event_of event.now) }
 {
     match change {
-        Transition::Kept => SmallScalar::of_event(event),
+        Transition::Kept => SmallScalar::of_fixed_size(event),
         Transition::Refused
         | Transition::Closed
         | Transition::Pushed(_)
@@ -100,6 +101,7 @@ fn small_item(change: Transition, event: &Event<'_>) -> Option<SmallScalar>
 }
 
 // Returns what is expected next. The event that made this change is already in `held`.
+#[inline(always)]
 fn next_expected(
     change: Transition,
     expects: Option<Expect>,
@@ -201,7 +203,7 @@ impl EventBuffer {
         Ok(())
     }
 
-    // Buffers a small item of an array, which waits.
+    // Buffers an item of an array that has a fixed size. It waits.
     #[inline(always)]
     fn wait(&mut self, scalar: SmallScalar) -> Result<(), AllocError>
         requires { self.old.expects ≡ Some Items }
@@ -253,7 +255,7 @@ impl EventBuffer {
         ensures unchanged { OnErr result (buffered_events self.new ≡ buffered_events self.old) }
         ensures whole { OnErr result (is_whole self.new ≡ is_whole self.old) }
     {
-        match small_item(change, &event) {
+        match fixed_item(change, &event) {
             Some(scalar) => self.wait(scalar),
             None => self.hold_now(alloc, event, change),
         }

@@ -74,20 +74,22 @@ impl SmallScalar {
     }
 
     /// Stores the scalar of an event, or returns `None` if the event isn't a scalar, and if it is a
-    /// string or data of more than eight bytes. The function is inlined because most callers know
+    /// string or data, which have no fixed size. The function is inlined because most callers know
     /// the kind of the event.
     #[inline(always)]
-    pub fn of_event(event: &Event<'_>) -> Option<SmallScalar>
+    pub fn of_fixed_size(event: &Event<'_>) -> Option<SmallScalar>
         ensures { IfSome result (λ small. event_of_small small ≡ event_of event.now) }
     {
         match event {
-            Event::StartArray(_) | Event::StartDictionary(_) | Event::EndCollection => None,
+            Event::StartArray(_)
+            | Event::StartDictionary(_)
+            | Event::EndCollection
+            | Event::Data(_)
+            | Event::String(_) => None,
             Event::Boolean(value) => Some(SmallScalar::Boolean(*value)),
-            Event::Data(bytes) => SmallScalar::of_data(bytes.as_slice()),
             Event::Date(date) => Some(SmallScalar::Date(*date)),
             Event::Integer(value) => Some(SmallScalar::of_integer(*value)),
             Event::Real(bits) => Some(SmallScalar::Real(*bits)),
-            Event::String(text) => SmallScalar::of_text(text.as_str()),
             Event::Uid(uid) => Some(SmallScalar::Uid(*uid)),
         }
     }
