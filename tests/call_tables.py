@@ -94,6 +94,10 @@ PAIRS_FILE = file_of("d201020301 5161 5162 a104 5178 080d0f1113", 5, 21)
 # an array and a dictionary, each of them twice
 TWICE = "[ { 'k' [ 'x' end end [ 'x' end { 'k' [ 'x' end end end"
 TWICE_FILE = file_of("a3010201 d10302 516b a104 5178 080c110f13", 5, 21)
+# more numbers than wait to be looked up together, and one of them again
+NUMBERS = " ".join(["[", *map(str, range(20)), "0", "end"])
+NUMBERS_FILE = file_of("af1015" + bytes([*range(1, 21), 1]).hex() + "".join(f"10{i:02x}" for i in range(20))
+                       + "08" + bytes(range(32, 72, 2)).hex(), 21, 72)
 ROOT = "{ '$objects' [ '$null' { 'name' uid:2 end 'x' end '$top' { 'root' uid:1 end end"
 TRUE_FILE = file_of("0908", 1, 9)
 
@@ -160,22 +164,21 @@ def writers(calls):
         wants = {f"{answers}| {FAILED}" for answers in failures(count)}
         calls.sweep("Builder", words, "ok; " * count + "| " + built, wants, stops=True)
     # the file of an earlier property list precedes that of these events
-    count = len(PAIRS.split(" "))
-    wants = {f"{answers}\nok | {TRUE_FILE.hex()}" for answers in failures(count)}
-    both = (TRUE_FILE + PAIRS_FILE).hex()
-    calls.sweep("BinaryWriter", PAIRS, "ok; " * count + f"\nok | {both}", wants, stops=True)
-    for words, file in ((PAIRS, PAIRS_FILE), (TWICE, TWICE_FILE)):
+    both = [("BinaryWriter", PAIRS, PAIRS_FILE), ("BinaryWriter", NUMBERS, NUMBERS_FILE),
+            ("SharingWriter", PAIRS, PAIRS_FILE), ("SharingWriter", NUMBERS, NUMBERS_FILE),
+            ("SharingWriter", TWICE, TWICE_FILE)]
+    for name, words, file in both:
         count = len(words.split(" "))
         wants = {f"{answers}\nok | {TRUE_FILE.hex()}" for answers in failures(count)}
-        both = (TRUE_FILE + file).hex()
-        calls.sweep("SharingWriter", words, "ok; " * count + f"\nok | {both}", wants, stops=True)
+        sent = (TRUE_FILE + file).hex()
+        calls.sweep(name, words, "ok; " * count + f"\nok | {sent}", wants, stops=True)
 
 
 def buffers(calls):
     # an event takes five bytes, in lists that grow by doubling; a wrong hint costs no more than the
     # memory of a thousand scalars
     calls.within("EventBuffer", " ".join(["[", *["true"] * 999]), "held", 12 * 1000)
-    calls.within("EventBuffer with a wrong hint", "[ true", "held", 100 * 1000)
+    calls.within("EventBuffer with a wrong hint", "[ true [", "held", 100 * 1000)
 
 
 def values(calls):
@@ -347,7 +350,7 @@ def still_writers(calls):
         calls.still(f"refused by {name}", "true | end", refusal(place, end))
         # a scalar that equals a stored one isn't copied, and the memory of an earlier list is reused
         calls.still(f"taken by {name}", "[ 'x' 'x' 'x' 'x' | 'x'", "ok; ")
-        calls.still(f"taken by {name}", "[ 'x' 'y' end | [ 1 2", "ok; ok; ok; ")
+        calls.still(f"taken by {name}", "[ [ 'x' 'y' end end | [ 1 2 [", "ok; " * 4)
     behind = "".join(f"ExpectedEndOfEventStream {{ found: {kind} }}; "
                      for kind in ("String", "StartArray", end))
     calls.still("refused by a Builder", "'a' | 'b' [ end", behind)

@@ -70,8 +70,8 @@ fn hand_date<V: EventVisitor>(content: u64, visitor: &mut V) -> Result<ControlFl
     }
 }
 
-// Hands over a string that isn't small, or returns a fault if the bytes aren't UTF-8. They needn't
-// be ASCII.
+// Hands over a string that isn't small and needn't be ASCII, or returns a fault if the bytes aren't
+// UTF-8. It isn't inlined, since most strings are ASCII.
 #[inline(never)]
 fn hand_utf8<V: EventVisitor>(bytes: &[u8], visitor: &mut V) -> Result<ControlFlow<()>, StepFault>
     requires { IsLongBytes KindText bytes.now }
@@ -87,8 +87,8 @@ fn hand_utf8<V: EventVisitor>(bytes: &[u8], visitor: &mut V) -> Result<ControlFl
 // Hands over a string that isn't small, or returns a fault if the bytes aren't UTF-8.
 //
 // ASCII is tested first because most strings are ASCII, and this test takes a fraction of the time
-// of the test for UTF-8. A string in ASCII is handed over by a call of its own: if the string were
-// the result of both tests, it would be stored in memory in between, which takes longer.
+// of the test for UTF-8. ASCII is handed over by a call of its own: a string that may be the result
+// of either test would be stored in memory first.
 #[inline(always)]
 fn hand_text<V: EventVisitor>(bytes: &[u8], visitor: &mut V) -> Result<ControlFlow<()>, StepFault>
     requires { IsLongBytes KindText bytes.now }

@@ -19,7 +19,8 @@ use Rattle.plist_buffer.proofs.Expectations.{can_take, expects_next, tests_next}
 
 -- the first k of the scalars that waited were appended to the table, and the others still wait
 pub still_buffered : {waiting slice left : List SmallScalar} (before : List PlainEvent)
-    {after : List PlainEvent} (k : ℕ) → slice ≡ waiting → after ≡ before ++ events_of_small (take k slice) → left ≡ drop k waiting
+    {after : List PlainEvent} (k : ℕ) → slice ≡ waiting
+    → after ≡ before ++ events_of_small (take k slice) → left ≡ drop k waiting
     → after ++ events_of_small left ≡ before ++ events_of_small waiting
 still_buffered {waiting} {slice} {left} before {after} k same grown rest =
     let first = events_of_small (take k waiting) in

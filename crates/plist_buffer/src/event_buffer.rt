@@ -1,10 +1,8 @@
 //! The buffer of the open property list's events, and what is expected next.
 //!
-//! The table of events stores each different scalar once, so that each scalar is looked up. In a
-//! large table a look-up mostly waits for memory, but the processor waits only once for look-ups
-//! that follow one another at once. So the items of an array that are neither collections, nor
-//! strings, nor data wait in the buffer until there are sixteen of them, and are then looked up
-//! together. Most strings and data are too long for that.
+//! Some items of an array wait until there are sixteen and another one follows, or until another event
+//! follows. Then they are looked up together, which `event_table::batches` explains. Strings and data
+//! don't wait, since most of them are too long for a small scalar.
 
 ghost use Rattle.std.proofs.Props.{props};
 ghost use Rattle.std.specs.Prelude.{◌≡◌, ◌<◌, ◌++◌, ℕ, List, Some, length, IfSome};
@@ -54,8 +52,8 @@ impl From<AllocError> for PushError {
 /// The buffered events of the open property list. Once they are those of a whole property list, no
 /// event can be added until they are cleared.
 ///
-/// The last events, if they are items of an array that have a fixed size, may wait to be appended to
-/// the table. They are appended together, because their look-ups then wait for memory together.
+/// The last events may wait to be appended to the table, if they are items of an array and neither
+/// collections, nor strings, nor data.
 #[derive(Drop)]
 pub struct EventBuffer {
     held: EventTable<'static>,
@@ -84,11 +82,11 @@ fn change_by_string(expects: Option<Expect>) -> Transition
     change_on(expects, &Event::String(CowStr::Borrowed("")))
 }
 
-// Returns the scalar of an event that is an item of an array and has a fixed size, given how the
-// event changes what is expected next.
+// Returns the scalar of an event if it is an item of an array and neither a string nor data, given
+// how the event changes what is expected next.
 #[inline(always)]
 fn fixed_item(change: Transition, event: &Event<'_>) -> Option<SmallScalar>
-    ensures kept { IfSome result (λ _. change ≡ Kept) }
+    ensures change { IfSome result (λ _. change ≡ Kept) }
     ensures scalar { IfSome result (λ small. event_of_small small ≡ event_of event.now) }
 {
     match change {
@@ -153,6 +151,7 @@ impl EventBuffer {
     fn error_of_kind(&self, found: EventKind) -> PushError
         ensures { result ≡ misplaced_error (buffered_events self.now) found }
     {
+        // While scalars wait, an array is open, so the second test serves only the proof.
         let expected = if self.held.len() == 0 && self.waiting.is_empty() {
             EventKind::ValueOrStartCollection
         } else {
@@ -179,7 +178,7 @@ impl EventBuffer {
 
     // Appends the scalars that wait, if any, to the table.
     #[inline(always)]
-    fn settle(&mut self) -> Result<(), AllocError>
+    fn append_if_any(&mut self) -> Result<(), AllocError>
         ensures events { buffered_events self.new ≡ buffered_events self.old }
         ensures expects { self.new.expects ≡ self.old.expects }
         ensures settled { OnOk result (self.new.waiting ≡ []) }
@@ -192,10 +191,10 @@ impl EventBuffer {
 
     // Appends the scalars that wait if there are sixteen, so that another one can wait.
     #[inline(always)]
-    fn make_place(&mut self) -> Result<(), AllocError>
+    fn append_if_full(&mut self) -> Result<(), AllocError>
         ensures events { buffered_events self.new ≡ buffered_events self.old }
         ensures expects { self.new.expects ≡ self.old.expects }
-        ensures place { OnOk result (length self.new.waiting < 16) }
+        ensures below { OnOk result (length self.new.waiting < 16) }
     {
         if self.waiting.is_full() {
             return self.append_waiting();
@@ -203,15 +202,15 @@ impl EventBuffer {
         Ok(())
     }
 
-    // Buffers an item of an array that has a fixed size. It waits.
+    // Buffers an item of an array, given its scalar. The item waits.
     #[inline(always)]
-    fn wait(&mut self, scalar: SmallScalar) -> Result<(), AllocError>
+    fn add_waiting(&mut self, scalar: SmallScalar) -> Result<(), AllocError>
         requires { self.old.expects ≡ Some Items }
         ensures taken { OnOk result (BuffersNext self.old (event_of_small scalar) self.new) }
         ensures unchanged { OnErr result (buffered_events self.new ≡ buffered_events self.old) }
         ensures whole { OnErr result (is_whole self.new ≡ is_whole self.old) }
     {
-        self.make_place()?;
+        self.append_if_full()?;
         self.waiting.push(scalar);
         Ok(())
     }
@@ -219,7 +218,7 @@ impl EventBuffer {
     // Appends an event that can follow the buffered ones to the table, given how it changes what is
     // expected next.
     #[inline(always)]
-    fn hold_now(
+    fn append_now(
         &mut self,
         alloc: Global,
         event: Event<'_>,
@@ -232,7 +231,7 @@ impl EventBuffer {
         ensures unchanged { OnErr result (buffered_events self.new ≡ buffered_events self.old) }
         ensures whole { OnErr result (is_whole self.new ≡ is_whole self.old) }
     {
-        self.settle()?;
+        self.append_if_any()?;
         self.held.make_room();
         self.held.push_copy(alloc, event)?;
         self.expects = next_expected(change, self.expects, &self.held);
@@ -256,8 +255,8 @@ impl EventBuffer {
         ensures whole { OnErr result (is_whole self.new ≡ is_whole self.old) }
     {
         match fixed_item(change, &event) {
-            Some(scalar) => self.wait(scalar),
-            None => self.hold_now(alloc, event, change),
+            Some(scalar) => self.add_waiting(scalar),
+            None => self.append_now(alloc, event, change),
         }
     }
 
@@ -278,7 +277,7 @@ impl EventBuffer {
         ensures unchanged { OnErr result (buffered_events self.new ≡ buffered_events self.old) }
         ensures whole { OnErr result (is_whole self.new ≡ is_whole self.old) }
     {
-        self.settle()?;
+        self.append_if_any()?;
         self.held.make_room();
         self.held.copy_wide(alloc, text)?;
         self.expects = next_expected(change, self.expects, &self.held);
@@ -322,7 +321,8 @@ impl EventBuffer {
     /// # Errors
     ///
     /// `Misplaced` if the event can't follow the buffered ones, and `OutOfMemory` if it can, but an
-    /// allocation fails. The buffered events are unchanged after either error.
+    /// allocation fails, which may be one for an earlier item of the same array. The buffered events
+    /// are unchanged after either error.
     #[inline(always)]
     pub fn try_push(&mut self, alloc: Global, event: Event<'_>) -> Result<(), PushError>
         requires still { is_whole self.old ≡ false }

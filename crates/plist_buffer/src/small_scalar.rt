@@ -73,9 +73,9 @@ impl SmallScalar {
         Some(SmallScalar::Data(ShortBytes::new(bytes)?))
     }
 
-    /// Stores the scalar of an event, or returns `None` if the event isn't a scalar, and if it is a
-    /// string or data, which have no fixed size. The function is inlined because most callers know
-    /// the kind of the event.
+    /// Stores the scalar of an event. Returns `None` if the event isn't a scalar, or is a string or
+    /// data, whose size varies. The function is inlined because most callers of
+    /// `EventBuffer::try_push` know the kind of the event.
     #[inline(always)]
     pub fn of_fixed_size(event: &Event<'_>) -> Option<SmallScalar>
         ensures { IfSome result (λ small. event_of_small small ≡ event_of event.now) }

@@ -47,7 +47,7 @@ impl WaitingScalars {
     #[inline(always)]
     pub fn is_full(&self) -> bool
         ensures value { result ≡ (length self.now == 16) }
-        ensures fits { length self.now ≤ 16 }
+        ensures bound { length self.now ≤ 16 }
     {
         self.count == 16
     }
@@ -55,7 +55,7 @@ impl WaitingScalars {
     /// Returns the scalars.
     pub fn as_slice(&self) -> &[SmallScalar]
         ensures scalars { result.now ≡ self.now }
-        ensures fits { length result.now ≤ 16 }
+        ensures bound { length result.now ≤ 16 }
     {
         &self.scalars[..self.count]
     }

@@ -21,4 +21,4 @@ pub mod packed;
 pub mod step_fault;
 mod trailer;
 pub mod utf16;
-pub mod utf8;
+mod utf8;

@@ -19,7 +19,7 @@ fn utf8_text_in(bytes: &[u8]) -> Option<&str>
 
 /// Returns the string in the first `size` of eight bytes, or `None` if they aren't UTF-8.
 #[inline(always)]
-pub fn short_text_in(bytes: &[u8; 8], size: usize) -> Option<&str>
+pub(crate) fn short_text_in(bytes: &[u8; 8], size: usize) -> Option<&str>
     requires { size ≤ 8 }
     ensures { MatchOption result (IsUtf8 (take size bytes.now) → ⊥)
         (λ text. (text.now ≡ take size bytes.now) × IsUtf8 (take size bytes.now)) }

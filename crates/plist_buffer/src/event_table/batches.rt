@@ -70,8 +70,8 @@ impl<'e> EventTable<'e> {
         }
     }
 
-    // Appends small scalars, of which there are at most sixteen, and returns how many of them were
-    // appended: fewer than all only if an allocation failed. All are looked up first.
+    // Looks up at most sixteen small scalars, and then appends them. Returns the number of those that
+    // were appended, which is less than all only if an allocation failed.
     #[inline(never)]
     pub(crate) fn append_small(&mut self, scalars: &[SmallScalar]) -> usize
         requires { length scalars.now ≤ 16 }

@@ -1,5 +1,6 @@
-use Rattle.std.proofs.Common.{◌≡◌, ℕ, ◌+◌, ◌<◌, false, List, [], ◌∷◌, ◌++◌, length, take, Option, None, Some, IfSome, Result, Ok, Err, OnOk, slice_index_or, sym, ap, ◌∙◌, append_assoc}
+use Rattle.std.proofs.Common.{◌≡◌, ℕ, ◌+◌, ◌<◌, false, List, [], ◌∷◌, ◌++◌, length, take, None, Result, Ok, Err, OnOk, slice_index_or, sym, ap, ◌∙◌, append_assoc}
 use Rattle.std.proofs.lemmas.List.{map-append, take_more}
+use Rattle.std.proofs.lemmas.Option.{IfSome_then}
 use Rattle.std.specs.Result.{is_err}
 use Rattle.plist_base.specs.Events.{PlainEvent}
 use Rattle.plist_buffer.specs.EventTable.{plain_events}
@@ -11,11 +12,6 @@ use Rattle.plist_buffer.proofs.event_table.EventTable.append_small.Goals as goal
 on_ok : {T E : Type 0} (r : Result T E) {P : Type 0} → false ≡ is_err r → OnOk r P → P
 on_ok (Ok x) is h = h
 on_ok (Err e) is h = cc
-
-still_found : (found : Option ℕ) {P Q : ℕ → Type 0} → ((n : ℕ) → P n → Q n) → IfSome found P
-    → IfSome found Q
-still_found None keeps h = h
-still_found (Some n) keeps h = keeps n h
 
 -- after the first i scalars, the next one was appended
 one_more : (before : List PlainEvent) {now after : List PlainEvent} (xs : List SmallScalar) (i : ℕ)
@@ -37,7 +33,7 @@ loop-index-preserved c =
           c.index-scalars-index.result c.loop-index-test.true c.index-scalars-index.is
           c.loop-index.invariant.events (on_ok c.push_found.result ok c.push_found.ensures.events);
       found = λ k x lt.
-          still_found (slice_index_or c.find_each-found.result k None)
-          (λ number h. on_ok c.push_found.result ok c.push_found.ensures.kept (Small number) _ h)
-          (c.loop-index.invariant.found k x lt);
+          IfSome_then (slice_index_or c.find_each-found.result k None)
+          (c.loop-index.invariant.found k x lt)
+          (λ number h. on_ok c.push_found.result ok c.push_found.ensures.kept (Small number) _ h);
     }

@@ -1,25 +1,25 @@
 use Rattle.std.proofs.Common.{arith, ap, length}
 use Rattle.plist_base.specs.Events.{event_of}
 use Rattle.plist_buffer.proofs.BufferedEvents.{after_appending}
-use Rattle.plist_buffer.proofs.event_buffer.EventBuffer.hold_now.Goals as goal
+use Rattle.plist_buffer.proofs.event_buffer.EventBuffer.append_now.Goals as goal
 
 pub invariant_of-self-2 : goal.invariant_of-self-2
 invariant_of-self-2 c =
-    let settled = c.settle.ensures in
-    let next = after_appending c.args.self.now c.settle.new.self settled.events settled.expects
-    (event_of c.args.event) c.in_ok-settle.ensures.settled c.requires.still
+    let settled = c.append_if_any.ensures in
+    let next = after_appending c.args.self.now c.append_if_any.new.self settled.events settled.expects
+    (event_of c.args.event) c.in_ok-append_if_any.ensures.settled c.requires.still
     c.requires.accepted (rw c.make_room.ensures.events at c.in_ok-push_copy.ensures.events)
     c.requires.change c.next_expected-self.ensures in
     record {
       wanted = next.expects;
-      items = λ more. absurd (omega (arith, more, ap length c.in_ok-settle.ensures.settled));
+      items = λ more. absurd (omega (arith, more, ap length c.in_ok-append_if_any.ensures.settled));
     }
 
 pub returns-clause-taken : goal.returns-clause-taken
 returns-clause-taken c =
-    let settled = c.settle.ensures in
-    let next = after_appending c.args.self.now c.settle.new.self settled.events settled.expects
-    (event_of c.args.event) c.in_ok-settle.ensures.settled c.requires.still
+    let settled = c.append_if_any.ensures in
+    let next = after_appending c.args.self.now c.append_if_any.new.self settled.events settled.expects
+    (event_of c.args.event) c.in_ok-append_if_any.ensures.settled c.requires.still
     c.requires.accepted (rw c.make_room.ensures.events at c.in_ok-push_copy.ensures.events)
     c.requires.change c.next_expected-self.ensures in
     (next.more, next.whole)
