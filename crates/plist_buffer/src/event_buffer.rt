@@ -1,8 +1,8 @@
 //! The buffer of the open property list's events, and what is expected next.
 //!
-//! Some items of an array wait until there are sixteen and another one follows, or until another event
-//! follows. Then they are looked up together, which `event_table::batches` explains. Strings and data
-//! don't wait, since most of them are too long for a small scalar.
+//! Some items of an array wait until there are sixteen and another one follows, or until another
+//! event follows. Then they are looked up together, which `event_table::batches` explains. Strings
+//! and data don't wait, since most of them are too long for a small scalar.
 
 ghost use Rattle.std.proofs.Props.{props};
 ghost use Rattle.std.specs.Prelude.{◌≡◌, ◌<◌, ◌++◌, ℕ, List, Some, length, IfSome};
@@ -321,8 +321,8 @@ impl EventBuffer {
     /// # Errors
     ///
     /// `Misplaced` if the event can't follow the buffered ones, and `OutOfMemory` if it can, but an
-    /// allocation fails, which may be one for an earlier item of the same array. The buffered events
-    /// are unchanged after either error.
+    /// allocation fails, which may be one for an earlier item of the same array. The buffered
+    /// events are unchanged after either error.
     #[inline(always)]
     pub fn try_push(&mut self, alloc: Global, event: Event<'_>) -> Result<(), PushError>
         requires still { is_whole self.old ≡ false }

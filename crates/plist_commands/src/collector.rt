@@ -176,8 +176,8 @@ impl EventVisitor for Collector {
         }
     }
 
-    // Borrowed and owned contents are passed on by separate calls, in each of which the compiler knows
-    // the kind. Otherwise the event would be copied through memory on its way to the buffer.
+    // Borrowed and owned contents are passed on by separate calls, in each of which the compiler
+    // knows the kind. Otherwise the event would be copied through memory on its way to the buffer.
     fn data(&mut self, bytes: CowSlice<'_, u8>) -> ControlFlow<()> {
         match bytes {
             CowSlice::Borrowed(borrowed) => self.event(Event::Data(CowSlice::Borrowed(borrowed))),

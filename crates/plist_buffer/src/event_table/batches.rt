@@ -24,8 +24,9 @@ impl<'e> EventTable<'e> {
         self.small.get_index_of(scalar)
     }
 
-    // Returns the index of each of at most sixteen scalars among the small ones, or `None` for those
-    // that aren't stored. The loop does nothing else, so that the look-ups wait for memory together.
+    // Returns the index of each of at most sixteen scalars among the small ones, or `None` for
+    // those that aren't stored. The loop does nothing else, so that the look-ups wait for memory
+    // together.
     #[inline(always)]
     fn find_each(&self, scalars: &[SmallScalar]) -> [Option<usize>; 16]
         requires { length scalars.now ≤ 16 }
@@ -70,8 +71,8 @@ impl<'e> EventTable<'e> {
         }
     }
 
-    // Looks up at most sixteen small scalars, and then appends them. Returns the number of those that
-    // were appended, which is less than all only if an allocation failed.
+    // Looks up at most sixteen small scalars, and then appends them. Returns the number of those
+    // that were appended, which is less than all only if an allocation failed.
     #[inline(never)]
     pub(crate) fn append_small(&mut self, scalars: &[SmallScalar]) -> usize
         requires { length scalars.now ≤ 16 }
