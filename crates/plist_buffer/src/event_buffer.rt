@@ -215,29 +215,6 @@ impl EventBuffer {
         Ok(())
     }
 
-    // Appends an event that can follow the buffered ones to the table, given how it changes what is
-    // expected next.
-    #[inline(always)]
-    fn append_now(
-        &mut self,
-        alloc: Global,
-        event: Event<'_>,
-        change: Transition,
-    ) -> Result<(), AllocError>
-        requires still { is_whole self.old ≡ false }
-        requires accepted { CanTake self.old (event_of event) }
-        requires change { change ≡ change_on self.old.expects (event_of event) }
-        ensures taken { OnOk result (BuffersNext self.old (event_of event.entry) self.new) }
-        ensures unchanged { OnErr result (buffered_events self.new ≡ buffered_events self.old) }
-        ensures whole { OnErr result (is_whole self.new ≡ is_whole self.old) }
-    {
-        self.append_if_any()?;
-        self.held.make_room();
-        self.held.push_copy(alloc, event)?;
-        self.expects = next_expected(change, self.expects, &self.held);
-        Ok(())
-    }
-
     // Buffers an event that can follow the buffered ones, given how it changes what is expected
     // next.
     #[inline(always)]
@@ -254,10 +231,14 @@ impl EventBuffer {
         ensures unchanged { OnErr result (buffered_events self.new ≡ buffered_events self.old) }
         ensures whole { OnErr result (is_whole self.new ≡ is_whole self.old) }
     {
-        match fixed_item(change, &event) {
-            Some(scalar) => self.add_waiting(scalar),
-            None => self.append_now(alloc, event, change),
+        if let Some(scalar) = fixed_item(change, &event) {
+            return self.add_waiting(scalar);
         }
+        self.append_if_any()?;
+        self.held.make_room();
+        self.held.push_copy(alloc, event)?;
+        self.expects = next_expected(change, self.expects, &self.held);
+        Ok(())
     }
 
     // Buffers a string in UTF-16 that can follow the buffered events, given how it changes what is
