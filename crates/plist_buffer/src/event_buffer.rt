@@ -17,7 +17,7 @@ ghost use Rattle.plist_buffer.specs.inner.Expected.{ExpectsNext, change_on, expe
 use crate::event_table::EventTable;
 use crate::expects::{Expect, Transition};
 use crate::small_scalar::SmallScalar;
-use crate::waiting::WaitingScalars;
+use crate::waiting::{BATCH_SIZE, WaitingScalars};
 use crate::wide::WideStr;
 use plist_base::{Event, EventKind, Utf16Str};
 use std::alloc::{AllocError, Global};
@@ -189,12 +189,12 @@ impl EventBuffer {
         self.append_waiting()
     }
 
-    // Appends the scalars that wait if there are sixteen, so that another one can wait.
+    // Appends the scalars that wait if there are `BATCH_SIZE`, so that another one can wait.
     #[inline(always)]
     fn append_if_full(&mut self) -> Result<(), AllocError>
         ensures events { buffered_events self.new ≡ buffered_events self.old }
         ensures expects { self.new.expects ≡ self.old.expects }
-        ensures below { OnOk result (length self.new.waiting < 16) }
+        ensures below { OnOk result (length self.new.waiting < BATCH_SIZE) }
     {
         if self.waiting.is_full() {
             return self.append_waiting();

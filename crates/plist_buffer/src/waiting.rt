@@ -5,23 +5,28 @@ ghost use Rattle.std.specs.Prelude.{◌≡◌, ◌==◌, ◌<◌, ◌≤◌, ◌
 use crate::small_scalar::SmallScalar;
 use std::marker::Model;
 
-/// At most sixteen small scalars, which lie in the value itself.
+/// The maximum number of small scalars that wait. They are looked up together.
+pub(crate) const BATCH_SIZE: usize = 16;
+
+/// At most [`BATCH_SIZE`] small scalars, which lie in the value itself.
 #[derive(Drop)]
 pub struct WaitingScalars {
     // The first `count` of these wait.
-    scalars: [SmallScalar; 16],
+    scalars: [SmallScalar; BATCH_SIZE],
     count: usize,
 }
 
 impl Model for WaitingScalars {
     ghost use Rattle.std.specs.Prelude.{◌≡◌, ◌≤◌, List, length, take};
     ghost use Rattle.plist_buffer.specs.declared.small_scalar.SmallScalar.{SmallScalar};
+    ghost use Rattle.plist_buffer.specs.declared.waiting.TheConstants.{BATCH_SIZE};
 
     ghost Value = { List SmallScalar };
 
     ghost view = { λ waiting. take waiting.count waiting.scalars };
 
-    ghost invariant = { λ waiting. (waiting.count ≤ 16) × (length waiting.scalars ≡ 16) };
+    ghost invariant = { λ waiting. (waiting.count ≤ BATCH_SIZE)
+        × (length waiting.scalars ≡ BATCH_SIZE) };
 }
 
 impl WaitingScalars {
@@ -30,7 +35,7 @@ impl WaitingScalars {
         ensures { result ≡ [] }
     {
         WaitingScalars {
-            scalars: [SmallScalar::Boolean(false); 16],
+            scalars: [SmallScalar::Boolean(false); BATCH_SIZE],
             count: 0,
         }
     }
@@ -43,19 +48,19 @@ impl WaitingScalars {
         self.count == 0
     }
 
-    /// Returns whether sixteen scalars wait.
+    /// Returns whether [`BATCH_SIZE`] scalars wait.
     #[inline(always)]
     pub fn is_full(&self) -> bool
-        ensures value { result ≡ (length self.now == 16) }
-        ensures bound { length self.now ≤ 16 }
+        ensures value { result ≡ (length self.now == BATCH_SIZE) }
+        ensures bound { length self.now ≤ BATCH_SIZE }
     {
-        self.count == 16
+        self.count == BATCH_SIZE
     }
 
     /// Returns the scalars.
     pub fn as_slice(&self) -> &[SmallScalar]
         ensures scalars { result.now ≡ self.now }
-        ensures bound { length result.now ≤ 16 }
+        ensures bound { length result.now ≤ BATCH_SIZE }
     {
         &self.scalars[..self.count]
     }
@@ -63,7 +68,7 @@ impl WaitingScalars {
     /// Appends a scalar. There must be room for it.
     #[inline(always)]
     pub fn push(&mut self, scalar: SmallScalar)
-        requires { length self.old < 16 }
+        requires { length self.old < BATCH_SIZE }
         ensures { self.new ≡ self.old ++ scalar ∷ [] }
     {
         self.scalars[self.count] = scalar;

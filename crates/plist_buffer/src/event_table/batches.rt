@@ -9,6 +9,7 @@ ghost use Rattle.plist_buffer.specs.StoredScalars.{event_of_small, events_of_sma
 use super::EventTable;
 use crate::entries::{EventEntry, ScalarNumber};
 use crate::small_scalar::SmallScalar;
+use crate::waiting::BATCH_SIZE;
 use std::alloc::AllocError;
 
 impl<'e> EventTable<'e> {
@@ -24,15 +25,15 @@ impl<'e> EventTable<'e> {
         self.small.get_index_of(scalar)
     }
 
-    // Returns the index of each of at most sixteen scalars among the small ones, or `None` for
-    // those that aren't stored. The loop does nothing else, so that the look-ups wait for memory
-    // together.
+    // Returns the index of each of at most `BATCH_SIZE` scalars among the small ones, or `None`
+    // for those that aren't stored. The loop does nothing else, so that the look-ups wait for
+    // memory together.
     #[inline(always)]
-    fn find_each(&self, scalars: &[SmallScalar]) -> [Option<usize>; 16]
-        requires { length scalars.now ≤ 16 }
+    fn find_each(&self, scalars: &[SmallScalar]) -> [Option<usize>; BATCH_SIZE]
+        requires { length scalars.now ≤ BATCH_SIZE }
         ensures { AreFound (lists_in self.now) scalars.now result }
     {
-        let mut found = [None; 16];
+        let mut found = [None; BATCH_SIZE];
         for index in 0..scalars.len() {
             found[index] = self.find_small(&scalars[index]);
         }
@@ -71,11 +72,11 @@ impl<'e> EventTable<'e> {
         }
     }
 
-    // Looks up at most sixteen small scalars, and then appends them. Returns the number of those
-    // that were appended, which is less than all only if an allocation failed.
+    // Looks up at most `BATCH_SIZE` small scalars, and then appends them. Returns the number of
+    // those that were appended, which is less than all only if an allocation failed.
     #[inline(never)]
     pub(crate) fn append_small(&mut self, scalars: &[SmallScalar]) -> usize
-        requires { length scalars.now ≤ 16 }
+        requires { length scalars.now ≤ BATCH_SIZE }
         ensures within { result ≤ length scalars.now }
         ensures events { plain_events self.new
             ≡ plain_events self.old ++ events_of_small (take result scalars.now) }
