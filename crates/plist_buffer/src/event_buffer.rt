@@ -61,7 +61,8 @@ pub struct EventBuffer {
     waiting: WaitingScalars,
     // What is expected next, or `None` if the events are those of a whole property list.
     expects: Option<Expect>,
-    ghost wanted: { ExpectsNext (plain_events held ++ events_of_small waiting) expects } by { Prim.hlevel props },
+    ghost wanted: { ExpectsNext (plain_events held ++ events_of_small waiting)
+        expects } by { Prim.hlevel props },
     ghost items: { 0 < length waiting → expects ≡ Some Items } by { Prim.hlevel props },
 }
 

@@ -59,10 +59,10 @@ fn additional_scalars(count: usize, held: usize, expected: usize) -> usize
 
 impl<'e> EventTable<'e> {
     ghost use Rattle.plist_buffer.specs.StoredScalars.{IsStored, event_of_long, event_of_small, scalar_of_ref};
-    ghost use Rattle.std.specs.Prelude.{[], None, Some, false, slice_get, IfSome, ◌+◌};
+    ghost use Rattle.std.specs.Prelude.{[], None, Some, false, IfSome, ◌+◌};
     ghost use Rattle.std.specs.Cow.{cow_slice_items, cow_str_bytes};
     ghost use Rattle.plist_base.specs.Trees.{Data as DataScalar, Integer as IntegerScalar, String as StringScalar};
-    ghost use Rattle.plist_buffer.specs.EventTable.{plain_event, plain_events, scalars_of, lists_in, event_at, GrowsBy, HasItem, IsScalarAt, LacksItem, table_event, entry_event};
+    ghost use Rattle.plist_buffer.specs.EventTable.{plain_event, plain_events, scalars_of, lists_in, GrowsBy, HasItem, IsScalarAt, LacksItem, table_event, entry_event};
     ghost use Rattle.plist_buffer.specs.inner.Columns.{scalar_named};
     ghost use Rattle.plist_buffer.specs.inner.Entries.{entry_at, event_numbered, is_start, scalar_numbered, IsUnclosed, KeepsScalars};
     ghost use Rattle.plist_buffer.specs.inner.Expected.{expected_inside, innermost};

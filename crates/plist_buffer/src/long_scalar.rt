@@ -175,7 +175,8 @@ impl<'e> LongContent<'e> {
 pub struct LongScalar<'e> {
     content: LongContent<'e>,
     ghost long: { 8 < content_length content },
-    ghost form: { form_in content ≡ form_of_scalar (scalar_of_content content) } by { Prim.hlevel props },
+    ghost form: { form_in content
+        ≡ form_of_scalar (scalar_of_content content) } by { Prim.hlevel props },
 }
 
 impl<'e> LongScalar<'e> {

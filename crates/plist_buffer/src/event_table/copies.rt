@@ -1,6 +1,6 @@
 //! Appends copies of events to a table.
 
-ghost use Rattle.std.specs.Prelude.{◌≡◌, ◌<◌, false, true, length, OnOk, OnErr};
+ghost use Rattle.std.specs.Prelude.{◌≡◌, ◌<◌, length, OnOk, OnErr};
 ghost use Rattle.plist_base.specs.Events.{ScalarEvent};
 
 use super::EventTable;
