@@ -63,7 +63,7 @@ leaf_is (ScalarEvent x) h = (x, refl)
 leaf_is e h = cc
 
 -- a scalar with a number is stored
-pub leaf_stored : (scalars : ScalarLists) (number : ScalarNumber)
+leaf_stored : (scalars : ScalarLists) (number : ScalarNumber)
     → is_leaf (event_numbered scalars number) ≡ true
     → scalar_numbered scalars number ≡ Some (event_numbered scalars number)
 leaf_stored scalars number leaf = by (scalar_numbered scalars number) leaf
@@ -330,7 +330,7 @@ pub record Grown (old new : ScalarLists) (number : ScalarNumber) (e : PlainEvent
   pub one : length new.small + length new.long ≤ length old.small + length old.long + 1
 
 -- a scalar that was there has its number
-pub grown_none : (scalars : ScalarLists) (number : ScalarNumber) (e : PlainEvent)
+grown_none : (scalars : ScalarLists) (number : ScalarNumber) (e : PlainEvent)
     → AreDistinct (all_scalars scalars) → scalar_numbered scalars number ≡ Some e
     → Grown scalars scalars number e
 grown_none scalars number e apart stored = record {
@@ -423,6 +423,15 @@ module _ {scalars : ScalarLists} {es : List EventEntry} {unclosed : List ℕ}
             skips = λ p lt. kept.entries_are.skips p lt ∙ ap (λ l. skip_after l p) (sym grown_shown);
           }) i (ap is_leaf at ∙ leaf);
     }
+
+  -- a scalar that is stored is appended once more, unless an allocation fails
+  pub kept_repeated : (i : ScalarNumber) → is_leaf (event_numbered scalars i) ≡ true
+      → {T E : Type 0} (r : Result T E) {now : List EventEntry}
+      → OnOk r (now ≡ es ++ entry.Scalar i ∷ []) → OnErr r (now ≡ es)
+      → IsValidTable scalars now unclosed
+  kept_repeated i leaf r pushed same =
+      either r (λ l. IsValidTable scalars l unclosed) pushed same
+      (kept_scalar leaf (grown_none scalars i _ kept.apart (leaf_stored scalars i leaf))) kept
 
   -- ---- what is read of an entry
 

@@ -1,9 +1,9 @@
 -- Keys of a set: equal keys have the same view.
-use Rattle.std.proofs.Common.{◌≡◌, ◌⊎◌, inl, inr, ℕ, zero, suc, ◌+◌, ◌<◌, ◌≤◌, Bool, true, false, if◌then◌else◌, List, [], ◌∷◌, ◌++◌, length, map, take, position, Some, refl, sym, ap, ◌∙◌, subst, arith, append-nil}
+use Rattle.std.proofs.Common.{◌≡◌, ◌⊎◌, inl, inr, ℕ, zero, suc, ◌+◌, ◌<◌, ◌≤◌, Bool, true, false, if◌then◌else◌, List, [], ◌∷◌, ◌++◌, length, map, take, position, Option, None, Some, refl, sym, ap, ◌∙◌, subst, arith, append-nil}
 use Rattle.std.proofs.Math.Seq.{take-append_seam, take-length}
 use Rattle.std.proofs.lemmas.List.{length-append, map-append}
 use Rattle.std.proofs.lemmas.List.Quantifiers.{position-Some}
-use Rattle.std.specs.Prelude.{slice_get}
+use Rattle.std.specs.Prelude.{slice_get, IfSome}
 use Rattle.std.specs.List.{AllByRecursion, IsDistinct}
 use Rattle.std.proofs.lemmas.Option.{slice_get-map, slice_get-get_or, slice_get_within}
 use Rattle.plist_buffer.specs.inner.Entries.{AreDistinct}
@@ -81,12 +81,14 @@ module _ {T P : Type 0} (same : T → T → Bool) (view : T → P) where
       | inr r ↦ inr r
     ]
 
-  -- if only items with the key p pass a test, p is at the index that the test finds
-  pub key_found : (test : T → Bool) (p : P) → ((y : T) → test y ≡ true → p ≡ view y) → (cs : List T)
-      (i : ℕ) → position test cs ≡ Some i → slice_get (map view cs) i ≡ Some p
-  key_found test p same_key [] i h = cc
-  key_found test p same_key (d ∷ cs) i h =
-      let f = position-Some test (d ∷ cs) i d h in
+  -- if keys that are the same as x have its view, the key that is found for x has it
+  pub key_found : (x : T) → ((y : T) → same x y ≡ true → view x ≡ view y) → (cs : List T)
+      (found : Option ℕ) → found ≡ position (same x) cs
+      → IfSome found (λ i. slice_get (map view cs) i ≡ Some (view x))
+  key_found x same_key cs None is = tt
+  key_found x same_key [] (Some i) is = cc
+  key_found x same_key (d ∷ cs) (Some i) is =
+      let f = position-Some (same x) (d ∷ cs) i d (sym is) in
       cc (
         slice_get-map view (d ∷ cs) i,
         slice_get-get_or (d ∷ cs) i d f.0,
