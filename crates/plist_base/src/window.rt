@@ -11,9 +11,6 @@ use std::io::{Read, Seek, SeekFrom};
 /// of a window and has at most this many bytes lies completely in the window.
 pub(crate) const OVERLAP: usize = 64;
 
-/// The maximum number of windows.
-pub(crate) const MAX_WINDOWS: usize = 8192;
-
 /// Describes which bytes of the file a window contains.
 #[derive(Clone, Copy)]
 pub(crate) struct Header {
@@ -34,13 +31,13 @@ pub(crate) const UNFILLED: Header = Header {
 };
 
 // Returns the index of the first window of the slot in which window `number` of the file may be
-// buffered.
+// buffered. The number of windows is a power of two.
 #[inline(always)]
 fn first_window(count: usize, number: u64) -> usize
-    ensures { result + 1 < 8192 }
+    requires { 2 ≤ count }
+    ensures { result + 1 < count }
 {
-    let last_slot = (count / 2).saturating_sub(1) as u64;
-    2 * ((number & last_slot) as usize % (MAX_WINDOWS / 2))
+    (number as usize).wrapping_mul(2) & (count - 2)
 }
 
 /// Returns the index of the window to which this offset belongs, or `None` if that window isn't
@@ -48,14 +45,14 @@ fn first_window(count: usize, number: u64) -> usize
 #[inline(always)]
 pub(crate) fn window_at(headers: &[Header], size: usize, place: u64) -> Option<usize>
     requires { 0 < size }
-    ensures within { IfSome result (λ i. (i < 8192) × (i < length headers.now)) }
+    ensures within { IfSome result (λ i. i < length headers.now) }
     ensures start { IfSome result (λ i. IsWindowOf size headers.now i place) }
 {
-    let start = place - place % size as u64;
-    let first = first_window(headers.len(), place / size as u64);
-    if first + 1 >= headers.len() {
+    if headers.len() < 2 {
         return None;
     }
+    let start = place - place % size as u64;
+    let first = first_window(headers.len(), place / size as u64);
     // Which of the two windows it is can't be predicted, so no branch depends on it.
     let i = first + usize::from(headers[first].start != start);
     if headers[i].start == start {
@@ -68,9 +65,10 @@ pub(crate) fn window_at(headers: &[Header], size: usize, place: u64) -> Option<u
 // Returns `size` bytes from this index on, or fewer if the slice ends earlier.
 #[inline(always)]
 fn part(bytes: &[u8], first: usize, size: usize) -> &[u8]
+    requires { first ≤ length bytes.now }
     ensures { result.now ≡ take size (drop first bytes.now) }
 {
-    let rest = &bytes[first.min(bytes.len())..];
+    let rest = &bytes[first..];
     &rest[..size.min(rest.len())]
 }
 
@@ -82,7 +80,8 @@ pub(crate) fn buffered_in<'a>(
     size: usize,
     place: u64,
 ) -> &'a [u8]
-    requires { (0 < size) × (size ≤ 8192) }
+    requires size { 0 < size }
+    requires room { length headers.now * (size + 64) ≤ length bytes.now }
     ensures bytes { LendsFrom size headers.now bytes.now place result.now }
 {
     let Some(i) = window_at(headers, size, place) else {
@@ -97,22 +96,23 @@ pub(crate) fn buffered_in<'a>(
 }
 
 // Returns the index of the window to fill for this offset: the window to which the offset already
-// belongs, or else one of the slot's two windows, which take turns.
-fn window_for(headers: &mut [Header], size: usize, place: u64) -> usize
+// belongs, or else one of the slot's two windows, which take turns. Returns `None` if there are
+// fewer than two windows.
+fn window_for(headers: &mut [Header], size: usize, place: u64) -> Option<usize>
     requires { 0 < size }
-    ensures within { result < 8192 }
+    ensures within { IfSome result (λ i. i < length headers.old) }
     ensures length { length headers.new ≡ length headers.old }
 {
     if let Some(i) = window_at(headers, size, place) {
-        return i;
+        return Some(i);
+    }
+    if headers.len() < 2 {
+        return None;
     }
     let first = first_window(headers.len(), place / size as u64);
-    if first >= headers.len() {
-        return first;
-    }
     let turn = headers[first].turn;
     headers[first].turn = !turn;
-    if turn { first + 1 } else { first }
+    Some(first + usize::from(turn))
 }
 
 // Fills a window with one read from `start` on. If the seek or the read fails, the window is empty.
@@ -132,7 +132,7 @@ fn fill_window<R: Read + Seek>(
     Ok(())
 }
 
-/// Fills the window to which this offset belongs. Does nothing if the slices have no window for it.
+/// Fills the window to which this offset belongs. Does nothing if there are fewer than two windows.
 pub(crate) fn fill_in<R: Read + Seek>(
     headers: &mut [Header],
     bytes: &mut [u8],
@@ -140,15 +140,17 @@ pub(crate) fn fill_in<R: Read + Seek>(
     place: u64,
     reader: &mut R,
 ) -> Result<(), io::Error>
-    requires { (0 < size) × (size ≤ 8192) }
+    requires size { 0 < size }
+    requires room { length headers.old * (size + 64) ≤ length bytes.old }
+    ensures headers { length headers.new ≡ length headers.old }
+    ensures bytes { length bytes.new ≡ length bytes.old }
 {
-    let i = window_for(headers, size, place);
-    let first = i * (size + OVERLAP);
-    let end = first + size + OVERLAP;
-    if i < headers.len() && end <= bytes.len() {
-        let start = place - place % size as u64;
-        fill_window(&mut headers[i], &mut bytes[first..end], start, reader)
-    } else {
-        Ok(())
+    match window_for(headers, size, place) {
+        Some(i) => {
+            let memory = &mut bytes[i * (size + OVERLAP)..][..size + OVERLAP];
+            let start = place - place % size as u64;
+            fill_window(&mut headers[i], memory, start, reader)
+        }
+        None => Ok(()),
     }
 }

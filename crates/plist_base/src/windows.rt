@@ -1,9 +1,8 @@
 //! The buffered windows of a file: eight short ones in the struct itself, or long ones on the heap.
 
-ghost use Rattle.std.specs.Prelude.{◌≤◌, length};
-ghost use Rattle.plist_base.specs.inner.Windows.{KeepsWindows, Lends};
+ghost use Rattle.std.specs.Prelude.{◌*◌, ◌≤◌, length};
 
-use crate::window::{Header, MAX_WINDOWS, OVERLAP, UNFILLED, buffered_in, fill_in, window_at};
+use crate::window::{Header, OVERLAP, UNFILLED, buffered_in, fill_in, window_at};
 use std::alloc::Global;
 use std::io;
 use std::io::{Read, Seek};
@@ -17,6 +16,9 @@ const LONG_WINDOW: usize = 8192;
 
 // The number of windows before the first doubling.
 const INITIAL_WINDOWS: usize = 8;
+
+// The maximum number of windows.
+const MAX_WINDOWS: usize = 8192;
 
 // The number of first fills that cancel one refill. A refill fills a window again.
 const REFILL_WEIGHT: u64 = 8;
@@ -49,9 +51,12 @@ struct LongWindows {
     // first fills. Each fill of a window that isn't tracked counts as a first fill. A first fill
     // changes nothing if this is 0.
     refills: u64,
+    ghost room: { length headers.items * 8256 ≤ length bytes.items },
 }
 
 impl LongWindows {
+    ghost use Rattle.plist_base.specs.inner.Windows.{KeepsWindows};
+
     fn new(alloc: Global) -> Self {
         LongWindows {
             headers: Vec::new(alloc),
@@ -137,6 +142,8 @@ pub(crate) struct Windows {
 }
 
 impl Windows {
+    ghost use Rattle.plist_base.specs.inner.Windows.{Lends};
+
     /// Creates windows that were never filled. With an allocator they are long ones, which are
     /// allocated when the first is filled.
     pub(crate) fn new(alloc: Option<Global>) -> Self {
@@ -165,7 +172,7 @@ impl Windows {
         ensures bytes { Lends self.now place result.now }
     {
         match &self.long {
-            Some(long) if !long.headers.is_empty() => {
+            Some(long) if long.headers.len() >= 2 => {
                 buffered_in(&long.headers, &long.bytes, LONG_WINDOW, place)
             }
             _ => buffered_in(&self.short.headers, &self.short.bytes, SHORT_WINDOW, place),

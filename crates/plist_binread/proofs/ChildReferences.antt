@@ -25,47 +25,32 @@ known_prefix known p k buffered h is = IfSome_then known is (λ bytes is.
     rw n (ap (take k) is ∙ take-take k (length buffered) (drop p bytes) h))
 
 -- if bytes lie at an offset, those after the first `k` of them lie `k` bytes after the offset
-pub known_suffix : (known : Option (List ℕ)) (p k n place : ℕ) (found : List ℕ) → p ≤ place
-    → k ≡ place - p → k ≤ n → n ≤ length found
-    → IfSome known (λ bytes. LiesAt bytes p (take n found))
-    → IfSome known (λ bytes. LiesAt bytes place (take (n - k) (drop k found)))
-known_suffix known p k n place found above is within short lies = IfSome_then known lies (λ bytes lies.
-    let whole : n ≡ k + (n - k) = omega arith in
-    let at : place ≡ p + k = omega arith in
-    let cut : take (n - k) (drop k found) ≡ drop k (take n found)
-    = sym (ap (λ m. drop k (take m found)) whole ∙ drop-take k (n - k) found) in
-    let all = length-take-le n found short in
-    let rest : length (take (n - k) (drop k found)) ≡ n - k
-    = ap length cut ∙ length-drop k (take n found) ∙ ap (λ m. m - k) all in
-    let there : take n found ≡ take n (drop p bytes)
-    = lies ∙ ap (λ m. take m (drop p bytes)) all in
-    rw (rest, at) (cut ∙ ap (drop k) there
-    ∙ ap (λ m. drop k (take m (drop p bytes))) whole ∙ drop-take k (n - k) (drop p bytes)
-    ∙ ap (take (n - k)) (drop-drop k p bytes)))
+pub known_suffix : (known : Option (List ℕ)) (p k place : ℕ) (found : List ℕ) → place ≡ p + k
+    → k ≤ length found
+    → IfSome known (λ bytes. LiesAt bytes p found)
+    → IfSome known (λ bytes. LiesAt bytes place (drop k found))
+known_suffix known p k place found at within lies = IfSome_then known lies (λ bytes lies.
+    let n = length found in
+    let whole : n ≡ k + (n - k) = omega (arith, within) in
+    let rest : length (drop k found) ≡ n - k = length-drop k found in
+    rw (rest, at) (ap (drop k) lies ∙ ap (λ m. drop k (take m (drop p bytes))) whole
+    ∙ drop-take k (n - k) (drop p bytes) ∙ ap (take (n - k)) (drop-drop k p bytes)))
 
 -- the number in bytes of a run is that of the source
-pub number_in_run : (known : Option (List ℕ)) (p k n width place number : ℕ) (found : List ℕ)
-    → place ≡ p + k → k + width ≤ n → n ≤ length found
+pub number_in_run : (known : Option (List ℕ)) (p k width place number : ℕ) (found : List ℕ)
+    → place ≡ p + k → k + width ≤ length found
     → number ≡ number_of (take (k + width - k) (drop k found))
-    → IfSome known (λ bytes. LiesAt bytes p (take n found))
+    → IfSome known (λ bytes. LiesAt bytes p found)
     → IsNumberAt (Some number) known place width
-number_in_run known p k n width place number found there within short value lies =
-    let rest = known_suffix known p k n place found (omega (arith, there)) (omega (arith, there))
-    (omega (arith, within)) short lies in
-    IfSome_then known
-    (known_prefix known place width (take (n - k) (drop k found)) (omega (
-      arith,
-      within,
-      short,
-      length-take-le (n - k) (drop k found) (omega (arith, within, short, length-drop k found)),
-    )) rest)
+number_in_run known p k width place number found at within value lies =
+    let rest = known_suffix known p k place found at (omega (arith, within)) lies in
+    let short : width ≤ length (drop k found) = omega (arith, within, length-drop k found) in
+    IfSome_then known (known_prefix known place width (drop k found) short rest)
     (λ bytes lies.
-    let front = take-take width (n - k) (drop k found) (omega (arith, within)) in
-    let long : length (take width (drop k found)) ≡ width = length-take-le width (drop k found)
-    (omega (arith, within, short, length-drop k found)) in
+    let long : length (take width (drop k found)) ≡ width
+    = length-take-le width (drop k found) short in
     value ∙ ap (λ m. number_of (take m (drop k found))) (omega arith)
-    ∙ ap number_of (sym front ∙ lies ∙ ap (λ xs. take (length xs) (drop place bytes)) front
-    ∙ ap (λ m. take m (drop place bytes)) long))
+    ∙ ap number_of (lies ∙ ap (λ m. take m (drop place bytes)) long))
 
 -- ---- the reference to a child
 

@@ -1,5 +1,5 @@
 -- Copies of a few bytes of a source, and the references of collections that are read from them.
-use Rattle.std.specs.Prelude.{◌≡◌, ℕ, ◌+◌, ◌*◌, ◌<◌, ◌≤◌, List, length, take, slice_index, Option, Result, IfSome, MatchResult}
+use Rattle.std.specs.Prelude.{◌≡◌, ℕ, ◌+◌, ◌*◌, ◌<◌, ◌≤◌, List, length, slice_index, Option, Result, IfSome, MatchResult}
 use Rattle.plist_base.specs.declared.error.Error.{Error}
 use Rattle.plist_base.specs.Faults.{IsIo, kind_of, error_kind_of}
 use Rattle.plist_base.specs.Sources.{LiesAt}
@@ -13,9 +13,9 @@ use Rattle.plist_binread.specs.declared.references.Run.{Run}
 
 -- ---- copies of bytes
 
--- if the bytes of the source are known, the run is a copy of some of them
+-- if the bytes of the source are known, the run is empty or a copy of some of them
 abbrev pub IsRunOf : (known : Option (List ℕ)) → Run → Type 0
-IsRunOf known run = IfSome known (λ bytes. LiesAt bytes run.at (take run.len run.bytes))
+IsRunOf known run = 0 < run.starts → IfSome known (λ bytes. LiesAt bytes run.at run.bytes)
 
 -- the runs of a reader are copies of bytes of the source
 abbrev pub AreRunsOf : (known : Option (List ℕ)) → ReferenceReader → Type 0

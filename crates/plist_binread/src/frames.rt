@@ -126,19 +126,17 @@ impl Frames {
     pub fn next_child(&mut self) -> NextChild
         ensures { NextOf (reverse self.old) result (reverse self.new) }
     {
-        match self.innermost {
+        match &mut self.innermost {
             None => NextChild::Nothing,
+            Some(frame) if frame.next < frame.count => {
+                let child = *frame;
+                frame.next += 1;
+                NextChild::Child(child)
+            }
             Some(frame) => {
-                if frame.next >= frame.count {
-                    self.innermost = self.outer.pop();
-                    return NextChild::End(frame.object);
-                }
-                self.innermost = Some(Frame {
-                    object: frame.object,
-                    next: frame.next + 1,
-                    count: frame.count,
-                });
-                NextChild::Child(frame)
+                let object = frame.object;
+                self.innermost = self.outer.pop();
+                NextChild::End(object)
             }
         }
     }

@@ -17,8 +17,11 @@ use plist_decode::decoder::Decoder;
 use plist_decode::numbers::{number_from, read_number};
 use plist_decode::step_fault::{FaultDetails, StepFault};
 
-// The largest number of bytes in a run.
-const RUN: usize = 32;
+// The number of bytes in a run that isn't empty.
+const RUN: usize = 40;
+
+// The number of offsets in such a run at which the run has eight bytes.
+const STARTS: u64 = 33;
 
 /// A copy of a few bytes that a source has buffered, from an offset on.
 ///
@@ -28,11 +31,12 @@ const RUN: usize = 32;
 pub struct Run {
     /// The offset of the first byte.
     pub at: u64,
-    /// The number of bytes that were copied.
-    pub len: usize,
-    /// The copied bytes. Those after the first `len` bytes are unspecified.
+    /// The number of offsets, from `at` on, at which a number of up to eight bytes can be read, or
+    /// 0 if the run is empty.
+    pub starts: u64,
+    /// The copied bytes, which are unspecified if the run is empty.
     pub bytes: [u8; RUN],
-    ghost short: { len ≤ 32 },
+    ghost short: { starts ≤ 33 },
 }
 
 impl Run {
@@ -41,37 +45,33 @@ impl Run {
 
     /// Creates an empty run.
     pub fn new() -> Self
-        ensures { result.len ≡ 0 }
+        ensures { result.starts ≡ 0 }
     {
         Run {
             at: 0,
-            len: 0,
+            starts: 0,
             bytes: [0; RUN],
         }
     }
 
-    /// Replaces the bytes of the run with those that the source has buffered from an offset on.
+    /// Replaces the bytes of the run with those that the source has buffered from an offset on. The
+    /// run is empty if the source has buffered fewer than 40 bytes. This isn't so for a reference
+    /// near the end of a file, since the trailer follows it, except in the smallest files.
     #[inline(never)]
     pub fn fill<S: Source>(&mut self, source: &S, place: u64)
         ensures { IsRunOf (S.known source.now) self.new }
     {
-        let buffered = source.buffered(place);
         self.at = place;
-        match buffered.first_chunk::<RUN>() {
+        match source.buffered(place).first_chunk::<RUN>() {
             Some(chunk) => {
                 self.bytes = *chunk;
-                self.len = RUN;
+                self.starts = STARTS;
             }
-            None => {
-                let mut bytes = [0; RUN];
-                bytes[..buffered.len()].copy_from_slice(buffered);
-                self.bytes = bytes;
-                self.len = buffered.len();
-            }
+            None => self.starts = 0,
         }
     }
 
-    // Returns the number in the `width` bytes at an offset, or `None` if the run doesn't contain
+    // Returns the number in the `width` bytes at an offset, or `None` if the run may not contain
     // them.
     #[inline(always)]
     fn find(&self, place: u64, width: usize) -> Option<u64>
@@ -79,18 +79,14 @@ impl Run {
         ensures { (known : Option (List ℕ)) → IsRunOf known self.now
             → IsNumberAt result known place width }
     {
-        if place < self.at || place - self.at > (RUN - width) as u64 {
+        if place < self.at || place - self.at >= self.starts {
             return None;
         }
         let first = (place - self.at) as usize;
-        let end = first + width;
-        if end > self.len {
-            return None;
-        }
-        Some(number_from(&self.bytes[first..end]))
+        Some(number_from(&self.bytes[first..first + width]))
     }
 
-    /// Returns the number in the `width` bytes at an offset, or `None` if the run doesn't contain
+    /// Returns the number in the `width` bytes at an offset, or `None` if the run may not contain
     /// them.
     #[inline(always)]
     pub fn number_at(&self, place: u64, width: usize) -> Option<u64>
@@ -314,12 +310,12 @@ impl ReferenceReader {
         let width = decoder.bounds.reference_width;
         let references = walk.references(frame);
         let at = references.reference_place(frame.next, width);
+        if let Some(number) = self.number_at(at, width) {
+            return Ok(number);
+        }
         if at >= decoder.bounds.trailer || decoder.bounds.trailer - at < width as u64 {
             decoder.details.fail_at(references.place);
             return Err(StepFault::Overrun);
-        }
-        if let Some(number) = self.number_at(at, width) {
-            return Ok(number);
         }
         self.prefetcher.prefetch(source, walk, frame, width);
         match self.refill(source, references.is_value(frame.next), at, width) {

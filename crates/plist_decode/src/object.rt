@@ -98,18 +98,13 @@ pub fn decode_front<C: DecodeCounter>(decoder: &mut Decoder<C>, place: u64, seen
 {
     let to_trailer = decoder.bounds.trailer - place;
     let width = decoder.bounds.reference_width;
-    match seen.split_first() {
-        Some((marker, rest)) => {
-            let rest = AfterMarker {
-                bytes: rest,
-                to_trailer: to_trailer - 1,
-            };
-            let decoded = decode_after_marker(*marker, rest, width);
-            count_small(decoded, &mut decoder.counter);
-            decoded
-        }
-        None => Decoded::Faulty(ObjectFault::Overrun),
-    }
+    let rest = AfterMarker {
+        bytes: &seen[1..],
+        to_trailer: to_trailer - 1,
+    };
+    let decoded = decode_after_marker(seen[0], rest, width);
+    count_small(decoded, &mut decoder.counter);
+    decoded
 }
 
 // The number of bytes that is enough for any object except a long string or long data: a marker, a

@@ -231,6 +231,7 @@ impl<'p, W: Write> Printer<'p, W> {
     }
 
     // Prints data.
+    #[inline(never)]
     fn print_data(&mut self, bytes: &[u8]) -> ControlFlow<()>
         ensures { PrintsLine W.contents self.old (ScalarEvent (Data bytes.now)) result self.new }
     {
@@ -337,6 +338,7 @@ impl<'p, W: Write> EventVisitor for Printer<'p, W> {
         self.print_short(ShortLine::Boolean(value))
     }
 
+    #[inline(always)]
     fn data(&mut self, bytes: CowSlice<'_, u8>) -> ControlFlow<()> {
         self.print_data(bytes.as_slice())
     }

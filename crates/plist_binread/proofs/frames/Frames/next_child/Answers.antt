@@ -12,21 +12,21 @@ popped None some none rest =
     none refl ∙ sym (rest ∙ ap (λ frames. take (length frames - 1) frames) (none refl))
 popped (Some frame) some none rest = some
 
-pub returns-then-frame : goal.returns-then-frame
-returns-then-frame c = (
+pub returns-in-Some : goal.returns-in-Some
+returns-in-Some c = (
+  reverse c.self.inside.outer,
+  rw (← c.self.view_is, c.in-Some.is) (reverse-append c.self.inside.outer _),
+  reverse-append c.self.inside.outer _,
+  omega arith,
+)
+
+pub returns-in-Some-2 : goal.returns-in-Some-2
+returns-in-Some-2 c = (
   c.in-Some.frame.next,
   c.in-Some.frame.count,
   rw (← c.self.view_is, c.in-Some.is)
       (reverse-append c.self.inside.outer _)
       ∙ ap (λ fs. c.in-Some.frame ∷ reverse fs) (popped c.pop-self-inside.result
       c.pop-self-inside.ensures.some c.pop-self-inside.ensures.none c.pop-self-inside.ensures.rest),
-  c.if-frame.true,
-)
-
-pub returns-else-frame : goal.returns-else-frame
-returns-else-frame c = (
-  reverse c.self.inside.outer,
-  rw (← c.self.view_is, c.in-Some.is) (reverse-append c.self.inside.outer _),
-  reverse-append c.self.inside.outer _,
-  omega arith,
+  c.if-frame.false,
 )

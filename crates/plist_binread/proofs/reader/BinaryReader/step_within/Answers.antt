@@ -31,8 +31,8 @@ returns-in-Err g c =
     let walks = l.is in
     let w = walks.gives in
     let r : RefusesAny old.limiter l.event (fault_of error) =
-    refuses_any old.limiter c.args.limits _ l.event (fault_of error) (fault_of c.in-Err.error)
-    c.requires c.new-within.ensures.limits refl l.refused in
+    refuses_any old.limiter c.unwrap-limiter.result _ l.event (fault_of error) (fault_of c.in-Err.error)
+    c.unwrap-limiter.ensures c.new-within.ensures.limits refl l.refused in
     rw c.keep_error.ensures.answer (
       record {
         gives = record {
@@ -51,7 +51,7 @@ returns-in-Err g c =
           cached = IfSome-all _ (λ bytes. tt);
           leaves = search w.leaves;
           objects = tells_fault _ error _ w.objects;
-          kept = (ap is_some (sym c.requires), w.kept.1);
+          kept = (ap is_some (sym c.unwrap-limiter.ensures), w.kept.1);
         };
         falls = let falls = walks.falls in omega (arith, falls);
       },
@@ -60,7 +60,7 @@ returns-in-Err g c =
 
 pub returns-in-Ok : goal.returns-in-Ok
 returns-in-Ok g c =
-    turns_within c.args.self.now c.step-item.new.self _ c.args.limits _ c.requires refl refl refl refl
+    turns_within c.args.self.now c.step-item.new.self _ c.unwrap-limiter.result _ c.unwrap-limiter.ensures refl refl refl refl
     refl g.V.EventVisitor.step c.new-within.result c.step-item.new.visitor _ _
     c.step-item.new.self.decoder.details c.step-item.result c.new-within.ensures.limits (search rules)
     (search rules) (search rules) (search rules) c.step-item.ensures.walks
