@@ -1,5 +1,5 @@
 -- The bytes that are put into a sink: some are written to its writer, and the rest is pending.
-use Rattle.std.specs.Prelude.{◌≡◌, ℕ, ◌^◌, ◌+◌, ◌-◌, ◌≤◌, List, ◌++◌, length, take, MatchOption, OnOk, Option, Result, Ok, Err}
+use Rattle.std.specs.Prelude.{◌≡◌, ℕ, ◌^◌, ◌+◌, ◌-◌, ◌≤◌, List, ◌++◌, length, MatchOption, OnOk, Option, Result, Ok, Err}
 use Rattle.std.specs.Io.KnownBytes.{Appends}
 use Rattle.plist_base.specs.declared.error.Error.{Error}
 use Rattle.plist_base.specs.declared.fixed_buffer.FixedBuffer.{FixedBuffer}
@@ -12,13 +12,13 @@ use Rattle.plist_base.specs.Writing.{Answer, answer_of}
 abbrev pub sink_capacity : ℕ
 sink_capacity = 2 ^ 16
 
--- the bytes that were pushed to a buffer
+-- the bytes that were pushed to a buffer, which are all that contracts see of it
 abbrev pub buffered : FixedBuffer → List ℕ
-buffered buffer = take buffer.used buffer.bytes.items
+buffered buffer = buffer
 
 -- how many more bytes can be pushed to a buffer
 abbrev pub room : FixedBuffer → ℕ
-room buffer = sink_capacity - buffer.used
+room buffer = sink_capacity - length buffer
 
 -- the bytes that are pending
 abbrev pub pending : {W : Type 0} → Sink W → List ℕ

@@ -1,6 +1,6 @@
 //! A buffer of fixed size.
 
-ghost use Rattle.std.specs.Prelude.{◌≡◌, ◌+◌, ◌++◌, ◌≤◌, ◌^◌, length, true, IfOk};
+ghost use Rattle.std.specs.Prelude.{◌≡◌, ◌+◌, ◌++◌, ◌≤◌, length, true};
 ghost use Rattle.plist_base.specs.ByteTests.{EachByte};
 ghost use Rattle.std.specs.Fmt.{decimal};
 
@@ -8,6 +8,7 @@ use crate::Error;
 use crate::byte_test::{ByteTest, copy_passing};
 use itoa::write_digits;
 use std::alloc::Global;
+use std::marker::Model;
 
 /// The number of bytes in a [`FixedBuffer`], and the most that a [`Sink`](crate::Sink) buffers.
 pub const SINK_CAPACITY: usize = 1 << 16;
@@ -21,8 +22,16 @@ pub struct FixedBuffer {
     // The first `used` bytes are those that were pushed, and the others are unspecified.
     bytes: Vec<u8>,
     used: usize,
-    ghost size: { length bytes.items ≡ 2 ^ 16 },
-    ghost within: { used ≤ 2 ^ 16 },
+}
+
+impl Model for FixedBuffer {
+    ghost use Rattle.std.specs.Prelude.{◌≡◌, ℕ, ◌≤◌, ◌^◌, List, length, take};
+
+    ghost Value = { List ℕ };
+
+    ghost view = { λ buffer. take buffer.used buffer.bytes.items };
+
+    ghost invariant = { λ buffer. (buffer.used ≤ 2 ^ 16) × (length buffer.bytes.items ≡ 2 ^ 16) };
 }
 
 // Returns the number of decimal digits in a number that has more than six.
@@ -158,8 +167,7 @@ impl FixedBuffer {
         ensures passed { result ≡ true → EachByte T.passes bytes.now }
         ensures room { result ≡ true
             → room self.new + (BEFORE + length bytes.now + AFTER) ≡ room self.old }
-        ensures unchanged { result ≡ false → buffered self.new ≡ buffered self.old }
-        ensures same { result ≡ false → room self.new ≡ room self.old }
+        ensures unchanged { result ≡ false → self.new ≡ self.old }
     {
         let end = self.used + BEFORE + bytes.len() + AFTER;
         let target = &mut self.bytes[self.used..end];
