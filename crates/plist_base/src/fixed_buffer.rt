@@ -151,6 +151,17 @@ impl FixedBuffer {
         self.used = end;
     }
 
+    /// Appends the bytes of an array, which must fit into the room. A constant array is copied by a
+    /// few instructions.
+    #[inline(always)]
+    pub fn push_array<const N: usize>(&mut self, bytes: [u8; N])
+        requires room { N ≤ room self.old }
+        ensures pushed { buffered self.new ≡ buffered self.old ++ bytes.entry }
+        ensures room { room self.new + N ≡ room self.old }
+    {
+        self.push(&bytes);
+    }
+
     /// Appends `before`, `bytes` and `after` if all of `bytes` pass a test, and returns whether
     /// they do. All three must fit into the room.
     #[inline(always)]

@@ -13,7 +13,8 @@ use std::ops::ControlFlow;
 /// Only [`EventVisitor::event`] is required. Each of the other methods takes the event that it
 /// names; a fast visitor implements those for the events that are frequent.
 pub trait EventVisitor {
-    ghost use Rattle.std.specs.Prelude.{◌≡◌, None, IfSome};
+    ghost use Rattle.std.specs.Prelude.{◌≡◌, ◌<◌, None, IfSome};
+    ghost use Rattle.plist_base.specs.ByteTests.{EachByte};
     ghost use Rattle.plist_base.specs.Events.{EndCollection, PlainEvent, ScalarEvent, StartArray, StartDictionary, event_of};
     ghost use Rattle.plist_base.specs.Trees.{String};
     ghost use Rattle.plist_base.specs.Utf16Strings.{string_of_utf16};
@@ -49,6 +50,20 @@ pub trait EventVisitor {
         ensures { step self.old EndCollection result self.new }
     {
         self.event(Event::EndCollection)
+    }
+
+    /// Takes a string in ASCII, which may be a key, given its bytes, which haven't been tested, and
+    /// returns whether the next event is wanted. Returns `None` and changes nothing if a byte isn't
+    /// ASCII, or if the string is to be handed over by [`EventVisitor::string`] instead. A visitor
+    /// that tests each byte anyway saves the source a test.
+    #[inline(always)]
+    fn ascii_string(&mut self, bytes: &[u8]) -> Option<ControlFlow<()>>
+        ensures ascii { IfSome result (λ _. EachByte (λ byte. byte < 128) bytes.now) }
+        ensures taken { IfSome result (λ flow.
+            step self.old (ScalarEvent (String bytes.now)) flow self.new) }
+        ensures declined { result ≡ None → self.new ≡ self.old }
+    {
+        None
     }
 
     /// Takes a Boolean.

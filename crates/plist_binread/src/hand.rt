@@ -86,15 +86,19 @@ fn hand_utf8<V: EventVisitor>(bytes: &[u8], visitor: &mut V) -> Result<ControlFl
 
 // Hands over a string that isn't small, or returns a fault if the bytes aren't UTF-8.
 //
-// ASCII is tested first because most strings are ASCII, and this test takes a fraction of the time
-// of the test for UTF-8. ASCII is handed over by a call of its own: a string that may be the result
-// of either test would be stored in memory first.
+// The visitor may test the bytes itself. Otherwise ASCII is tested first because most strings are
+// ASCII, and this test takes a fraction of the time of the test for UTF-8. ASCII is handed over by
+// a call of its own: a string that may be the result of either test would be stored in memory
+// first.
 #[inline(always)]
 fn hand_text<V: EventVisitor>(bytes: &[u8], visitor: &mut V) -> Result<ControlFlow<()>, StepFault>
     requires { IsLongBytes KindText bytes.now }
     ensures { HandsItem V.step visitor.old visitor.new (Some result)
         (SetsLarge (text bytes.now) result) }
 {
+    if let Some(answer) = visitor.ascii_string(bytes) {
+        return Ok(answer);
+    }
     if all_pass::<Ascii>(bytes) {
         let text = unsafe { str::from_utf8_unchecked(bytes) };
         return Ok(visitor.string(CowStr::Borrowed(text)));

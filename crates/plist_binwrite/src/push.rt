@@ -202,8 +202,8 @@ fn push_text(buffer: &mut FixedBuffer, text: &str) -> bool
     true
 }
 
-// Pushes a string, given its units in UTF-16, if it surely fits into the buffer, and returns whether
-// it was pushed.
+// Pushes a string, given its units in UTF-16, if it surely fits into the buffer, and returns
+// whether it was pushed.
 #[inline(always)]
 fn push_wide(buffer: &mut FixedBuffer, units: &[u8]) -> bool
     requires room { 17 ≤ room buffer.old }

@@ -1,5 +1,5 @@
 -- The units of a string.
-use Rattle.std.proofs.Common.{◌≡◌, inl, inr, ℕ, ◌+◌, ◌*◌, ◌/◌, ◌≤◌, Bool, true, false, List, [], ◌∷◌, ◌++◌, length, flat_map, chars, IsUtf8, nat_lt, refl, ap, sym, ◌∙◌, arith, length-append}
+use Rattle.std.proofs.Common.{◌≡◌, inl, inr, ℕ, ◌+◌, ◌*◌, ◌/◌, ◌<◌, ◌≤◌, Bool, true, false, List, [], ◌∷◌, ◌++◌, length, flat_map, chars, IsUtf8, nat_lt, refl, ap, sym, ◌∙◌, arith, length-append}
 use Rattle.std.specs.Char.Escape.{encode_utf16}
 use Rattle.std.specs.Char.{encode_utf8, len_utf8}
 use Rattle.std.specs.Int.{bytes_high_first}
@@ -9,8 +9,11 @@ use Rattle.std.proofs.Math.Utf8.{scalars}
 use Rattle.std.proofs.lemmas.Bool.{lt-ltb, le-ltb, cases_lt}
 use Rattle.std.proofs.lemmas.Grind.{flat_map-append}
 use Rattle.std.proofs.lemmas.List.{nil_from_length}
+use Rattle.std.proofs.lemmas.List.Elements.{All-from_get_or}
 use Rattle.std.proofs.lemmas.List.Folds.{list_all-append}
+use Rattle.std.proofs.lemmas.List.Sums.{list_all-from_AllPass}
 use Rattle.std.proofs.lemmas.Str.{chars_past_char, chars-nil, length-encode, chars-encodes}
+use Rattle.plist_base.specs.ByteTests.{EachByte}
 use Rattle.plist_base.specs.Utf16.{units_of, utf16_form}
 use Rattle.plist_buffer.specs.AsciiTexts.{is_ascii_text}
 
@@ -125,3 +128,9 @@ pub bytes_step : (c : ℕ) (cs : List ℕ)
     → length (encode_utf8_all (c ∷ cs)) ≡ len_utf8 c + length (encode_utf8_all cs)
 bytes_step c cs =
     omega (arith, length-append (encode_utf8 c) (encode_utf8_all cs), length-encode c)
+
+-- a string whose bytes are ASCII is one in ASCII
+pub ascii_text : (text : List ℕ) → EachByte (λ byte. byte < 128) text → is_ascii_text text ≡ true
+ascii_text text each =
+    list_all-from_AllPass (λ byte. nat_lt byte 128) text
+    (All-from_get_or (λ byte. nat_lt byte 128 ≡ true) text 0 (λ i within. lt-ltb _ 128 (each i within)))

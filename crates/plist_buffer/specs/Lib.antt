@@ -1,5 +1,6 @@
 pub mod Expects
 pub mod Occurrences
+pub mod LongStrings
 pub mod ShortContents
 pub mod AsciiTexts
 pub mod WideStrings

@@ -16,6 +16,7 @@ ghost use Rattle.plist_buffer.specs.inner.Expected.{ExpectsNext, change_on, expe
 
 use crate::event_table::EventTable;
 use crate::expects::{Expect, Transition};
+use crate::long_str::{AsciiStr, LongStr};
 use crate::small_scalar::SmallScalar;
 use crate::waiting::{BATCH_SIZE, WaitingScalars};
 use crate::wide::WideStr;
@@ -117,11 +118,12 @@ fn next_expected(
 }
 
 impl EventBuffer {
-    ghost use Rattle.std.specs.Prelude.{◌≡◌, [], false, true, None, IfErr, IfSome, OnOk, OnErr};
+    ghost use Rattle.std.specs.Prelude.{◌≡◌, ◌<◌, [], false, true, None, IfErr, IfSome, OnOk, OnErr};
     ghost use Rattle.plist_base.specs.Events.{ScalarEvent, event_of};
     ghost use Rattle.plist_base.specs.Trees.{String};
     ghost use Rattle.plist_base.specs.Utf16Strings.{string_of_utf16};
-    ghost use Rattle.plist_buffer.specs.WideStrings.{string_of_wide};
+    ghost use Rattle.plist_base.specs.ByteTests.{EachByte};
+    ghost use Rattle.plist_buffer.specs.LongStrings.{string_of_long};
     ghost use Rattle.plist_buffer.specs.StoredScalars.{event_of_small};
     ghost use Rattle.plist_buffer.specs.EventBuffers.{buffered_events, is_whole, misplaced_error, Accepts, BuffersNext, CanTake, RejectsEvent};
     ghost use Rattle.plist_buffer.specs.inner.Expected.{change_on};
@@ -242,28 +244,72 @@ impl EventBuffer {
         Ok(())
     }
 
-    // Buffers a string in UTF-16 that can follow the buffered events, given how it changes what is
-    // expected next.
-    fn hold_wide(
+    // Buffers a string of more than eight bytes that can follow the buffered events, given how it
+    // changes what is expected next.
+    #[inline(always)]
+    fn hold_long(
         &mut self,
         alloc: Global,
-        text: WideStr<'_>,
+        text: LongStr<'_>,
         change: Transition,
     ) -> Result<(), AllocError>
         requires still { is_whole self.old ≡ false }
-        requires accepted { CanTake self.old (ScalarEvent (String (string_of_wide text))) }
+        requires accepted { CanTake self.old (ScalarEvent (String (string_of_long text))) }
         requires change { change
-            ≡ change_on self.old.expects (ScalarEvent (String (string_of_wide text))) }
+            ≡ change_on self.old.expects (ScalarEvent (String (string_of_long text))) }
         ensures taken { OnOk result (BuffersNext self.old
-            (ScalarEvent (String (string_of_wide text.entry))) self.new) }
+            (ScalarEvent (String (string_of_long text.entry))) self.new) }
         ensures unchanged { OnErr result (buffered_events self.new ≡ buffered_events self.old) }
         ensures whole { OnErr result (is_whole self.new ≡ is_whole self.old) }
     {
         self.append_if_any()?;
         self.held.make_room();
-        self.held.copy_wide(alloc, text)?;
+        self.held.copy_long(alloc, text)?;
         self.expects = next_expected(change, self.expects, &self.held);
         Ok(())
+    }
+
+    // Buffers a string of more than eight bytes, which may be a key, if it can follow the buffered
+    // events. Otherwise returns `None` and changes nothing.
+    #[inline(always)]
+    fn try_push_long(&mut self, alloc: Global, text: LongStr<'_>) -> Option<Result<(), PushError>>
+        requires still { is_whole self.old ≡ false }
+        ensures taken { IfSome result (λ answer. OnOk answer (Accepts self.old
+            (ScalarEvent (String (string_of_long text.entry))) self.new)) }
+        ensures refused { IfSome result (λ answer. IfErr answer (RejectsEvent self.old
+            (ScalarEvent (String (string_of_long text.entry))) self.new)) }
+        ensures declined { result ≡ None → self.new ≡ self.old }
+    {
+        let change = change_by_string(self.expects);
+        if let Transition::Refused = change {
+            return None;
+        }
+        match self.hold_long(alloc, text, change) {
+            Ok(()) => Some(Ok(())),
+            Err(error) => Some(Err(PushError::from(error))),
+        }
+    }
+
+    /// Buffers a string in ASCII, which may be a key, given its bytes, if it can follow the
+    /// buffered events, which must not be those of a whole property list. Returns `None` and
+    /// changes nothing if it can't follow them, if a byte isn't ASCII, or if there are at most
+    /// eight bytes: then the string is to be passed to [`EventBuffer::try_push`].
+    ///
+    /// # Errors
+    ///
+    /// `OutOfMemory` if an allocation fails. The buffered events are unchanged then.
+    #[inline(always)]
+    pub fn try_push_ascii(&mut self, alloc: Global, bytes: &[u8]) -> Option<Result<(), PushError>>
+        requires still { is_whole self.old ≡ false }
+        ensures ascii { IfSome result (λ _. EachByte (λ byte. byte < 128) bytes.now) }
+        ensures taken { IfSome result (λ answer. OnOk answer (Accepts self.old
+            (ScalarEvent (String bytes.now)) self.new)) }
+        ensures refused { IfSome result (λ answer. IfErr answer (RejectsEvent self.old
+            (ScalarEvent (String bytes.now)) self.new)) }
+        ensures declined { result ≡ None → self.new ≡ self.old }
+    {
+        let text = AsciiStr::new(bytes)?;
+        self.try_push_long(alloc, LongStr::Ascii(text))
     }
 
     /// Buffers a string in UTF-16, which may be a key, if it can follow the buffered events, which
@@ -286,15 +332,8 @@ impl EventBuffer {
             (ScalarEvent (String (string_of_utf16 text.entry))) self.new)) }
         ensures declined { result ≡ None → self.new ≡ self.old }
     {
-        let change = change_by_string(self.expects);
-        if let Transition::Refused = change {
-            return None;
-        }
         let wide = WideStr::new(text)?;
-        match self.hold_wide(alloc, wide, change) {
-            Ok(()) => Some(Ok(())),
-            Err(error) => Some(Err(PushError::from(error))),
-        }
+        self.try_push_long(alloc, LongStr::Wide(wide))
     }
 
     /// Buffers an event if it can follow the buffered ones, which must not be those of a whole

@@ -12,6 +12,7 @@ pub mod event_buffer;
 pub mod event_table;
 pub mod expects;
 mod long_scalar;
+mod long_str;
 pub mod repeated_keys;
 mod short;
 mod small_scalar;

@@ -1,7 +1,8 @@
 //! The visitor that buffers all events of a property list.
 
-ghost use Rattle.std.specs.Prelude.{◌≡◌, false, true};
+ghost use Rattle.std.specs.Prelude.{◌≡◌, ◌<◌, None, false, true, IfSome, OnOk};
 ghost use Rattle.plist_base.specs.Bracketing.{CanContinue};
+ghost use Rattle.plist_base.specs.ByteTests.{EachByte};
 ghost use Rattle.plist_base.specs.Events.{ScalarEvent, event_of};
 ghost use Rattle.plist_base.specs.Trees.{String};
 ghost use Rattle.plist_base.specs.Utf16Strings.{string_of_utf16};
@@ -37,26 +38,42 @@ fn take(alloc: Global, pending: &mut EventBuffer, event: Event<'_>) -> Result<bo
     }
 }
 
-// Buffers a string in UTF-16 and returns `true`, or returns `false` and changes nothing if the
-// string is to be passed to `take`.
+// Buffers a string in UTF-16, or returns `None` and changes nothing if the string is to be passed
+// to `take`.
 fn take_utf16(
     alloc: Global,
     pending: &mut EventBuffer,
     text: Utf16Str<'_>,
-) -> Result<bool, AllocError>
-    ensures taken { IfOkIs result true (HoldsMore (is_whole pending.new)
+) -> Option<Result<(), PushError>>
+    ensures taken { IfSome result (λ answer. OnOk answer (HoldsMore (is_whole pending.new)
         (buffered_events pending.old)
-        (ScalarEvent (String (string_of_utf16 text.entry))) (buffered_events pending.new)) }
-    ensures declined { IfOkIs result false (pending.new ≡ pending.old) }
+        (ScalarEvent (String (string_of_utf16 text.entry))) (buffered_events pending.new))) }
+    ensures declined { result ≡ None → pending.new ≡ pending.old }
 {
     if pending.is_whole() {
-        return Ok(false);
+        return None;
     }
-    match pending.try_push_utf16(alloc, text) {
-        Some(Ok(())) => Ok(true),
-        Some(Err(_)) => Err(AllocError),
-        None => Ok(false),
+    pending.try_push_utf16(alloc, text)
+}
+
+// Buffers a string in ASCII, given its bytes, or returns `None` and changes nothing if the string
+// is to be passed to `take`.
+#[inline(always)]
+fn take_ascii(
+    alloc: Global,
+    pending: &mut EventBuffer,
+    bytes: &[u8],
+) -> Option<Result<(), PushError>>
+    ensures ascii { IfSome result (λ _. EachByte (λ byte. byte < 128) bytes.now) }
+    ensures taken { IfSome result (λ answer. OnOk answer (HoldsMore (is_whole pending.new)
+        (buffered_events pending.old)
+        (ScalarEvent (String bytes.now)) (buffered_events pending.new))) }
+    ensures declined { result ≡ None → pending.new ≡ pending.old }
+{
+    if pending.is_whole() {
+        return None;
     }
+    pending.try_push_ascii(alloc, bytes)
 }
 
 /// Why a collector wants no more events.
@@ -192,11 +209,20 @@ impl EventVisitor for Collector {
         }
     }
 
+    #[inline(always)]
+    fn ascii_string(&mut self, bytes: &[u8]) -> Option<ControlFlow<()>> {
+        match take_ascii(self.alloc, &mut self.pending, bytes) {
+            Some(Ok(())) => Some(self.go_on()),
+            Some(Err(_)) => Some(self.end(StopReason::Failed(Error::from(AllocError)))),
+            None => None,
+        }
+    }
+
     fn utf16_string(&mut self, text: Utf16Str<'_>) -> Option<ControlFlow<()>> {
         match take_utf16(self.alloc, &mut self.pending, text) {
-            Ok(true) => Some(self.go_on()),
-            Ok(false) => None,
-            Err(error) => Some(self.end(StopReason::Failed(Error::from(error)))),
+            Some(Ok(())) => Some(self.go_on()),
+            Some(Err(_)) => Some(self.end(StopReason::Failed(Error::from(AllocError)))),
+            None => None,
         }
     }
 }

@@ -31,8 +31,8 @@ fn add_word(words: &mut String, word: &str) -> Result<(), AllocError> {
     words.push_str(word)
 }
 
-// Adds the word of each event that it takes, as long as there is memory. The word of a string that it
-// takes in UTF-16 begins with the length of the string in UTF-8.
+// Adds the word of each event that it takes, as long as there is memory. The word of a string that
+// it takes in UTF-16 begins with the length of the string in UTF-8.
 #[derive(Drop)]
 struct Words {
     alloc: Global,

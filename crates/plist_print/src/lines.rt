@@ -59,27 +59,27 @@ pub fn push_bytes(line: &mut FixedBuffer, bytes: &[u8], notation: Notation)
 
 // Pushes the line of a number: a word, its digits and the LF.
 #[inline(always)]
-fn push_number(line: &mut FixedBuffer, word: &[u8], number: u64)
-    requires { length word.now + 21 ≤ room line.old }
+fn push_number<const N: usize>(line: &mut FixedBuffer, word: [u8; N], number: u64)
+    requires { N + 21 ≤ room line.old }
     ensures { buffered line.new
-        ≡ buffered line.old ++ word.now ++ decimal number ++ codes "\n" }
+        ≡ buffered line.old ++ word.entry ++ decimal number ++ codes "\n" }
 {
-    line.push(word);
+    line.push_array(word);
     line.push_decimal(number);
     line.push(b"\n");
 }
 
 // Pushes the line of a start: its word, the number of items or pairs if it is known, and the LF.
 #[inline(always)]
-fn push_start(line: &mut FixedBuffer, word: &[u8], count: Option<u64>)
-    requires { length word.now + 22 ≤ room line.old }
+fn push_start<const N: usize>(line: &mut FixedBuffer, word: [u8; N], count: Option<u64>)
+    requires { N + 22 ≤ room line.old }
     ensures { buffered line.new
-        ≡ buffered line.old ++ text_of_start word.now count ++ codes "\n" }
+        ≡ buffered line.old ++ text_of_start word.entry count ++ codes "\n" }
 {
-    line.push(word);
+    line.push_array(word);
     match count {
         None => line.push(b"\n"),
-        Some(count) => push_number(line, b" ", count),
+        Some(count) => push_number(line, *b" ", count),
     }
 }
 
@@ -117,7 +117,7 @@ fn push_integer(line: &mut FixedBuffer, integer: Integer)
         ≡ buffered line.old ++ codes "Integer " ++ signed_decimal integer ++ codes "\n" }
 {
     match integer.as_unsigned() {
-        Some(number) => push_number(line, b"Integer ", number),
+        Some(number) => push_number(line, *b"Integer ", number),
         None => push_negative(line, integer.as_signed().unwrap()),
     }
 }
@@ -129,9 +129,9 @@ fn push_boolean(line: &mut FixedBuffer, value: bool)
     ensures { buffered line.new ≡ buffered line.old ++ line_of (ScalarEvent (Boolean value)) }
 {
     if value {
-        line.push(b"Boolean true\n");
+        line.push_array(*b"Boolean true\n");
     } else {
-        line.push(b"Boolean false\n");
+        line.push_array(*b"Boolean false\n");
     }
 }
 
@@ -191,14 +191,14 @@ pub fn push_short(line: &mut FixedBuffer, short: ShortLine)
     ensures { buffered line.new ≡ buffered line.old ++ line_of (event_of_short short) }
 {
     match short {
-        ShortLine::Array(length) => push_start(line, b"StartArray", length),
-        ShortLine::Dictionary(length) => push_start(line, b"StartDictionary", length),
-        ShortLine::End => line.push(b"EndCollection\n"),
+        ShortLine::Array(length) => push_start(line, *b"StartArray", length),
+        ShortLine::Dictionary(length) => push_start(line, *b"StartDictionary", length),
+        ShortLine::End => line.push_array(*b"EndCollection\n"),
         ShortLine::Boolean(value) => push_boolean(line, value),
         ShortLine::Date(date) => push_date_line(line, date),
         ShortLine::Integer(value) => push_integer(line, value),
         ShortLine::Real(bits) => push_real_line(line, bits),
-        ShortLine::Uid(uid) => push_number(line, b"Uid ", uid.get()),
+        ShortLine::Uid(uid) => push_number(line, *b"Uid ", uid.get()),
     }
 }
 

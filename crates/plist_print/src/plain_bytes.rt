@@ -1,7 +1,8 @@
 //! The printed form of a string: an escape for `"`, `\` and any byte that isn't printable ASCII,
 //! and any other byte as it is.
 
-ghost use Rattle.std.specs.Prelude.{◌≡◌, ◌++◌, ◌+◌, ◌*◌, ◌≤◌, false, length, true};
+ghost use Rattle.std.specs.Prelude.{◌≡◌, ◌++◌, ◌+◌, ◌*◌, ◌<◌, ◌≤◌, false, length, true};
+ghost use Rattle.plist_base.specs.ByteTests.{EachByte};
 ghost use Rattle.plist_base.specs.Events.{ScalarEvent};
 ghost use Rattle.plist_base.specs.Sinks.{buffered, room};
 ghost use Rattle.plist_base.specs.Trees.{String};
@@ -139,13 +140,26 @@ fn push_escaped_line(line: &mut FixedBuffer, text: &[u8])
     line.push(b"\"\n");
 }
 
-/// Pushes the line of a string. A string that needs no escape is tested and copied in one pass.
+/// Pushes the line of a string that needs no escape, and returns `true`. If the string needs one,
+/// this function returns `false` and pushes nothing. The string is tested and copied in one pass.
+#[inline(always)]
+pub fn push_plain_line(line: &mut FixedBuffer, text: &[u8]) -> bool
+    requires { length text.now + 64 ≤ room line.old }
+    ensures pushed { result ≡ true
+        → buffered line.new ≡ buffered line.old ++ line_of (ScalarEvent (String text.now)) }
+    ensures ascii { result ≡ true → EachByte (λ byte. byte < 128) text.now }
+    ensures unchanged { result ≡ false → line.new ≡ line.old }
+{
+    line.push_passing::<Plain, 8, 2>(*b"String \"", text, *b"\"\n")
+}
+
+/// Pushes the line of a string.
 #[inline(always)]
 pub fn push_text_line(line: &mut FixedBuffer, text: &[u8])
     requires { 4 * length text.now + 64 ≤ room line.old }
     ensures { buffered line.new ≡ buffered line.old ++ line_of (ScalarEvent (String text.now)) }
 {
-    if !line.push_passing::<Plain, 8, 2>(*b"String \"", text, *b"\"\n") {
+    if !push_plain_line(line, text) {
         push_escaped_line(line, text);
     }
 }

@@ -11,6 +11,7 @@ ghost use Rattle.plist_print.specs.PrintRuns.{PrintsRun};
 use crate::lines::{
     MAX_FIXED_LINE, Notation, ShortLine, push_bytes, push_data, push_short, push_string,
 };
+use crate::plain_bytes::push_plain_line;
 use crate::utf16::push_chars;
 use plist_base::{
     Date, Error, ErrorKind, Event, EventSource, EventVisitor, Integer, RealBits, Sink, Uid,
@@ -361,6 +362,19 @@ impl<'p, W: Write> EventVisitor for Printer<'p, W> {
     #[inline(always)]
     fn uid(&mut self, uid: Uid) -> ControlFlow<()> {
         self.print_short(ShortLine::Uid(uid))
+    }
+
+    // A string that doesn't fit into the room is left to `string`, which makes room first.
+    #[inline(always)]
+    fn ascii_string(&mut self, bytes: &[u8]) -> Option<ControlFlow<()>> {
+        let room = self.sink.room();
+        if room < MAX_FIXED_LINE || bytes.len() > room - MAX_FIXED_LINE {
+            return None;
+        }
+        if push_plain_line(self.sink.buffer, bytes) {
+            return Some(ControlFlow::Continue(()));
+        }
+        None
     }
 
     #[inline(always)]

@@ -1,11 +1,12 @@
 //! Appends copies of events to a table.
 
-ghost use Rattle.std.specs.Prelude.{◌≡◌, ◌<◌, length, OnOk, OnErr};
+ghost use Rattle.std.specs.Prelude.{◌≡◌, ◌<◌, true, length, OnOk, OnErr};
 ghost use Rattle.plist_base.specs.Events.{ScalarEvent};
 
 use super::EventTable;
 use crate::entries::EventEntry;
 use crate::long_scalar::LongScalar;
+use crate::long_str::LongStr;
 use crate::small_scalar::SmallScalar;
 use crate::wide::{WideStr, is_ascii_text};
 use plist_base::Event;
@@ -16,7 +17,50 @@ impl EventTable<'static> {
     ghost use Rattle.std.specs.Cow.{cow_slice_items, cow_str_bytes};
     ghost use Rattle.plist_base.specs.Trees.{Data as DataScalar, String as StringScalar};
     ghost use Rattle.plist_buffer.specs.EventTable.{plain_event, plain_events, GrowsBy};
+    ghost use Rattle.plist_buffer.specs.AsciiTexts.{is_ascii_text};
+    ghost use Rattle.plist_buffer.specs.LongStrings.{string_of_long};
     ghost use Rattle.plist_buffer.specs.WideStrings.{string_of_wide};
+
+    // Appends a string in ASCII of more than eight bytes, which is copied unless an equal one is
+    // stored.
+    fn copy_ascii(&mut self, alloc: Global, text: &str) -> Result<(), AllocError>
+        requires long { 8 < length text.now }
+        requires ascii { is_ascii_text text.now ≡ true }
+        ensures events { OnOk result (GrowsBy self.old
+            (ScalarEvent (StringScalar text.now)) self.new) }
+        ensures unchanged { OnErr result (plain_events self.new ≡ plain_events self.old) }
+    {
+        if let Some(index) = self.find_long(&LongScalar::borrowed_ascii(text)) {
+            return self.repeat_long(index);
+        }
+        self.push_long(LongScalar::copy_of_ascii(alloc, text)?)
+    }
+
+    // Appends a string in UTF-16, which is copied unless an equal one is stored.
+    fn copy_wide(&mut self, alloc: Global, text: WideStr<'_>) -> Result<(), AllocError>
+        ensures events { OnOk result (GrowsBy self.old
+            (ScalarEvent (StringScalar (string_of_wide text.entry))) self.new) }
+        ensures unchanged { OnErr result (plain_events self.new ≡ plain_events self.old) }
+    {
+        if let Some(index) = self.find_long(&LongScalar::borrowed_wide(text)) {
+            return self.repeat_long(index);
+        }
+        self.push_long(LongScalar::copy_of_wide(alloc, text)?)
+    }
+
+    // Appends a string in the form in which it is stored. It is copied unless an equal one is
+    // stored.
+    #[inline(always)]
+    pub(crate) fn copy_long(&mut self, alloc: Global, text: LongStr<'_>) -> Result<(), AllocError>
+        ensures events { OnOk result (GrowsBy self.old
+            (ScalarEvent (StringScalar (string_of_long text.entry))) self.new) }
+        ensures unchanged { OnErr result (plain_events self.new ≡ plain_events self.old) }
+    {
+        match text {
+            LongStr::Ascii(ascii) => self.copy_ascii(alloc, ascii.get()),
+            LongStr::Wide(wide) => self.copy_wide(alloc, wide),
+        }
+    }
 
     // Appends a string of more than eight bytes. It is encoded if it isn't ASCII, and otherwise
     // copied unless an equal one is stored.
@@ -26,25 +70,10 @@ impl EventTable<'static> {
             (ScalarEvent (StringScalar text.now)) self.new) }
         ensures unchanged { OnErr result (plain_events self.new ≡ plain_events self.old) }
     {
-        if !is_ascii_text(text) {
-            return self.push_long(LongScalar::encode(alloc, text)?);
+        if is_ascii_text(text) {
+            return self.copy_ascii(alloc, text);
         }
-        if let Some(index) = self.find_long(&LongScalar::borrowed_ascii(text)) {
-            return self.repeat_long(index);
-        }
-        self.push_long(LongScalar::copy_of_ascii(alloc, text)?)
-    }
-
-    // Appends a string in UTF-16, which is copied unless an equal one is stored.
-    pub(crate) fn copy_wide(&mut self, alloc: Global, text: WideStr<'_>) -> Result<(), AllocError>
-        ensures events { OnOk result (GrowsBy self.old
-            (ScalarEvent (StringScalar (string_of_wide text.entry))) self.new) }
-        ensures unchanged { OnErr result (plain_events self.new ≡ plain_events self.old) }
-    {
-        if let Some(index) = self.find_long(&LongScalar::borrowed_wide(text)) {
-            return self.repeat_long(index);
-        }
-        self.push_long(LongScalar::copy_of_wide(alloc, text)?)
+        self.push_long(LongScalar::encode(alloc, text)?)
     }
 
     // Appends data of more than eight bytes, which is copied unless equal data is stored.

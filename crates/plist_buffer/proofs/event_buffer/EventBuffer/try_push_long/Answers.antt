@@ -1,0 +1,42 @@
+use Rattle.std.proofs.Common.{◌∙◌}
+use Rattle.plist_base.specs.Events.{ScalarEvent}
+use Rattle.plist_base.specs.Trees.{String}
+use Rattle.plist_buffer.specs.LongStrings.{string_of_long}
+use Rattle.plist_buffer.specs.EventBuffers.{CanTake}
+use Rattle.plist_buffer.proofs.Expectations.{can_take, is_accepted}
+use Rattle.plist_buffer.proofs.event_buffer.EventBuffer.try_push_long.Goals as goal
+use Rattle.plist_buffer.proofs.event_buffer.EventBuffer.try_push_long.Goals.{In_default}
+
+-- the string can follow the buffered events
+can_follow : (c : In_default)
+    → CanTake c.args.self.now (ScalarEvent (String (string_of_long c.args.text)))
+can_follow c =
+    let text = string_of_long c.args.text in
+    can_take c.args.self.now (ScalarEvent (String text)) c.requires.still
+    (is_accepted _ (λ refused. c.in_default.not-Refused
+    (c.change_by_string-change.ensures text ∙ refused)))
+
+pub hold_long-requires : goal.hold_long-requires
+hold_long-requires c = record {
+  still = c.requires.still;
+  accepted = can_follow (goal.at.hold_long-requires c).In_default;
+  change = c.change_by_string-change.ensures (string_of_long c.args.text);
+}
+
+pub returns-in-Ok : goal.returns-in-Ok
+returns-in-Ok c = record {
+  taken = (can_follow (goal.at.returns-in-Ok c).In_default, c.in-Ok.ensures.taken);
+  refused = tt;
+  declined = λ none. cc;
+}
+
+pub returns-in-Err : goal.returns-in-Err
+returns-in-Err c = record {
+  taken = tt;
+  refused = rw c.from.ensures (
+    can_follow (goal.at.returns-in-Err c).In_default,
+    c.in-Err.ensures.unchanged,
+    c.in-Err.ensures.whole,
+  );
+  declined = λ none. cc;
+}
