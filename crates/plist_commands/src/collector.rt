@@ -101,7 +101,8 @@ pub(crate) struct Collector {
 
 impl Collector {
     ghost use Rattle.std.specs.Prelude.{[]};
-    ghost use Rattle.plist_commands.specs.CollectorSteps.{AnswersVisit, HasPaused, MayPause, collected, is_complete};
+    ghost use Rattle.plist_base.specs.Trees.{Data};
+    ghost use Rattle.plist_commands.specs.CollectorSteps.{AnswersVisit, CollectsEvent, HasPaused, MayPause, collected, is_complete};
 
     /// Creates a collector that has taken no event.
     pub(crate) fn new(alloc: Global) -> Collector
@@ -136,6 +137,24 @@ impl Collector {
             return self.end(StopReason::Paused);
         }
         ControlFlow::Continue(())
+    }
+
+    // Takes data that is borrowed. In this function the compiler knows that it is. Otherwise the
+    // event would be copied through memory on its way to the buffer. The function isn't inlined,
+    // since the memory of its event would be zeroed for other events, too.
+    #[inline(never)]
+    fn take_slice(&mut self, bytes: &[u8]) -> ControlFlow<()>
+        ensures { CollectsEvent self.old (ScalarEvent (Data bytes.now)) result self.new }
+    {
+        self.event(Event::Data(CowSlice::Borrowed(bytes)))
+    }
+
+    // Takes a string that is borrowed, as `take_slice` takes data.
+    #[inline(never)]
+    fn take_str(&mut self, text: &str) -> ControlFlow<()>
+        ensures { CollectsEvent self.old (ScalarEvent (String text.now)) result self.new }
+    {
+        self.event(Event::String(CowStr::Borrowed(text)))
     }
 
     /// Returns whether the collector paused in a visit with this result.
@@ -193,18 +212,18 @@ impl EventVisitor for Collector {
         }
     }
 
-    // Borrowed and owned contents are passed on by separate calls, in each of which the compiler
-    // knows the kind. Otherwise the event would be copied through memory on its way to the buffer.
+    #[inline(always)]
     fn data(&mut self, bytes: CowSlice<'_, u8>) -> ControlFlow<()> {
         match bytes {
-            CowSlice::Borrowed(borrowed) => self.event(Event::Data(CowSlice::Borrowed(borrowed))),
+            CowSlice::Borrowed(borrowed) => self.take_slice(borrowed),
             CowSlice::Owned(owned) => self.event(Event::Data(CowSlice::Owned(owned))),
         }
     }
 
+    #[inline(always)]
     fn string(&mut self, text: CowStr<'_>) -> ControlFlow<()> {
         match text {
-            CowStr::Borrowed(borrowed) => self.event(Event::String(CowStr::Borrowed(borrowed))),
+            CowStr::Borrowed(borrowed) => self.take_str(borrowed),
             CowStr::Owned(owned) => self.event(Event::String(CowStr::Owned(owned))),
         }
     }

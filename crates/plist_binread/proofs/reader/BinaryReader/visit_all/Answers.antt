@@ -1,7 +1,7 @@
-use Rattle.std.proofs.Common.{◌≡◌, Ok, ◌∷◌, ◌++◌, [], rules}
+use Rattle.std.proofs.Common.{◌≡◌, ◌∙◌, Ok, ◌∷◌, ◌++◌, [], rules, sym}
 use Rattle.std.specs.declared.ops.ControlFlow.TheVariants.{Continue, Break}
 use Rattle.plist_base.proofs.Visits.{hands_more}
-use Rattle.plist_binread.proofs.reader.BinaryReaderEventSource.visit.Goals as goal
+use Rattle.plist_binread.proofs.reader.BinaryReader.visit_all.Goals as goal
 
 pub loop-turn-preserved : goal.loop-turn-preserved
 loop-turn-preserved g c =
@@ -9,8 +9,11 @@ loop-turn-preserved g c =
     let is : c.in-Some.turn ≡ Ok (Continue (tt {0})) = search rules in
     let turn = rw is at c.in-Some.ensures in (
       so_far.0 ++ turn.0 ∷ [],
-      hands_more _ _ (c.args.self.now, c.args.visitor.now) (c.loop-turn.self, c.loop-turn.visitor)
-          (c.turn.new.self, c.turn.new.visitor) so_far.0 turn.0 so_far.1 turn.1,
+      (
+        hands_more _ _ (c.args.self.now, c.args.visitor.now) (c.loop-turn.self, c.loop-turn.visitor)
+            (c.turn.new.self, c.turn.new.visitor) so_far.0 turn.0 so_far.1.0 turn.1,
+        so_far.1.1 ∙ sym turn.1.given.gives.kept.0,
+      ),
     )
 
 pub returns-in-Ok-Break : goal.returns-in-Ok-Break
@@ -19,7 +22,7 @@ returns-in-Ok-Break g c =
     let so_far = c.loop-turn.invariant in record {
       events = so_far.0;
       left = (c.loop-turn.self, c.loop-turn.visitor);
-      handed = so_far.1;
+      handed = so_far.1.0;
       ended = rw is at c.in-Some.ensures;
     }
 
@@ -30,7 +33,7 @@ returns-in-Err g c =
     record {
       events = so_far.0;
       left = (c.loop-turn.self, c.loop-turn.visitor);
-      handed = so_far.1;
+      handed = so_far.1.0;
       ended = rw c.take_error.ensures (search turn);
     }
 
@@ -39,6 +42,6 @@ returns g c =
     let so_far = c.loop-turn.invariant in record {
       events = so_far.0;
       left = (c.loop-turn.self, c.loop-turn.visitor);
-      handed = so_far.1;
+      handed = so_far.1.0;
       ended = c.in_default.ensures;
     }
