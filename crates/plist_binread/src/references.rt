@@ -55,8 +55,8 @@ impl Run {
     }
 
     /// Replaces the bytes of the run with those that the source has buffered from an offset on. The
-    /// run is empty if the source has buffered fewer than 40 bytes. This isn't so for a reference
-    /// near the end of a file, since the trailer follows it, except in the smallest files.
+    /// run is empty if the source has buffered fewer than 40 bytes there: in the smallest files,
+    /// after a short read, or if the source buffers little.
     #[inline(never)]
     pub fn fill<S: Source>(&mut self, source: &S, place: u64)
         ensures { IsRunOf (S.known source.now) self.new }
