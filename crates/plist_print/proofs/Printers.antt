@@ -1,6 +1,7 @@
 -- What is written for the events that a printer takes.
-use Rattle.std.proofs.Common.{◌≡◌, ℕ, List, [], Option, None, Some, Result, Ok, Err, sym, ◌∙◌, append-nil}
+use Rattle.std.proofs.Common.{◌≡◌, ◌++◌, ℕ, List, [], Option, None, Some, Result, Ok, Err, sym, ◌∙◌, append-nil}
 use Rattle.std.specs.Io.KnownBytes.{Appends}
+use Rattle.std.specs.declared.ops.ControlFlow.TheVariants.{Break, Continue}
 use Rattle.std.specs.Prelude.{IfErr, OnOk}
 use Rattle.plist_base.specs.declared.error.Error.{Error}
 use Rattle.plist_base.specs.declared.sink.Sink.{Sink}
@@ -9,12 +10,12 @@ use Rattle.plist_base.specs.Events.{PlainEvent}
 use Rattle.plist_base.specs.Faults.{Io, fault_without_offset, fault_of}
 use Rattle.plist_base.specs.Prefixes.{AppendsPrefix}
 use Rattle.plist_base.specs.Sinks.{Puts, pending, written}
-use Rattle.plist_base.specs.Visits.{HandsOverAll, PlainItem, Visits}
+use Rattle.plist_base.specs.Visits.{Flow, HandsOverAll, PlainItem, Visits}
 use Rattle.plist_base.proofs.WriterBytes.{Appends-at}
-use Rattle.plist_base.proofs.SinkSteps.{same_itself, same_then}
+use Rattle.plist_base.proofs.SinkSteps.{puts_as, puts_then, same_itself, same_then}
 use Rattle.plist_base.proofs.Visits.{kept_all}
 use Rattle.plist_print.specs.declared.printer.Printer.{Printer}
-use Rattle.plist_print.specs.Printers.{IsSamePrinter, PrintsLine, pending_lines, printed}
+use Rattle.plist_print.specs.Printers.{IsSamePrinter, PrintsBytes, PrintsLine, pending_lines, printed, printer_sink}
 use Rattle.plist_print.specs.PrintRuns.{PrintsRun}
 use Rattle.plist_print.proofs.Runs.{HasRun, run_more, run_none, run_stopped}
 
@@ -40,6 +41,15 @@ module _ {W : Type 0} (contents : W → Option (List ℕ)) where
     fault = put.follows.0;
     prefix = rw (append-nil (pending old)) at put.follows.1;
   }
+
+-- bytes are put into the sink, and then the printer prints more
+pub prints_then : {W : Type 0} {contents : W → Option (List ℕ)} (a b c : Printer W)
+    {xs all : List ℕ} (ys : List ℕ) (flow : Flow) → xs ++ ys ≡ all
+    → Puts contents (printer_sink a) xs (Ok tt) (printer_sink b)
+    → PrintsBytes contents b ys flow c → PrintsBytes contents a all flow c
+prints_then a b c ys (Continue more) is put rest = puts_as is (puts_then put rest)
+prints_then a b c ys (Break stop) is put (error, stops, rest) =
+    (error, stops, puts_as is (puts_then put rest))
 
 module _ {I W : Type 0} (yields : I → PlainItem → I → Type 0) (contents : W → Option (List ℕ)) where
   -- the events that were yielded so far were printed
@@ -98,14 +108,14 @@ module _ {I W : Type 0} (yields : I → PlainItem → I → Type 0) (contents : 
   -- the printer stopped because a write failed
   pub visited_stopped : (old new : I × Printer W) → pending_lines old.1 ≡ []
       → Visits yields (PrintsLine contents) old (Ok Stopped) new
-      → PrintsRun yields old.0 (Err new.1.failure) new.0 (printed contents old.1)
-      (printed contents new.1)
+      → PrintsRun yields old.0 new.1.result new.0 (printed contents old.1) (printed contents new.1)
       × IsSamePrinter old.1 new.1
   visited_stopped old new none visit =
       let ran = ran_all old visit.left visit.events none visit.handed in
-      let (event, one) = visit.ended in (
-        run_stopped yields old.0 visit.left.0 new.0 event (printed contents old.1)
+      let (event, one) = visit.ended in
+      let (error, is, put) = one.taken in (
+        rw is (run_stopped yields old.0 visit.left.0 new.0 event (printed contents old.1)
             (printed contents visit.left.1) (printed contents new.1) (pending_lines visit.left.1)
-            new.1.failure ran.0 one.given one.taken.follows.0 one.taken.follows.1,
-        same_then ran.1 one.taken.same,
+            error ran.0 one.given put.follows.0 put.follows.1),
+        same_then ran.1 put.same,
       )

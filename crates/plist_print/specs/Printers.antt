@@ -7,9 +7,8 @@ use Rattle.plist_base.specs.declared.sink.Sink.{Sink}
 use Rattle.plist_base.specs.Events.{PlainEvent}
 use Rattle.plist_base.specs.Faults.{Io, fault_without_offset, fault_of}
 use Rattle.plist_base.specs.Prefixes.{AppendsPrefix}
-use Rattle.plist_base.specs.Sinks.{IsSameSink, PutsBytes, buffered, pending, written}
+use Rattle.plist_base.specs.Sinks.{IsSameSink, Puts, buffered, pending, written}
 use Rattle.plist_base.specs.Visits.{Flow}
-use Rattle.plist_base.specs.Writing.{Answer}
 use Rattle.plist_print.specs.declared.printer.Printer.{Printer}
 use Rattle.plist_print.specs.EscapedLines.{line_of}
 
@@ -25,21 +24,19 @@ pending_lines printer = buffered printer.sink.buffer.now
 abbrev pub IsSamePrinter : {W : Type 0} → (old new : Printer W) → Type 0
 IsSamePrinter old new = IsSameSink (printer_sink old) (printer_sink new)
 
--- the result of putting bytes into the sink: `Ok` if the printer continues, and its failure if it
--- stops
-abbrev pub answer_of_flow : Flow → (failure : Error) → Answer
-answer_of_flow (Continue more) failure = Ok tt
-answer_of_flow (Break stop) failure = Err (fault_of failure)
-
 module _ {W : Type 0} (contents : W → Option (List ℕ)) where
   -- the bytes of the writer, if they are known
   abbrev pub printed : Printer W → Option (List ℕ)
   printed printer = contents printer.sink.writer.now
 
-  -- the bytes are put into the sink, after the pending lines
+  -- the bytes are put into the sink, after the pending lines; or a write fails, and the printer
+  -- stops and its result is the error
   abbrev pub PrintsBytes : (old : Printer W) → (bytes : List ℕ) → Flow → (new : Printer W) → Type 0
-  PrintsBytes old bytes flow new =
-      PutsBytes contents (printer_sink old) bytes (answer_of_flow flow new.failure) (printer_sink new)
+  PrintsBytes old bytes (Continue more) new =
+      Puts contents (printer_sink old) bytes (Ok tt) (printer_sink new)
+  PrintsBytes old bytes (Break stop) new =
+      (error : Error) × (new.result ≡ Err error)
+      × Puts contents (printer_sink old) bytes (Err error) (printer_sink new)
 
   -- the line of the event is put into the sink
   abbrev pub PrintsLine : (old : Printer W) → PlainEvent → Flow → (new : Printer W) → Type 0

@@ -14,8 +14,8 @@ use crate::lines::{
 use crate::plain_bytes::push_plain_line;
 use crate::utf16::push_chars;
 use plist_base::{
-    Date, Error, ErrorKind, Event, EventSource, EventVisitor, Integer, RealBits, Sink, Uid,
-    Utf16Chars, Utf16Str, Visited,
+    Date, Error, Event, EventSource, EventVisitor, Integer, RealBits, Sink, Uid, Utf16Chars,
+    Utf16Str, Visited,
 };
 use std::borrow::{CowSlice, CowStr};
 use std::io::Write;
@@ -88,8 +88,8 @@ fn put_parts<W: Write>(sink: &mut Sink<'_, W>, line: &Parts<'_>) -> Result<(), E
 #[derive(Drop)]
 pub struct Printer<'p, W> {
     sink: Sink<'p, W>,
-    // The error of the failed write that stopped the printer; unspecified until a write fails.
-    failure: Error,
+    // The error of the write that failed and stopped the printer, or `Ok`.
+    result: Result<(), Error>,
 }
 
 impl<'p, W: Write> Printer<'p, W> {
@@ -102,7 +102,7 @@ impl<'p, W: Write> Printer<'p, W> {
     {
         Printer {
             sink,
-            failure: ErrorKind::OutOfMemory.without_position(),
+            result: Ok(()),
         }
     }
 
@@ -117,7 +117,7 @@ impl<'p, W: Write> Printer<'p, W> {
         match self.sink.write_pending() {
             Ok(()) => ControlFlow::Continue(()),
             Err(error) => {
-                self.failure = error;
+                self.result = Err(error);
                 ControlFlow::Break(())
             }
         }
@@ -161,7 +161,7 @@ impl<'p, W: Write> Printer<'p, W> {
         match put_parts(&mut self.sink, line) {
             Ok(()) => ControlFlow::Continue(()),
             Err(error) => {
-                self.failure = error;
+                self.result = Err(error);
                 ControlFlow::Break(())
             }
         }
@@ -253,23 +253,12 @@ impl<'p, W: Write> Printer<'p, W> {
         }
     }
 
-    // Takes the error that stopped the printer.
-    fn take_failure(&mut self) -> Error
-        ensures failure { result ≡ self.old.failure }
-        ensures sink { self.new.sink ≡ self.old.sink }
-    {
-        mem::replace(&mut self.failure, ErrorKind::OutOfMemory.without_position())
-    }
-
     // Writes the pending lines after the last event.
     fn finish(&mut self) -> Result<(), Error>
         ensures put { Puts W.contents (printer_sink self.old) [] result (printer_sink self.new) }
         ensures empty { OnOk result (pending_lines self.new ≡ []) }
     {
-        match self.write_pending() {
-            ControlFlow::Continue(()) => Ok(()),
-            ControlFlow::Break(()) => Err(self.take_failure()),
-        }
+        self.sink.write_pending()
     }
 
     // Writes the lines that are pending when an error occurs. Returns this error, or the error of
@@ -293,7 +282,7 @@ impl<'p, W: Write> Printer<'p, W> {
     {
         match source.visit(self) {
             Ok(Visited::Ended) => self.finish(),
-            Ok(Visited::Stopped) => Err(self.take_failure()),
+            Ok(Visited::Stopped) => mem::replace(&mut self.result, Ok(())),
             Err(error) => Err(self.finish_before(error)),
         }
     }

@@ -31,17 +31,15 @@ returns-in-Ok-Ended-clause-same g c =
 pub returns-in-Ok-Stopped-clause-ran : goal.returns-in-Ok-Stopped-clause-ran
 returns-in-Ok-Stopped-clause-ran g c =
     let is : c.visit.result ≡ Ok Stopped = search rules in
-    rw (c.take_failure.ensures.failure, c.take_failure.ensures.sink)
+    rw c.replace.ensures.value
     (visited_stopped g.I.EventSource.yields g.W.Write.contents (c.args.source.now, c.args.self.now)
     (c.visit.new.self, c.visit.new.visitor) c.requires.empty (rw is at c.visit.ensures)).0
 
 pub returns-in-Ok-Stopped-clause-same : goal.returns-in-Ok-Stopped-clause-same
 returns-in-Ok-Stopped-clause-same g c =
     let is : c.visit.result ≡ Ok Stopped = search rules in
-    let same = (visited_stopped g.I.EventSource.yields g.W.Write.contents
-    (c.args.source.now, c.args.self.now) (c.visit.new.self, c.visit.new.visitor) c.requires.empty
-    (rw is at c.visit.ensures)).1 in
-    rw c.take_failure.ensures.sink same
+    (visited_stopped g.I.EventSource.yields g.W.Write.contents (c.args.source.now, c.args.self.now)
+    (c.visit.new.self, c.visit.new.visitor) c.requires.empty (rw is at c.visit.ensures)).1
 
 pub returns-in-Err-clause-ran : goal.returns-in-Err-clause-ran
 returns-in-Err-clause-ran g c =

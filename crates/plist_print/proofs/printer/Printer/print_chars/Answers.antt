@@ -28,10 +28,13 @@ returns-in-Break g c =
     let i = c.loop-self.invariant in
     let pushed = c.push_chars.ensures.pushed in
     let rest = chars_left c.push_chars.new.chars in
-    puts_as (chars_parts i.done pushed.front rest (codes "\"\n") i.left pushed.left)
-    (puts_front (escaped_chars rest ++ codes "\"\n") (puts_then (puts_then i.put
-    (puts_pending (record { writer = refl; buffer = refl }) refl pushed.pushed refl))
-    c.in-Break.ensures.put))
+    let (error, is, put) = c.in-Break.ensures.put in (
+      error,
+      is,
+      puts_as (chars_parts i.done pushed.front rest (codes "\"\n") i.left pushed.left)
+          (puts_front (escaped_chars rest ++ codes "\"\n") (puts_then (puts_then i.put
+          (puts_pending (record { writer = refl; buffer = refl }) refl pushed.pushed refl)) put)),
+    )
 
 pub returns : goal.returns
 returns g c =

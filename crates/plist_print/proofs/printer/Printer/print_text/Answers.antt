@@ -1,5 +1,4 @@
-use Rattle.std.proofs.Common.{Err, refl}
-use Rattle.plist_base.proofs.SinkSteps.{puts_refused}
+use Rattle.plist_base.proofs.SinkSteps.{puts_front}
 use Rattle.plist_base.specs.Events.{ScalarEvent}
 use Rattle.plist_base.specs.Trees.{String}
 use Rattle.plist_print.specs.EscapedLines.{line_of}
@@ -7,5 +6,5 @@ use Rattle.plist_print.proofs.printer.Printer.print_text.Goals as goal
 
 pub returns-in-Break : goal.returns-in-Break
 returns-in-Break g c =
-    let failure = c.make_room.new.self.failure in
-    puts_refused (line_of (ScalarEvent (String c.args.text.now))) (Err failure) failure refl c.in-Break.ensures.put
+    let (error, is, put) = c.in-Break.ensures.put in
+    (error, is, puts_front (line_of (ScalarEvent (String c.args.text.now))) put)
