@@ -1,0 +1,1 @@
+use Rattle.plist_binwrite.proofs.classes.after_last_start.Goals as goal
