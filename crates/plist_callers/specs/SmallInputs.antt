@@ -34,6 +34,6 @@ empty_array = file "a009 0809" (trailer 1 1 2 0 10)
 unfoldable pub four_byte_real : List ℕ
 four_byte_real = file "223fc00000 08" (trailer 1 1 1 0 13)
 
--- a block comment that contains a star, and then the start of an array
+-- a block comment that begins with `/*/` and contains another star, and then the start of an array
 unfoldable pub comment_and_array : List ℕ
-comment_and_array = codes "/* * */("
+comment_and_array = codes "/*/ * */("

@@ -3,7 +3,7 @@ use Rattle.std.specs.Prelude.{◌-◌, ◌^◌}
 use Rattle.plist_ascii.specs.AsciiReader.{place_of}
 use Rattle.plist_ascii.specs.Texts.{ends_bare}
 use Rattle.plist_callers.proofs.SmallInputs.{no_string_first}
-use Rattle.plist_callers.proofs.ascii.comment_closed_by_any_byte.Goals as goal
+use Rattle.plist_callers.proofs.ascii.comment_closed_too_early.Goals as goal
 
 pub returns-in-Some-Ok-String : goal.returns-in-Some-Ok-String
 returns-in-Some-Ok-String c =
