@@ -4,7 +4,7 @@ use Rattle.std.proofs.lemmas.List.{drop-drop}
 use Rattle.plist_base.specs.Faults.{FaultKind, IncompleteComment}
 use Rattle.plist_base.specs.Events.{PlainEvent}
 use Rattle.plist_ascii.specs.declared.input.Input.{Input}
-use Rattle.plist_ascii.specs.TokenPrefixes.{Taken, taken, run, past, past_one}
+use Rattle.plist_ascii.specs.TokenPrefixes.{code_of, Taken, taken, run, past, past_one}
 use Rattle.plist_ascii.specs.Unread.{unread, IfKnown}
 use Rattle.plist_ascii.proofs.TokenOutcomes.{TakesFront}
 use Rattle.std.proofs.lemmas.Bool.{eq-eqb}
@@ -138,9 +138,9 @@ past_more n t =
     let e : suc (n + t.bytes) ≡ suc n + t.bytes = omega arith in ap (λ n. taken n t.gives) e
 
 abbrev pub is_star : ℕ → Bool
-is_star c = c == 42
+is_star c = c == code_of "*"
 
-not_star_past : (c : ℕ) (cs : List ℕ) → (c == 42) ≡ false
+not_star_past : (c : ℕ) (cs : List ℕ) → (c == code_of "*") ≡ false
     → block_comment (c ∷ cs) ≡ past_one (block_comment cs)
 not_star_past c cs e = rw e (after_star c cs false (close_at cs))
 
@@ -151,12 +151,13 @@ OpenPast xs k = block_comment xs ≡ past k (block_comment (drop k xs))
 -- a comment isn't closed before its first star
 plain_run : (xs : List ℕ) → OpenPast xs (run is_star xs)
 plain_run [] = past_none _
-plain_run (c ∷ cs) = by_star (c == 42) refl (plain_run cs)
+plain_run (c ∷ cs) = by_star (c == code_of "*") refl (plain_run cs)
   where
     n : ℕ
     n = run is_star cs
 
-    by_star : (b : Bool) → (c == 42) ≡ b → OpenPast cs n → OpenPast (c ∷ cs) (run is_star (c ∷ cs))
+    by_star : (b : Bool) → (c == code_of "*") ≡ b → OpenPast cs n
+        → OpenPast (c ∷ cs) (run is_star (c ∷ cs))
     by_star true e h =
         let none : run is_star (c ∷ cs) ≡ 0 = rw e refl in
         subst (OpenPast (c ∷ cs)) (sym none) (past_none (block_comment (c ∷ cs)))
@@ -185,7 +186,7 @@ stop_next stop (b ∷ bs) c zs e = by_stop (stop b) refl (λ h. stop_next stop b
         on (rw (t, one) at e)
 
 module _ (xs : List ℕ) {c : ℕ} {zs : List ℕ} (e : drop (run is_star xs) xs ≡ c ∷ zs) where
-  star_here : (c == 42) ≡ true
+  star_here : (c == code_of "*") ≡ true
   star_here = stop_next is_star xs c zs e
 
   at_star : {t : Token} → block_comment (c ∷ zs) ≡ t → block_comment xs ≡ past (run is_star xs) t
@@ -194,7 +195,7 @@ module _ (xs : List ℕ) {c : ℕ} {zs : List ℕ} (e : drop (run is_star xs) xs
       ∙ ap (past (run is_star xs)) h
 
   -- a slash after the star closes the comment
-  pub star_closes : {ws : List ℕ} {new : Option (List ℕ)} → zs ≡ 47 ∷ ws → new ≡ Some ws
+  pub star_closes : {ws : List ℕ} {new : Option (List ℕ)} → zs ≡ code_of "/" ∷ ws → new ≡ Some ws
       → (block_comment xs ≡ taken (run is_star xs + 2) (Ok None))
       × (new ≡ Some (drop (run is_star xs + 2) xs))
   star_closes {ws} s u =
@@ -203,7 +204,7 @@ module _ (xs : List ℕ) {c : ℕ} {zs : List ℕ} (e : drop (run is_star xs) xs
       (at_star closes, u ∙ ap Some (sym rest ∙ drop-drop 2 (run is_star xs) xs))
 
   -- without a slash after the star, the comment isn't closed
-  pub star_opens : {new : Option (List ℕ)} → begins_with 47 zs ≡ false → new ≡ Some zs
+  pub star_opens : {new : Option (List ℕ)} → begins_with (code_of "/") zs ≡ false → new ≡ Some zs
       → OpenPast xs (run is_star xs + 1) × (new ≡ Some (drop (run is_star xs + 1) xs))
   star_opens s u =
       let opens : block_comment (c ∷ zs) ≡ past_one (block_comment zs) =

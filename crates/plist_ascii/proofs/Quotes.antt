@@ -6,7 +6,7 @@ use Rattle.std.proofs.lemmas.Bool.{eq-eqb}
 use Rattle.std.proofs.lemmas.List.{drop-drop}
 use Rattle.plist_base.specs.Faults.{FaultKind}
 use Rattle.std.specs.Result.{result_map_both}
-use Rattle.plist_ascii.specs.TokenPrefixes.{Taken, taken, past, past_one, followed, run}
+use Rattle.plist_ascii.specs.TokenPrefixes.{code_of, Taken, taken, past, past_one, followed, run}
 use Rattle.plist_ascii.specs.Escapes.{escape}
 use Rattle.plist_ascii.specs.Texts.{prepended, ends_run, quoted_in, quoted}
 use Rattle.plist_ascii.specs.inner.Parts.{QuotesPart, run_end}
@@ -51,7 +51,7 @@ one_more n part t =
 -- what the byte c begins, given how the rest of the string is taken
 abbrev step : (quote : ℕ) → (more : List ℕ → Taken (List ℕ)) → ℕ → List ℕ → Taken (List ℕ)
 step quote more c rest =
-    cond (c == quote) (taken 0 (Ok [])) (cond (c == 92)
+    cond (c == quote) (taken 0 (Ok [])) (cond (c == code_of "\\")
     (followed rest (escape rest).bytes (escape rest).gives (λ text left. prepended text (more left)))
     (prepended (c ∷ []) (more rest)))
 
@@ -68,8 +68,9 @@ step_same quote c xs f g h =
     let e = escape xs in
     let less : length (drop e.bytes xs) ≤ length xs = rw length-drop (omega arith) in
     ap (λ t. past_one (cond (c == quote) (taken 0 (Ok []))
-    (cond (c == 92) t (prepended (c ∷ []) (f xs))))) (then_same e.bytes e.gives xs f g (h _ less))
-    ∙ ap (λ t. past_one (cond (c == quote) (taken 0 (Ok [])) (cond (c == 92)
+    (cond (c == code_of "\\") t (prepended (c ∷ []) (f xs)))))
+    (then_same e.bytes e.gives xs f g (h _ less))
+    ∙ ap (λ t. past_one (cond (c == quote) (taken 0 (Ok [])) (cond (c == code_of "\\")
     (followed xs e.bytes e.gives (λ text left. prepended text (g left))) (prepended (c ∷ []) t))))
     (h xs (omega arith))
 
@@ -104,7 +105,7 @@ neither true b e = cc
 plain_opens : (quote c : ℕ) (xs : List ℕ) → ends_run quote c ≡ false
     → quoted quote (c ∷ xs) ≡ past_one (prepended (c ∷ []) (quoted quote xs))
 plain_opens quote c xs e =
-    let h = neither (c == quote) (c == 92) e in
+    let h = neither (c == quote) (c == code_of "\\") e in
     quoted_opens quote c xs ∙ rw (h.0, h.1) refl
 
 -- the bytes of a run stand for themselves
@@ -207,7 +208,7 @@ end_opens quote (c ∷ ys) r = by_test (c == quote) refl
         → quoted quote (c ∷ ys) ≡ after_end quote (c ∷ ys) (run_end quote (c ∷ ys))
     by_test true e = quoted_opens quote c ys ∙ rw e refl
     by_test false e =
-        let slash : (c == 92) ≡ true = rw e at (stops_here (ends_run quote) c ys r) in
+        let slash : (c == code_of "\\") ≡ true = rw e at (stops_here (ends_run quote) c ys r) in
         quoted_opens quote c ys
         ∙ rw (e, slash) (escaped quote (c ∷ ys) ys (escape ys).bytes (escape ys).gives refl)
 

@@ -5,7 +5,7 @@ use Rattle.plist_ascii.specs.inner.Inputs.{Means, said}
 use Rattle.std.specs.Str.{is_utf8}
 use Rattle.plist_ascii.specs.declared.fault.TokenFault.{TokenFault}
 use Rattle.plist_ascii.specs.declared.fault.TokenFault.TheVariants as fault
-use Rattle.plist_base.specs.Faults.{InvalidUtf8AsciiStream, FaultKind}
+use Rattle.plist_base.specs.Faults.{InvalidUtf16String, InvalidUtf8AsciiStream, FaultKind}
 use Rattle.plist_base.specs.Events.{PlainEvent, ScalarEvent, event_of}
 use Rattle.plist_base.specs.Trees.{Integer, Scalar, String}
 use Rattle.std.specs.Option.{option_map_or}
@@ -15,8 +15,8 @@ use Rattle.plist_ascii.specs.Texts.{Token, utf8_or_fault, bare, bare_event, quot
 use Rattle.plist_ascii.specs.Ascii.{IsTextEvent, IsTextFault, IsTextToken, lead_of, token_by}
 use lib.Utf8.{low_scalar}
 use Rattle.std.specs.Char.{IsScalar, is_digit}
-use Rattle.plist_ascii.specs.TokenPrefixes.{Taken, taken, past_one, followed, needs, run}
-use Rattle.plist_ascii.specs.Escapes.{is_surrogate, bad_unit, escape, escape_by, simple_escape, octal_text, unit, unit_of, first_unit, second_unit, second_letter, second_digits, pair_text}
+use Rattle.plist_ascii.specs.TokenPrefixes.{code_of, Taken, taken, past_one, followed, needs, run}
+use Rattle.plist_ascii.specs.Escapes.{is_surrogate, escape, simple_escape, octal_text, code_unit, unit_of, low_half, unicode_escape, pair_text}
 use Rattle.plist_ascii.specs.declared.token.Lead.{Lead}
 use Rattle.plist_ascii.specs.Unread.{IfKnown}
 use Rattle.std.proofs.lemmas.Bool.{ne_eqb}
@@ -82,33 +82,30 @@ either_in : {A : Type 0} (b : Bool) (r s : Result A FaultKind) → InText r → 
 either_in true r s h k = h
 either_in false r s h k = k
 
-unit_in : (xs : List ℕ) → InText (unit xs).gives
-unit_in xs = needs_in 4 (λ ds. Ok (unit_of ds)) xs (λ ds. tt)
+unit_value_in : (o : Option ℕ) → InText (option_map_or Ok o (Err InvalidUtf16String))
+unit_value_in None = tt
+unit_value_in (Some unit) = tt
 
-pair_in : (high : ℕ) (low : Option ℕ) → InText (pair_text high low)
-pair_in high None = tt
-pair_in high (Some low) = either_in _ (Ok _) (Err _) tt tt
+unit_in : (xs : List ℕ) → InText (code_unit xs).gives
+unit_in xs =
+    needs_in 4 (λ ds. option_map_or Ok (unit_of ds) (Err InvalidUtf16String)) xs
+    (λ ds. unit_value_in (unit_of ds))
 
-digits_in : (high : ℕ) (xs : List ℕ) → InText (second_digits high xs).gives
-digits_in high xs =
-    followed_in xs (unit xs).bytes (unit xs).gives (λ low _. taken 0 (pair_text high low))
-    (unit_in xs) (λ low _. pair_in high low)
+half_in : (xs : List ℕ) → InText (low_half xs).gives
+half_in [] = tt
+half_in (c ∷ []) = tt
+half_in (c ∷ letter ∷ xs) =
+    cond_in _ (past_one (past_one (code_unit xs))) (taken 1 (Err InvalidUtf16String)) (unit_in xs) tt
 
-letter_in : (high : ℕ) (xs : List ℕ) → InText (second_letter high xs).gives
-letter_in high [] = tt
-letter_in high (c ∷ xs) =
-    cond_in _ (past_one (second_digits high xs)) (bad_unit 0)
-    (digits_in high xs) tt
+pair_in : (high low : ℕ) → InText (pair_text high low)
+pair_in high low = either_in _ (Ok _) (Err _) tt tt
 
-second_in : (high : ℕ) (xs : List ℕ) → InText (second_unit high xs).gives
-second_in high [] = tt
-second_in high (c ∷ xs) =
-    cond_in _ (second_letter high xs) (bad_unit 0) (letter_in high xs) tt
-
-first_in : (u : Option ℕ) (xs : List ℕ) → InText (first_unit u xs).gives
-first_in None xs = tt
-first_in (Some u) xs =
-    cond_in (is_surrogate u) (second_unit u xs) (taken 0 (Ok (encode_utf8 u))) (second_in u xs) tt
+unicode_in : (xs : List ℕ) → InText (unicode_escape xs).gives
+unicode_in xs =
+    followed_in xs (code_unit xs).bytes (code_unit xs).gives _ (unit_in xs) (λ unit ys.
+    let pair = followed_in ys (low_half ys).bytes (low_half ys).gives
+    (λ low _. taken 0 (pair_text unit low)) (half_in ys) (λ low _. pair_in unit low) in
+    cond_in (is_surrogate unit) _ (taken 0 (Ok (encode_utf8 unit))) pair tt)
 
 simple_in : (o : Option ℕ)
     → InText (option_map_or (λ byte. Ok (byte ∷ [])) o (Err InvalidUtf8AsciiStream))
@@ -119,17 +116,13 @@ octal_in : (digits : List ℕ) → InText (octal_text digits)
 unfolding octal_text
 octal_in digits = either_in _ (Ok _) (Err _) tt tt
 
-by_in : (c : ℕ) (xs : List ℕ) → InText (escape_by c xs).gives
-by_in c xs =
-    let u = followed_in xs (unit xs).bytes (unit xs).gives first_unit (unit_in xs) first_in in
-    let o = needs_in 2 (λ ds. octal_text (c ∷ ds)) xs (λ ds. octal_in (c ∷ ds)) in
-    let s = simple_in (simple_escape c) in
-    cond_in _ _ _ u (cond_in (is_digit c 8) _ _ o s)
-
 escape_in : (xs : List ℕ) → InText (escape xs).gives
 unfolding escape
 escape_in [] = tt
-escape_in (c ∷ xs) = by_in c xs
+escape_in (c ∷ xs) =
+    let o = needs_in 2 (λ ds. octal_text (c ∷ ds)) xs (λ ds. octal_in (c ∷ ds)) in
+    let s = simple_in (simple_escape c) in
+    cond_in _ _ _ (unicode_in xs) (cond_in (is_digit c 8) _ _ o s)
 
 with_in : (front : List ℕ) (r : Result (List ℕ) FaultKind) → InText r
     → InText (result_map_both (λ more. front ++ more) (λ fault. fault) r)
@@ -145,7 +138,8 @@ quoted_in_text quote (suc fuel) (c ∷ xs) =
     (λ text left. prepended text (quoted_in quote fuel left)) (escape_in xs)
     (λ text left. with_in text (quoted_in quote fuel left).gives (quoted_in_text quote fuel left)) in
     let plain = with_in (c ∷ []) (quoted_in quote fuel xs).gives (quoted_in_text quote fuel xs) in
-    cond_in (c == quote) (taken 0 (Ok [])) _ tt (cond_in (c == 92) _ (prepended (c ∷ []) _) e plain)
+    cond_in (c == quote) (taken 0 (Ok [])) _ tt
+    (cond_in (c == code_of "\\") _ (prepended (c ∷ []) _) e plain)
 
 outcome_wants : (r : Result (List ℕ) FaultKind) → InText r → IsTextToken (result_flatten
     (result_map_both quoted_event (λ fault. fault) r))
@@ -158,15 +152,16 @@ quoted_wants quote xs = outcome_wants (quoted quote xs).gives (quoted_in_text _ 
 
 -- a slash begins a bare string, unless the next byte is a slash or a star
 pub bare_looked : (stops : ℕ → Bool) (old mid : Option (List ℕ)) (c : ℕ)
-    → IfKnown old (λ xs. (mid ≡ Some xs) × (Some c ≡ slice_get xs 0)) → c ≢ 47 → c ≢ 42
-    → IfKnown old (λ xs. (mid ≡ Some xs) × (slash stops xs ≡ bare stops 47 xs))
+    → IfKnown old (λ xs. (mid ≡ Some xs) × (Some c ≡ slice_get xs 0))
+    → c ≢ code_of "/" → c ≢ code_of "*"
+    → IfKnown old (λ xs. (mid ≡ Some xs) × (slash stops xs ≡ bare stops (code_of "/") xs))
 bare_looked stops old mid c looked a b =
     λ xs e. let h = looked xs e in
     (h.0, rw (first_splits _ xs h.1, ne_eqb _ _ a, ne_eqb _ _ b) refl)
 
-pub slash_wants : (stops : ℕ → Bool) (xs : List ℕ) → slash stops xs ≡ bare stops 47 xs
+pub slash_wants : (stops : ℕ → Bool) (xs : List ℕ) → slash stops xs ≡ bare stops (code_of "/") xs
     → IsTextToken (slash stops xs).gives
-slash_wants stops xs e = rw e (bare_wants _ 47 xs)
+slash_wants stops xs e = rw e (bare_wants _ (code_of "/") xs)
 
 -- ---- how the parts of a string determine its meaning
 

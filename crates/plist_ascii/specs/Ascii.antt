@@ -1,11 +1,11 @@
 -- The tokens of an old-style ASCII property list, their items, and the events and faults there are.
-use Rattle.std.specs.Prelude.{◌≡◌, ◌⊎◌, ℕ, zero, suc, ◌+◌, Bool, if◌then◌else◌, List, [], ◌∷◌, length, drop, map, slice_get, Option, None, Some, Result, Ok, Err, IsSomeAnd, MatchResult, ⊤}
+use Rattle.std.specs.Prelude.{◌≡◌, ◌⊎◌, ℕ, zero, suc, ◌+◌, Bool, ◌==◌, if◌then◌else◌, List, [], ◌∷◌, length, drop, map, slice_get, Option, None, Some, Result, Ok, Err, IsSomeAnd, MatchResult, ⊤}
 use Rattle.plist_base.specs.Events.{PlainEvent, StartArray, StartDictionary, EndCollection, Item, ScalarEvent}
 use Rattle.plist_base.specs.Faults.{FaultKind, IncompleteComment, InvalidOctalString, InvalidUtf16String, InvalidUtf8AsciiStream, UnclosedString, fault_at}
 use Rattle.plist_base.specs.Trees.{Integer, String}
 use Rattle.plist_ascii.specs.declared.token.Lead.{Lead}
 use Rattle.plist_ascii.specs.declared.token.Lead.TheVariants as lead
-use Rattle.plist_ascii.specs.TokenPrefixes.{is_one_of, taken, past_one}
+use Rattle.plist_ascii.specs.TokenPrefixes.{code_of, is_one_of, taken, past_one}
 use Rattle.plist_ascii.specs.Texts.{Token, bare, lax_stops, quoted_token, slash}
 
 -- ---- tokens
@@ -17,9 +17,9 @@ is_blank c = is_one_of ",;= \r\t\n" c
 -- what a byte begins: nothing, a start, an end, a quoted string, a comment or a bare string
 abbrev pub lead_of : ℕ → Lead
 lead_of c =
-    if is_blank c then lead.Blank else if is_one_of "(" c then lead.ArrayStart
-    else if is_one_of "{" c then lead.DictionaryStart else if is_one_of ")}" c then lead.End
-    else if is_one_of "'\"" c then lead.Quote else if is_one_of "/" c then lead.Slash else lead.Bare
+    if is_blank c then lead.Blank else if c == code_of "(" then lead.ArrayStart
+    else if c == code_of "{" then lead.DictionaryStart else if is_one_of ")}" c then lead.End
+    else if is_one_of "'\"" c then lead.Quote else if c == code_of "/" then lead.Slash else lead.Bare
 
 -- the token that c begins, without c itself
 abbrev pub token_by : (stops : ℕ → Bool) → Lead → ℕ → List ℕ → Token

@@ -9,7 +9,7 @@ use Rattle.plist_base.specs.Trees.{Scalar, Integer, String}
 use Rattle.plist_base.specs.IntegerText.{integer_of_text}
 use Rattle.plist_ascii.specs.declared.dialect.Dialect.{Dialect}
 use Rattle.plist_ascii.specs.declared.dialect.Dialect.TheVariants as dialect
-use Rattle.plist_ascii.specs.TokenPrefixes.{Taken, after_byte, followed, is_one_of, past_one, run, taken}
+use Rattle.plist_ascii.specs.TokenPrefixes.{Taken, after_byte, code_of, in_sequence, is_one_of, past_one, run, taken}
 use Rattle.plist_ascii.specs.Escapes.{escape}
 
 -- a token: the number of bytes taken, and an event, no event or a fault
@@ -54,7 +54,7 @@ bare stops c rest = taken (run stops rest) (bare_event (c ∷ take (run stops re
 
 -- does a byte end a run of plain bytes, as the quote and a backslash do?
 abbrev pub ends_run : ℕ → ℕ → Bool
-ends_run quote c = (c == quote) || (c == 92)
+ends_run quote c = (c == quote) || (c == code_of "\\")
 
 -- the bytes `front` precede what a string denotes
 abbrev pub prepended : (front : List ℕ) → Taken (List ℕ) → Taken (List ℕ)
@@ -67,8 +67,8 @@ unfoldable pub quoted_in : (quote fuel : ℕ) → List ℕ → Taken (List ℕ)
 quoted_in quote zero = λ bytes. taken 0 (Err UnclosedString)
 quoted_in quote (suc fuel) = after_byte (λ c rest.
     if c == quote then taken 0 (Ok [])
-    else if c == 92 then followed rest (escape rest).bytes (escape rest).gives
-    (λ text left. prepended text (quoted_in quote fuel left))
+    else if c == code_of "\\" then
+    in_sequence escape (λ text left. prepended text (quoted_in quote fuel left)) rest
     else prepended (c ∷ []) (quoted_in quote fuel rest))
 
 -- the bytes of a quoted string up to its closing quote, or its first fault
@@ -84,7 +84,7 @@ quoted_token quote rest = taken (quoted quote rest).bytes
 
 -- a line comment, up to the LF, which isn't taken
 abbrev pub line_comment : List ℕ → Token
-line_comment rest = taken (run (λ c. c == 10) rest) (Ok None)
+line_comment rest = taken (run (λ c. c == code_of "\n") rest) (Ok None)
 
 -- is c the first byte?
 abbrev pub begins_with : ℕ → List ℕ → Bool
@@ -95,7 +95,7 @@ begins_with c (d ∷ rest) = d == c
 abbrev pub close_at : List ℕ → Option ℕ
 close_at [] = None
 close_at (c ∷ rest) =
-    if (c == 42) && begins_with 47 rest then Some 0 else option_map suc (close_at rest)
+    if (c == code_of "*") && begins_with (code_of "/") rest then Some 0 else option_map suc (close_at rest)
 
 -- a block comment, up to and including the first `*/`
 abbrev pub block_comment : List ℕ → Token
@@ -106,5 +106,6 @@ block_comment rest = option_map_or (λ place. taken (suc (suc place)) (Ok None))
 abbrev pub slash : (stops : ℕ → Bool) → List ℕ → Token
 slash stops [] = taken 0 (Err IncompleteComment)
 slash stops (c ∷ rest) =
-    if c == 47 then past_one (line_comment rest)
-    else if c == 42 then past_one (block_comment rest) else bare stops 47 (c ∷ rest)
+    if c == code_of "/" then past_one (line_comment rest)
+    else if c == code_of "*" then past_one (block_comment rest)
+    else bare stops (code_of "/") (c ∷ rest)

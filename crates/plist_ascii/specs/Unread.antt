@@ -8,6 +8,7 @@ use Rattle.plist_base.specs.Sources.{Rises}
 use Rattle.plist_ascii.specs.declared.input.Input.{Input}
 use Rattle.plist_ascii.specs.declared.stop.Stop.{Stop}
 use Rattle.plist_ascii.specs.declared.stop.Stop.TheVariants as stop
+use Rattle.plist_ascii.specs.TokenPrefixes.{code_of}
 use Rattle.plist_ascii.specs.Texts.{ends_bare, ends_run}
 use Rattle.plist_ascii.specs.Ascii.{is_blank}
 
@@ -45,6 +46,6 @@ IfKnown known P = (bytes : List ℕ) → known ≡ Some bytes → P bytes
 abbrev pub stops : Stop → ℕ → Bool
 stops stop.Lead c = not (is_blank c)
 stops (stop.Bare dialect) c = ends_bare dialect c
-stops stop.LineEnd c = c == 10
-stops stop.Star c = c == 42
+stops stop.LineEnd c = c == code_of "\n"
+stops stop.Star c = c == code_of "*"
 stops (stop.Quoted quote) c = ends_run quote c

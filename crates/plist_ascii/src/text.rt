@@ -1,8 +1,9 @@
 //! Bare strings, and the meaning of strings.
 
-ghost use Rattle.std.specs.Prelude.{◌≡◌, ◌==◌, ◌||◌, ◌+◌, ◌≤◌, [], ◌∷◌, ◌++◌, None, Some, Ok, Err, false, true, IfOk, IfErr, OnOk, string_bytes};
+ghost use Rattle.std.specs.Prelude.{◌≡◌, ◌||◌, ◌+◌, ◌≤◌, [], ◌∷◌, ◌++◌, None, Some, Ok, Err, false, true, IfOk, IfErr, OnOk, string_bytes};
 ghost use Rattle.plist_base.specs.IntegerText.{integer_of_text};
 ghost use Rattle.plist_base.specs.Events.{ScalarEvent, event_of};
+ghost use Rattle.plist_ascii.specs.TokenPrefixes.{is_one_of};
 ghost use Rattle.plist_ascii.specs.Texts.{bare, bare_event, quoted_event, scalar_of_text};
 ghost use Rattle.plist_ascii.specs.Ascii.{IsTextEvent};
 ghost use Rattle.plist_ascii.specs.Unread.{stops};
@@ -49,7 +50,7 @@ fn is_decimal(byte: u8) -> bool
 
 // Returns whether this byte is a sign or a decimal digit.
 fn begins_number(byte: u8) -> bool
-    ensures { result ≡ (byte == 43) || ((byte == 45) || is_digit byte 10) }
+    ensures { result ≡ is_one_of "+-" byte || is_digit byte 10 }
 {
     byte == b'+' || byte == b'-' || is_decimal(byte)
 }

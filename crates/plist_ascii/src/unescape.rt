@@ -5,7 +5,7 @@ ghost use Rattle.std.specs.Char.{digit_value, is_digit};
 ghost use Rattle.std.specs.Char.Utf16.{is_high_surrogate, is_low_surrogate};
 ghost use Rattle.plist_base.specs.Faults.{InvalidOctalString, InvalidUtf16String};
 ghost use Rattle.plist_ascii.specs.TokenPrefixes.{is_one_of};
-ghost use Rattle.plist_ascii.specs.Escapes.{simple_escape, octal, octal_char, octal_text, unit, unit_of, is_surrogate, pair_text, first_unit, second_unit, second_letter, second_digits, unicode, escape, escape_by};
+ghost use Rattle.plist_ascii.specs.Escapes.{simple_escape, octal_escape, octal_char, octal_text, code_unit, unit_of, is_surrogate, pair_text, low_half, unicode_escape, escape};
 ghost use Rattle.plist_ascii.specs.inner.Inputs.{CountsFailed, GivesBy};
 ghost use Rattle.plist_ascii.specs.inner.Parts.{IsCharOr, escaped_bytes};
 
@@ -49,13 +49,13 @@ fn simple_of(byte: u8) -> Option<u8>
         b'\\' => Some(b'\\'),
         b'"' => Some(b'"'),
         b'\'' => Some(b'\''),
-        b'a' => Some(7),
-        b'b' => Some(8),
-        b'f' => Some(12),
-        b'n' => Some(10),
-        b'r' => Some(13),
-        b't' => Some(9),
-        b'v' => Some(11),
+        b'a' => Some(b'\x07'),
+        b'b' => Some(b'\x08'),
+        b'f' => Some(b'\x0C'),
+        b'n' => Some(b'\n'),
+        b'r' => Some(b'\r'),
+        b't' => Some(b'\t'),
+        b'v' => Some(b'\x0B'),
         _ => None,
     }
 }
@@ -140,12 +140,10 @@ fn is_pair(high: u16, low: u16) -> bool
     (0xD800..0xDC00).contains(&high) && (0xDC00..0xE000).contains(&low)
 }
 
-// Returns the character of a surrogate pair, or `None` if the units aren't one. The low half is
-// `None` if its digits are invalid.
-fn pair_char(high: u16, low: Option<u16>) -> Option<char>
+// Returns the character of a surrogate pair, or `None` if the units aren't one.
+fn pair_char(high: u16, low: u16) -> Option<char>
     ensures { IsCharOr InvalidUtf16String (pair_text high low) result }
 {
-    let low = low?;
     if !is_pair(high, low) {
         return None;
     }
@@ -159,20 +157,11 @@ impl<R: ByteReader> Input<R> {
         ensures failures { CountsFailed R.failures self.old result self.new }
     {
         let byte = self.expect_byte()?;
-        self.escape_by(byte)
-    }
-
-    // Takes the rest of an escape, whose backslash and first byte have been taken.
-    fn escape_by(&mut self, byte: u8) -> Result<Escaped, TokenFault>
-        ensures answers { GivesBy R.remaining escaped_bytes (escape_by byte) self.old
-            result self.new }
-        ensures failures { CountsFailed R.failures self.old result self.new }
-    {
         if byte == b'U' {
-            return self.unicode();
+            return self.unicode_escape();
         }
         if is_octal(byte) {
-            return self.octal(byte);
+            return self.octal_escape(byte);
         }
         match simple_of(byte) {
             Some(other) => Ok(Escaped::Byte(other)),
@@ -180,9 +169,10 @@ impl<R: ByteReader> Input<R> {
         }
     }
 
-    // Takes the second and the third byte of an octal escape.
-    fn octal(&mut self, first: u8) -> Result<Escaped, TokenFault>
-        ensures answers { GivesBy R.remaining escaped_bytes (octal first) self.old result self.new }
+    // Takes the rest of an octal escape, whose first digit has been taken.
+    fn octal_escape(&mut self, first: u8) -> Result<Escaped, TokenFault>
+        ensures answers { GivesBy R.remaining escaped_bytes (octal_escape first) self.old
+            result self.new }
         ensures failures { CountsFailed R.failures self.old result self.new }
     {
         let second = self.expect_byte()?;
@@ -193,84 +183,58 @@ impl<R: ByteReader> Input<R> {
         }
     }
 
-    // Takes the four digits of a unit. Returns `None` if one of the bytes isn't a hexadecimal
-    // digit.
-    fn unit(&mut self) -> Result<Option<u16>, TokenFault>
-        ensures answers { GivesBy R.remaining (λ u. u) unit self.old result self.new }
+    // Takes the unit or the surrogate pair after `\U`, and returns its character.
+    fn unicode_escape(&mut self) -> Result<Escaped, TokenFault>
+        ensures answers { GivesBy R.remaining escaped_bytes unicode_escape self.old
+            result self.new }
+        ensures failures { CountsFailed R.failures self.old result self.new }
+    {
+        let unit = self.code_unit()?;
+        match lone_char(unit) {
+            Some(c) => Ok(Escaped::Char(c)),
+            None => {
+                let low = self.low_half()?;
+                match pair_char(unit, low) {
+                    Some(c) => Ok(Escaped::Char(c)),
+                    None => Err(TokenFault::InvalidUtf16),
+                }
+            }
+        }
+    }
+
+    // Takes the four hexadecimal digits of a unit. All four are taken before they are checked.
+    fn code_unit(&mut self) -> Result<u16, TokenFault>
+        ensures answers { GivesBy R.remaining (λ u. u) code_unit self.old result self.new }
         ensures failures { CountsFailed R.failures self.old result self.new }
     {
         let a = self.expect_byte()?;
         let b = self.expect_byte()?;
         let c = self.expect_byte()?;
         let d = self.expect_byte()?;
-        Ok(unit_of(a, b, c, d))
-    }
-
-    // Takes the unit or the surrogate pair after `\U`.
-    fn unicode(&mut self) -> Result<Escaped, TokenFault>
-        ensures answers { GivesBy R.remaining escaped_bytes unicode self.old result self.new }
-        ensures failures { CountsFailed R.failures self.old result self.new }
-    {
-        let unit = self.unit()?;
-        self.first_unit(unit)
-    }
-
-    // Takes the second unit if the first is a surrogate, and returns the character. The first unit
-    // is `None` if its digits are invalid.
-    fn first_unit(&mut self, unit: Option<u16>) -> Result<Escaped, TokenFault>
-        ensures answers { GivesBy R.remaining escaped_bytes (first_unit unit) self.old
-            result self.new }
-        ensures failures { CountsFailed R.failures self.old result self.new }
-    {
-        let Some(unit) = unit else {
-            return Err(TokenFault::InvalidUtf16);
-        };
-        match lone_char(unit) {
-            Some(c) => Ok(Escaped::Char(c)),
-            None => self.second_unit(unit),
-        }
-    }
-
-    // Takes the second unit of a surrogate pair: a backslash, a letter and digits.
-    fn second_unit(&mut self, high: u16) -> Result<Escaped, TokenFault>
-        ensures answers { GivesBy R.remaining escaped_bytes (second_unit high) self.old
-            result self.new }
-        ensures failures { CountsFailed R.failures self.old result self.new }
-    {
-        if self.expect_byte()? == b'\\' {
-            return self.second_letter(high);
-        }
-        Err(TokenFault::InvalidUtf16)
-    }
-
-    // Takes the letter and the digits of the second unit. A byte other than the letter is an error,
-    // and isn't taken.
-    fn second_letter(&mut self, high: u16) -> Result<Escaped, TokenFault>
-        ensures answers { GivesBy R.remaining escaped_bytes (second_letter high) self.old
-            result self.new }
-        ensures failures { CountsFailed R.failures self.old result self.new }
-    {
-        match self.peek()? {
-            Some(byte) => {
-                if is_unit_letter(byte) {
-                    self.take_first(1);
-                    return self.second_digits(high);
-                }
-                Err(TokenFault::InvalidUtf16)
-            }
+        match unit_of(a, b, c, d) {
+            Some(unit) => Ok(unit),
             None => Err(TokenFault::InvalidUtf16),
         }
     }
 
-    // Takes the digits of the second unit, and returns the character of the pair.
-    fn second_digits(&mut self, high: u16) -> Result<Escaped, TokenFault>
-        ensures answers { GivesBy R.remaining escaped_bytes (second_digits high) self.old
-            result self.new }
+    // Takes the second half of a surrogate pair: a backslash, `u` or `U`, and a unit. The byte after
+    // the backslash is taken only if it is `u` or `U`.
+    fn low_half(&mut self) -> Result<u16, TokenFault>
+        ensures answers { GivesBy R.remaining (λ u. u) low_half self.old result self.new }
         ensures failures { CountsFailed R.failures self.old result self.new }
     {
-        let low = self.unit()?;
-        match pair_char(high, low) {
-            Some(c) => Ok(Escaped::Char(c)),
+        let first = self.expect_byte()?;
+        if first != b'\\' {
+            return Err(TokenFault::InvalidUtf16);
+        }
+        match self.peek()? {
+            Some(byte) => {
+                if is_unit_letter(byte) {
+                    self.take_first(1);
+                    return self.code_unit();
+                }
+                Err(TokenFault::InvalidUtf16)
+            }
             None => Err(TokenFault::InvalidUtf16),
         }
     }

@@ -10,7 +10,7 @@ use Rattle.plist_ascii.specs.declared.token.Lead.TheVariants as lead
 use Rattle.plist_ascii.specs.declared.unescape.Escaped.{Escaped}
 use Rattle.plist_ascii.specs.declared.unescape.Escaped.TheVariants as piece
 use Rattle.plist_ascii.specs.Ascii.{is_blank, lead_of, token_by}
-use Rattle.plist_ascii.specs.TokenPrefixes.{Taken, after_byte, followed, past, past_one, run, taken}
+use Rattle.plist_ascii.specs.TokenPrefixes.{Taken, after_byte, in_sequence, past, past_one, run, taken}
 use Rattle.plist_ascii.specs.Escapes.{escape}
 use Rattle.plist_ascii.specs.Texts.{ends_run, prepended, quoted}
 
@@ -27,7 +27,7 @@ IsCharOr fault outcome char =
 -- what follows a run of plain bytes: the closing quote, or an escape, and what it denotes
 abbrev pub run_end : (quote : ℕ) → List ℕ → Taken (Option (List ℕ))
 run_end quote = after_byte (λ c rest. if c == quote then taken 0 (Ok None)
-    else followed rest (escape rest).bytes (escape rest).gives (λ text _. taken 0 (Ok (Some text))))
+    else in_sequence escape (λ text _. taken 0 (Ok (Some text))) rest)
 
 -- the first n bytes of a string stand for `part`; after them it is closed, or continues
 abbrev pub QuotesPart : (quote : ℕ) → (closed : Bool) → (part bytes : List ℕ) → (n : ℕ) → Type 0
