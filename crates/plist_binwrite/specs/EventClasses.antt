@@ -24,21 +24,21 @@ scalar_class held index =
 abbrev pub class_in : Classed → (index : ℕ) → ℕ
 class_in given = elim given.classes.now [
   | EqualScalars ↦ scalar_class given.events.now
-  | Listed by_event bound ↦ nth_number by_event
+  | Listed list ↦ nth_number list.by_event
 ]
 
 -- an exclusive upper bound of the classes
 abbrev pub bound_in : Classed → ℕ
 bound_in given = elim given.classes.now [
   | EqualScalars ↦ length (scalars_of given.events.now) + length (events_in given)
-  | Listed by_event bound ↦ bound
+  | Listed list ↦ list.bound
 ]
 
 -- if the classes are listed, the list has one for each event
 abbrev pub IsListed : Classed → Type 0
 IsListed given = elim given.classes.now [
   | EqualScalars ↦ ⊤
-  | Listed by_event bound ↦ length by_event ≡ length (events_in given)
+  | Listed list ↦ length list.by_event ≡ length (events_in given)
 ]
 
 -- each event has a class below the bound, and trees of one class have the same object

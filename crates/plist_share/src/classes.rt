@@ -13,18 +13,9 @@ ghost use Rattle.plist_share.specs.inner.Nodes.{SeparatesAll, Extends, node_of, 
 use indexmap::IndexSet;
 use plist_base::{CompactNumbers, EventShape};
 use plist_binwrite::EventTable;
-use plist_binwrite::classes::{Classed, Classes};
+use plist_binwrite::classes::{ClassList, Classed, Classes};
 use plist_buffer::children::{Children, Half};
 use std::alloc::{AllocError, Global};
-
-/// The class of each event, and an exclusive upper bound of the classes.
-#[derive(Drop)]
-pub struct TreeClasses {
-    /// The class of each event, at the event's index.
-    pub by_event: CompactNumbers,
-    /// An exclusive upper bound of the classes.
-    pub bound: usize,
-}
 
 /// A collection, described by its kind and the classes of its children.
 #[derive(PartialEq, Eq, Hash, Drop)]
@@ -110,7 +101,7 @@ fn begins_dictionary(events: &EventTable<'_>, index: usize) -> bool
 fn class_of_collection(
     alloc: Global,
     events: &EventTable<'_>,
-    found: &TreeClasses,
+    found: &ClassList,
     index: usize,
     collections: &mut IndexSet<Collection>,
 ) -> Result<usize, AllocError>
@@ -142,7 +133,7 @@ fn assign_class(
     alloc: Global,
     events: &EventTable<'_>,
     index: usize,
-    found: &mut TreeClasses,
+    found: &mut ClassList,
     collections: &mut IndexSet<Collection>,
 ) -> Result<(), AllocError>
     requires index { index < length (plain_events events.now) }
@@ -170,7 +161,7 @@ fn assign_class(
 fn assign_classes(
     alloc: Global,
     events: &EventTable<'_>,
-    found: &mut TreeClasses,
+    found: &mut ClassList,
     collections: &mut IndexSet<Collection>,
 ) -> Result<(), AllocError>
     requires long { length found.old.by_event ≡ length (plain_events events.now) }
@@ -194,7 +185,7 @@ fn assign_classes(
 }
 
 // Returns a class for each event: equal scalars share a class, and any other event has its own.
-fn event_classes(alloc: Global, events: &EventTable<'_>) -> Result<TreeClasses, AllocError>
+fn event_classes(alloc: Global, events: &EventTable<'_>) -> Result<ClassList, AllocError>
     ensures long { IfOk result (λ r. length r.by_event ≡ length (plain_events events.now)) }
     ensures classes { IfOk result (λ r. AreIdentities (plain_events events.now)
         (nth_number r.by_event) r.bound) }
@@ -207,7 +198,7 @@ fn event_classes(alloc: Global, events: &EventTable<'_>) -> Result<TreeClasses, 
     for index in 0..events.len() {
         by_event.push(given.class_at(index))?;
     }
-    Ok(TreeClasses {
+    Ok(ClassList {
         by_event,
         bound: given.bound(),
     })
@@ -215,7 +206,7 @@ fn event_classes(alloc: Global, events: &EventTable<'_>) -> Result<TreeClasses, 
 
 /// Returns a class for each event. Two events at which trees begin have the same class if and only
 /// if the trees are equal. It fails if an allocation fails.
-pub fn tree_classes(alloc: Global, events: &EventTable<'_>) -> Result<TreeClasses, AllocError>
+pub fn tree_classes(alloc: Global, events: &EventTable<'_>) -> Result<ClassList, AllocError>
     ensures { IfOk result (SeparatesAll events.now) }
 {
     let mut found = event_classes(alloc, events)?;

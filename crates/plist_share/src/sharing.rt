@@ -24,10 +24,7 @@ impl Sharing for EqualTrees {
         writer: &mut W,
     ) -> Result<(), Error> {
         let found = tree_classes(alloc, events)?;
-        let classes = Classes::Listed {
-            by_event: found.by_event,
-            bound: found.bound,
-        };
+        let classes = Classes::Listed(found);
         let given = Classed {
             events,
             classes: &classes,

@@ -7,8 +7,8 @@ use Rattle.plist_buffer.specs.declared.event_table.EventTable.{EventTable}
 use Rattle.plist_buffer.specs.Occurrences.{OccursAt}
 use Rattle.plist_binwrite.specs.Classes.{AreClasses}
 use Rattle.plist_binwrite.specs.inner.Scalars.{AreIdentities}
+use Rattle.plist_binwrite.specs.declared.classes.ClassList.{ClassList}
 use Rattle.plist_share.specs.declared.classes.Collection.{Collection}
-use Rattle.plist_share.specs.declared.classes.TreeClasses.{TreeClasses}
 
 -- a collection: whether it is a dictionary, and the classes of its children
 abbrev pub Node : Type 0
@@ -69,7 +69,7 @@ SeparatesTrees es class =
 
 -- each event has a class below the bound, and two have the same class if and only if the same tree
 -- begins at both
-pub record SeparatesAll (held : EventTable) (found : TreeClasses) : Type 0 where
+pub record SeparatesAll (held : EventTable) (found : ClassList) : Type 0 where
   pub objects : AreClasses (plain_events held) (nth_number found.by_event)
   pub trees : SeparatesTrees (plain_events held) (nth_number found.by_event)
   pub long : length found.by_event ≡ length (plain_events held)
