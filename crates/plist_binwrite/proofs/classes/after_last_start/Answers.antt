@@ -1,1 +1,0 @@
-use Rattle.plist_binwrite.proofs.classes.after_last_start.Goals as goal
