@@ -40,11 +40,6 @@ fits_walk bounds place (decoded.Collection kind start count) h =
 
 -- ---- the event of an object
 
-pub scalar_named : (object : Object) (event : PlainEvent) → scalar_event_in object ≡ Some event
-    → event_of_object object ≡ Some event
-scalar_named (Scalar scalar) event is = is
-scalar_named object event is = absurd (cc)
-
 pub named-scalar : (object : Object) (scalar : trees.Scalar) (event : PlainEvent)
     → object ≡ Scalar scalar → event_of_object object ≡ Some event
     → scalar_event_in object ≡ Some event

@@ -1,29 +1,29 @@
 //! Hands decoded objects to a visitor.
 
-ghost use Rattle.std.specs.Prelude.{◌≡◌, None, Some, false, true, IfSome, OnOk};
-ghost use Rattle.plist_base.specs.Object.{Object, date, text, wide_text};
+ghost use Rattle.std.specs.Prelude.{◌≡◌, ◌<◌, ℕ, List, Some, false, length, true, IfSome, OnOk};
+ghost use Rattle.plist_base.specs.Object.{Scalar, date, text, wide_text};
 ghost use Rattle.plist_decode.specs.CountedContent.{AreUnits, content_means, unit_size};
 ghost use Rattle.plist_decode.specs.Decoded.{EndsIn64Bits, FailsInContent, FitsBefore, IsLong, IsLongBytes, small_count};
 ghost use Rattle.plist_binread.specs.ObjectEvents.{SetsContentAt, SetsDecoded, SetsLarge, is_refused};
-ghost use Rattle.plist_decode.specs.Decoding.{DecodesLarge, start_event};
+ghost use Rattle.plist_decode.specs.Decoding.{start_event};
 ghost use Rattle.plist_decode.specs.FaultOffsets.{ErrWithin};
 ghost use Rattle.plist_base.specs.Events.{ScalarEvent};
+ghost use Rattle.plist_base.specs.Trees.{String};
+ghost use Rattle.plist_base.specs.Utf16Strings.{string_of_utf16};
 ghost use Rattle.plist_binread.specs.Handovers.{HandsItem};
 ghost use Rattle.plist_decode.specs.Packed.{content_bytes, is_packed, is_small_event, unpacked};
 ghost use Rattle.plist_base.specs.Sources.{CountsIo};
 ghost use Rattle.plist_decode.specs.StepFaults.{result_with};
 ghost use Rattle.plist_decode.specs.declared.decoded.ContentKind.TheVariants.{Text as KindText};
 
-use plist_base::{
-    Ascii, Date, EventVisitor, Integer, OwnedEvent, RealBits, Source, Uid, Utf16Str, all_pass,
-};
+use plist_base::{Ascii, Date, EventVisitor, Integer, RealBits, Source, Uid, Utf16Str, all_pass};
 use plist_decode::counter::DecodeCounter;
 use plist_decode::decoded::{CollectionKind, Content, ContentKind, Decoded};
 use plist_decode::decoder::Decoder;
-use plist_decode::long_content::{content_event, read_content, wide_text_event};
+use plist_decode::long_content::read_content;
 use plist_decode::packed::PackedKind;
 use plist_decode::step_fault::StepFault;
-use plist_decode::utf16::{MAX_UNITS, utf16_text_in};
+use plist_decode::utf16::to_utf8;
 use std::alloc::Global;
 use std::borrow::{CowSlice, CowStr};
 use std::ops::ControlFlow;
@@ -106,82 +106,36 @@ fn hand_text<V: EventVisitor>(bytes: &[u8], visitor: &mut V) -> Result<ControlFl
     hand_utf8(bytes, visitor)
 }
 
-// Hands over a string in UTF-16 if the visitor takes it in this form. Otherwise returns `None`. A
-// string that is invalid is a fault.
+// Returns whether a string in UTF-16 has at most eight bytes in UTF-8. Only in a string of at most
+// eight units these bytes are counted.
+#[inline(always)]
+fn is_short(text: Utf16Str<'_>) -> bool
+    ensures { result ≡ false → 8 < length (string_of_utf16 text.entry) }
+{
+    text.as_bytes().len() <= 16 && text.len_utf8() <= 8
+}
+
+// Hands over a string in UTF-16 as a string in UTF-8, in memory of its own.
+#[inline(never)]
+fn hand_in_utf8<V: EventVisitor>(
+    alloc: Global,
+    text: Utf16Str<'_>,
+    visitor: &mut V,
+) -> Result<ControlFlow<()>, StepFault>
+    requires { 8 < length (string_of_utf16 text) }
+    ensures { (bytes : List ℕ) → wide_text bytes ≡ Scalar (String (string_of_utf16 text.entry))
+        → HandsItem V.step visitor.old visitor.new (Some result)
+        (SetsLarge (wide_text bytes) result) }
+{
+    let decoded = to_utf8(alloc, text)?;
+    Ok(visitor.string(CowStr::Owned(decoded)))
+}
+
+// Hands over a string in UTF-16, in this form or in UTF-8, or returns a fault if it is invalid.
 //
 // A string of at most eight bytes in UTF-8 is decoded together with the first bytes of its object.
 // So there can be one here only if the source returned other bytes before. The fault is `Memory`
 // then.
-#[inline(always)]
-fn hand_units<V: EventVisitor>(
-    bytes: &[u8],
-    visitor: &mut V,
-) -> Option<Result<ControlFlow<()>, StepFault>>
-    requires { AreUnits 2 bytes.now }
-    ensures handed { IfSome result (λ answer. HandsItem V.step visitor.old visitor.new (Some answer)
-        (SetsLarge (wide_text bytes.now) answer)) }
-    ensures declined { result ≡ None → visitor.new ≡ visitor.old }
-{
-    let Some(text) = Utf16Str::new(bytes) else {
-        return Some(Err(StepFault::NotUtf16));
-    };
-    if bytes.len() <= 16 && text.len_utf8() <= 8 {
-        return Some(Err(StepFault::Memory));
-    }
-    Some(Ok(visitor.utf16_string(text)?))
-}
-
-// Hands over an event, unless it couldn't be decoded.
-fn hand_event<V: EventVisitor>(
-    decoded: Result<OwnedEvent, StepFault>,
-    visitor: &mut V,
-) -> Result<ControlFlow<()>, StepFault>
-    ensures { (object : Object) → DecodesLarge object decoded.entry
-        → HandsItem V.step visitor.old visitor.new (Some result) (SetsLarge object result) }
-{
-    Ok(visitor.event(decoded?))
-}
-
-// Decodes a string in UTF-16 of any length into memory of its own, and hands it over. Returns a
-// fault if the string is invalid.
-#[cold]
-#[inline(never)]
-fn hand_long_utf8<V: EventVisitor>(
-    alloc: Global,
-    bytes: &[u8],
-    visitor: &mut V,
-) -> Result<ControlFlow<()>, StepFault>
-    requires { AreUnits 2 bytes.now }
-    ensures { HandsItem V.step visitor.old visitor.new (Some result)
-        (SetsLarge (wide_text bytes.now) result) }
-{
-    hand_event(wide_text_event(alloc, bytes), visitor)
-}
-
-// Hands over a string in UTF-16 in UTF-8, or returns a fault if it is invalid. A string of at most
-// `MAX_UNITS` units is decoded on the stack.
-#[inline(never)]
-fn hand_in_utf8<V: EventVisitor>(
-    alloc: Global,
-    bytes: &[u8],
-    visitor: &mut V,
-) -> Result<ControlFlow<()>, StepFault>
-    requires { AreUnits 2 bytes.now }
-    ensures { HandsItem V.step visitor.old visitor.new (Some result)
-        (SetsLarge (wide_text bytes.now) result) }
-{
-    if bytes.len() > 2 * MAX_UNITS {
-        return hand_long_utf8(alloc, bytes, visitor);
-    }
-    let mut text = [0; 3 * MAX_UNITS];
-    match utf16_text_in(bytes, &mut text) {
-        Some(text) if text.len() > 8 => Ok(visitor.string(CowStr::Borrowed(text))),
-        Some(_) => Err(StepFault::Memory),
-        None => Err(StepFault::NotUtf16),
-    }
-}
-
-// Hands over a string in UTF-16, in this form or in UTF-8, or returns a fault if it is invalid.
 #[inline(never)]
 fn hand_wide_text<V: EventVisitor>(
     alloc: Global,
@@ -192,9 +146,15 @@ fn hand_wide_text<V: EventVisitor>(
     ensures { HandsItem V.step visitor.old visitor.new (Some result)
         (SetsLarge (wide_text bytes.now) result) }
 {
-    match hand_units(bytes, visitor) {
-        Some(answer) => answer,
-        None => hand_in_utf8(alloc, bytes, visitor),
+    let Some(text) = Utf16Str::new(bytes) else {
+        return Err(StepFault::NotUtf16);
+    };
+    if is_short(text) {
+        return Err(StepFault::Memory);
+    }
+    match visitor.utf16_string(text) {
+        Some(answer) => Ok(answer),
+        None => hand_in_utf8(alloc, text, visitor),
     }
 }
 
@@ -218,6 +178,22 @@ pub fn hand_bytes<V: EventVisitor>(
     }
 }
 
+// Hands over the string in these bytes, or returns a fault if they aren't UTF-8. The visitor may
+// keep the bytes.
+fn hand_owned_text<V: EventVisitor>(
+    bytes: Vec<u8>,
+    visitor: &mut V,
+) -> Result<ControlFlow<()>, StepFault>
+    requires { IsLongBytes KindText bytes.items }
+    ensures { HandsItem V.step visitor.old visitor.new (Some result)
+        (SetsLarge (text bytes.items) result) }
+{
+    match String::from_utf8(bytes) {
+        Ok(text) => Ok(visitor.string(CowStr::Owned(text))),
+        Err(_) => Err(StepFault::NotUtf8),
+    }
+}
+
 // Hands over the string or data in these bytes, or returns a fault if a string is invalid. The
 // visitor may keep the bytes.
 fn hand_owned<V: EventVisitor>(
@@ -231,12 +207,11 @@ fn hand_owned<V: EventVisitor>(
     ensures { HandsItem V.step visitor.old visitor.new (Some result)
         (SetsLarge (content_means kind bytes.items) result) }
 {
-    if let ContentKind::WideText = kind
-        && let Some(answer) = hand_units(&bytes, visitor)
-    {
-        return answer;
+    match kind {
+        ContentKind::Data => Ok(visitor.data(CowSlice::Owned(bytes))),
+        ContentKind::Text => hand_owned_text(bytes, visitor),
+        ContentKind::WideText => hand_wide_text(alloc, &bytes, visitor),
     }
-    hand_event(content_event(alloc, kind, bytes), visitor)
 }
 
 // Reads the string or data of the object at this offset, which isn't buffered, and hands it over.

@@ -1,5 +1,5 @@
 -- What the bytes after a marker mean.
-use Rattle.std.proofs.Common.{◌≡◌, ℕ, suc, ◌+◌, ◌-◌, ◌*◌, ◌^◌, ◌<◌, ◌≤◌, inl, inr, pos, negsuc, ◌-ℤ◌, Bool, true, false, List, [], ◌∷◌, ◌++◌, length, take, drop, Option, Some, IfSome, Result, Ok, Err, refl, ap, sym, subst, ◌∙◌, arith, add_assoc}
+use Rattle.std.proofs.Common.{◌≡◌, ℕ, suc, ◌+◌, ◌-◌, ◌*◌, ◌^◌, ◌<◌, ◌≤◌, inl, inr, pos, negsuc, ◌-ℤ◌, Bool, true, false, List, [], ◌∷◌, ◌++◌, length, take, drop, Option, Some, IfSome, refl, ap, sym, ◌∙◌, arith, add_assoc}
 use Rattle.std.specs.Int.{cast_signed, w64}
 use Rattle.std.specs.Int.Digits.{number_from_digits, number_from_digits_after}
 use Rattle.std.specs.Char.Utf16.{utf16_lossy_chars}
@@ -12,15 +12,13 @@ use Rattle.std.proofs.lemmas.Option.{IfSome_then}
 use Rattle.std.proofs.lemmas.Str.{is_utf8-from_IsUtf8, IsUtf8-from_is_utf8}
 use Rattle.std.proofs.Math.Nat.{pow-zero, pow-succ', add-mul, mul_assoc}
 use Rattle.std.proofs.Math.Seq.{take-add}
-use Rattle.std.specs.Prelude.{⊤, IfErr, if◌then◌else◌}
+use Rattle.std.specs.Prelude.{⊤, if◌then◌else◌}
 use Rattle.plist_base.specs.declared.error.Error.{Error}
-use Rattle.plist_base.specs.declared.event.Event.{Event}
-use Rattle.plist_base.specs.Sources.{CountsIo}
-use Rattle.plist_base.specs.Faults.{FaultKind, Fault, IsNotIo, IntegerOutOfRange, InvalidUtf8String, InvalidUtf16String, MatchFault, kind_of, error_kind_of, offset_of, fault_of, fault_at}
+use Rattle.plist_base.specs.Faults.{FaultKind, Fault, IntegerOutOfRange, InvalidUtf8String, InvalidUtf16String, MatchFault, kind_of, error_kind_of, offset_of, fault_of, fault_at}
 use Rattle.plist_base.specs.Trees.{Integer, String}
 use Rattle.plist_base.proofs.Refusals.{MatchFault-at, MatchFault-weaker}
 use Rattle.plist_base.specs.Container.{number_of}
-use Rattle.plist_decode.specs.Decoding.{Decodes, Allocates, IsRefusedAs}
+use Rattle.plist_decode.specs.Decoding.{Allocates, IsRefusedAs}
 use Rattle.plist_decode.specs.CountedContent.{content_means}
 use Rattle.plist_decode.specs.Reading.{IsIoOrMemoryAt}
 use Rattle.plist_decode.specs.declared.decoded.ContentKind.{ContentKind}
@@ -138,17 +136,6 @@ grows_content kind.Data content = tt
 grows_content kind.Text content = grows_text content
 grows_content kind.WideText content = grows_units _
 
--- if the whole content was read, the result is that of the object
-pub content_read : (known : Option (List ℕ)) (kind : ContentKind) (place start size : ℕ)
-    (content : List ℕ) (answer : Result Event Error)
-    → IfSome known (λ bytes. content ≡ take size (drop start bytes))
-    → Decodes (content_means kind content) place answer
-    → IfSome known (λ bytes. start + size ≤ length bytes
-    → Decodes (content_means kind (take size (drop start bytes))) place answer)
-content_read known kind place start size content answer is decoded =
-    IfSome_then known is (λ bytes is fits.
-    subst (λ content. Decodes (content_means kind content) place answer) is decoded)
-
 -- if the content wasn't read because a read or an allocation failed, the error is possible for the
 -- object
 pub content_refused : (known : Option (List ℕ)) (kind : ContentKind) (place start size : ℕ)
@@ -160,12 +147,3 @@ content_refused known kind place start size error refused =
     IfSome_then known refused (λ bytes refused fits.
     MatchFault-weaker (kind_of (error_kind_of error)) (λ _. tt) (λ _. grows_content kind _)
     (λ none. absurd none) (refused fits))
-
--- an error other than `Io` leaves the count of failures unchanged
-pub counts_answer : {A : Type 0} (answer : Result A Error) (old new : ℕ)
-    → IfErr answer (λ error. IsNotIo (kind_of (error_kind_of error))) → new ≡ old
-    → CountsIo (Some answer) old new
-counts_answer (Ok value) old new other same = same
-counts_answer (Err error) old new other same =
-    MatchFault-weaker (kind_of (error_kind_of error)) (λ none. absurd none) (λ _. same) (λ _. same)
-    other

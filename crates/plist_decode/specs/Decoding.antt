@@ -1,16 +1,11 @@
 -- What an object consists of, where its references lie, and what its decoding returns.
-use Rattle.std.specs.Prelude.{◌≡◌, ℕ, ◌+◌, ◌*◌, ◌/◌, ◌%◌, ◌<◌, ◌≤◌, List, [], length, false, if◌then◌else◌, slice_index, nat_eq, Result, Option, None, Some, IfErr, IfOk, MatchResult, ⊤}
+use Rattle.std.specs.Prelude.{◌≡◌, ℕ, ◌+◌, ◌*◌, ◌/◌, ◌%◌, ◌<◌, ◌≤◌, List, [], length, if◌then◌else◌, slice_index, nat_eq, Option, None, Some, ⊤}
 use Rattle.plist_base.specs.declared.error.Error.{Error}
-use Rattle.plist_base.specs.Faults.{InvalidUtf8String, InvalidUtf16String, IsNotIo, MatchFault, kind_of, error_kind_of, offset_of}
-use Rattle.plist_base.specs.Events.{PlainEvent, StartArray, StartDictionary, event_of}
+use Rattle.plist_base.specs.Faults.{InvalidUtf8String, InvalidUtf16String, MatchFault, kind_of, error_kind_of, offset_of}
+use Rattle.plist_base.specs.Events.{PlainEvent, StartArray, StartDictionary}
 use Rattle.plist_base.specs.Trees as trees
 use Rattle.plist_base.specs.Trees.{Data, String}
-use Rattle.plist_base.specs.declared.event.Event.{Event}
-use Rattle.plist_decode.specs.FaultOffsets.{ErrWithin}
-use Rattle.plist_decode.specs.Packed.{is_small_event, scalar_event}
-use Rattle.plist_decode.specs.StepFaults.{result_with}
-use Rattle.plist_decode.specs.declared.step_fault.FaultDetails.{FaultDetails}
-use Rattle.plist_decode.specs.declared.step_fault.StepFault.{StepFault}
+use Rattle.plist_decode.specs.Packed.{scalar_event}
 use Rattle.plist_base.specs.Container.{number_at}
 use Rattle.plist_base.specs.Object.{Object, Scalar, Array, Dictionary, Faulty, children_of}
 use Rattle.plist_decode.specs.declared.decoded.CollectionKind.{CollectionKind}
@@ -74,10 +69,6 @@ AreReferencesAt width bytes children kind start = (index : ℕ) → index < leng
 
 -- ---- what is decoded
 
--- the result isn't the event of a small scalar
-abbrev pub IsLarge : {E : Type 0} → Result Event E → Type 0
-IsLarge answer = IfOk answer (λ event. is_small_event (event_of event) ≡ false)
-
 -- the object needs memory: it is a collection, data, or a string, which may be invalid
 abbrev pub Allocates : Object → Type 0
 Allocates (Scalar (String text)) = ⊤
@@ -94,19 +85,3 @@ abbrev pub IsRefusedAs : Object → (place : ℕ) → Error → Type 0
 IsRefusedAs object place error =
     MatchFault (kind_of (error_kind_of error)) ⊤ (Allocates object)
     ((object ≡ Faulty (kind_of (error_kind_of error))) × (offset_of error ≡ Some place))
-
--- the result is the event of the object, which is a scalar, or an error as in `IsRefusedAs`
-abbrev pub Decodes : Object → (place : ℕ) → Result Event Error → Type 0
-Decodes object place answer =
-    MatchResult answer (λ event. scalar_event_in object ≡ Some (event_of event))
-    (λ e. IsRefusedAs object place e)
-
--- the event of the object, which isn't small, or an error as in `Decodes` at the offset in the
--- details, which isn't an I/O error; the error isn't kept
-pub record DecodesLarge (object : Object) (answer : Result Event StepFault) : Type 0 where
-  pub decoded : (details : FaultDetails) → Decodes object details.place (result_with answer details)
-  pub large : IsLarge answer
-  pub never_io : (details : FaultDetails)
-      → IfErr (result_with answer details) (λ error. IsNotIo (kind_of (error_kind_of error)))
-  pub fault : (details : FaultDetails) (start end : ℕ)
-      → ErrWithin start end (result_with answer details)

@@ -165,22 +165,3 @@ pub fn read_bytes<S: Source>(
     read_exact_at(source, place, &mut found)?;
     Ok(found)
 }
-
-/// Returns the unit in two bytes.
-#[inline(always)]
-pub fn unit_from(bytes: &[u8]) -> u16
-    requires { length bytes.now ≡ 2 }
-    ensures { result ≡ number_of bytes.now }
-{
-    u16::from(bytes[0]) * 256 + u16::from(bytes[1])
-}
-
-/// Writes the units that these bytes encode. Each unit has two bytes.
-pub fn write_units(bytes: &[u8], units: &mut [u16])
-    requires { length bytes.now ≡ length units.old * 2 }
-    ensures { units.new ≡ numbers_spelled 2 bytes.now }
-{
-    for i in 0..units.len() {
-        units[i] = unit_from(&bytes[i * 2..i * 2 + 2]);
-    }
-}

@@ -1,15 +1,15 @@
-//! Decodes short strings in UTF-16.
+//! Decodes strings in UTF-16.
 
-ghost use Rattle.std.specs.Prelude.{◌≡◌, ◌+◌, ◌*◌, ◌/◌, ◌++◌, ◌<◌, ◌≤◌, length, take, encode_utf8, MatchOption};
+ghost use Rattle.std.specs.Prelude.{◌≡◌, ◌+◌, ◌*◌, ◌/◌, ◌++◌, ◌<◌, ◌≤◌, length, take, encode_utf8, string_bytes, IfOk, MatchOption};
 ghost use Rattle.std.specs.Char.{len_utf8};
 ghost use Rattle.plist_base.specs.Faults.{InvalidUtf16String};
 ghost use Rattle.plist_base.specs.Trees.{String};
 ghost use Rattle.plist_base.specs.Object.{Faulty, Scalar, wide_text};
+ghost use Rattle.plist_base.specs.Utf16Strings.{string_of_utf16};
 
+use plist_base::Utf16Str;
 use plist_base::utf16::char_at;
-
-/// The maximum number of units of a string that is decoded without an allocation.
-pub const MAX_UNITS: usize = 128;
+use std::alloc::{AllocError, Global};
 
 // Writes a character in UTF-8 after the first `size` bytes, and returns where it ends. The contract
 // of `encode_utf8` says nothing of the bytes that it writes to, only of the string that it returns,
@@ -48,4 +48,13 @@ pub fn utf16_text_in<'t>(bytes: &[u8], text: &'t mut [u8]) -> Option<&'t str>
         at = next;
     }
     Some(unsafe { str::from_utf8_unchecked(&text[..size]) })
+}
+
+/// Returns a string in UTF-8, or fails if memory for it can't be allocated.
+pub fn to_utf8(alloc: Global, text: Utf16Str<'_>) -> Result<String, AllocError>
+    ensures { IfOk result (λ decoded. string_bytes decoded ≡ string_of_utf16 text.entry) }
+{
+    let mut decoded = String::with_capacity(alloc, text.len_utf8())?;
+    decoded.extend(text.chars())?;
+    Ok(decoded)
 }
