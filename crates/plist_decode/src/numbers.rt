@@ -2,7 +2,7 @@
 
 ghost use Rattle.std.specs.Prelude.{◌≡◌, ◌+◌, ◌-◌, ◌*◌, ◌^◌, ◌<◌, ◌≤◌, length, IfOk, vec_len, vec_capacity, Some};
 ghost use Rattle.plist_base.specs.Sources.{CountsIo, FailsReading, IsIoWithin};
-ghost use Rattle.plist_base.specs.Container.{number_of, number_at, numbers_spelled};
+ghost use Rattle.plist_base.specs.Container.{number_of, number_at};
 ghost use Rattle.plist_decode.specs.FaultOffsets.{ErrWithin};
 ghost use Rattle.plist_decode.specs.Reading.{AreFirstNumbers, AreBytesAt, AreNumbersAt, IsIoOrMemoryAt};
 ghost use Rattle.plist_base.specs.Outcomes.{DecodesBy, IfFault, IfRead, IfRefused};
