@@ -217,8 +217,8 @@ impl<R: ByteReader> Input<R> {
         }
     }
 
-    // Takes the second half of a surrogate pair: a backslash, `u` or `U`, and a unit. The byte after
-    // the backslash is taken only if it is `u` or `U`.
+    // Takes the second half of a surrogate pair: a backslash, `u` or `U`, and a unit. The byte
+    // after the backslash is taken only if it is `u` or `U`.
     fn low_half(&mut self) -> Result<u16, TokenFault>
         ensures answers { GivesBy R.remaining (λ u. u) low_half self.old result self.new }
         ensures failures { CountsFailed R.failures self.old result self.new }

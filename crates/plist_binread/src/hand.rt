@@ -106,8 +106,8 @@ fn hand_text<V: EventVisitor>(bytes: &[u8], visitor: &mut V) -> Result<ControlFl
     hand_utf8(bytes, visitor)
 }
 
-// Returns whether a string in UTF-16 has at most eight bytes in UTF-8. Only in a string of at most
-// eight units these bytes are counted.
+// Returns whether a string in UTF-16 has at most eight bytes in UTF-8. They are counted only if it
+// has at most eight units.
 #[inline(always)]
 fn is_short(text: Utf16Str<'_>) -> bool
     ensures { result ≡ false → 8 < length (string_of_utf16 text.entry) }

@@ -53,7 +53,7 @@ pub fn comes_to_bracket<R: ByteReader + Drop>(reader: &mut AsciiReader<R>) -> bo
 
 /// Reads a comment that begins with `/*/` and contains another star, and the start of an array
 /// after the comment. Returns whether the first event is a string, as it would be if the comment
-/// ended at one of these stars. It never is, since a comment ends at the first `*/` behind its own
+/// ended at one of these stars. It never is, since a comment ends at the first `*/` after its own
 /// `/*`.
 #[tactic(auto, using(crate::proofs::SmallInputs::of_comment_and_array))]
 pub fn comment_closed_too_early(alloc: Global, text: &[u8]) -> bool
