@@ -1,5 +1,5 @@
 -- The event of an object that was decoded.
-use Rattle.std.proofs.Common.{◌≡◌, ℕ, ◌+◌, ◌<◌, ◌≤◌, Bool, true, false, List, length, take, drop, get_or, Option, None, Some, Result, Ok, Err, IfSome, ap, sym, subst, ◌∙◌, arith}
+use Rattle.std.proofs.Common.{◌≡◌, ℕ, ◌+◌, ◌<◌, ◌≤◌, Bool, true, false, List, length, take, drop, get_or, Option, None, Some, Result, Ok, Err, IfSome, refl, ap, sym, subst, ◌∙◌, arith}
 use Rattle.std.specs.Prelude.{OnOk, if◌then◌else◌, IsUtf8}
 use Rattle.std.proofs.lemmas.Bool.{false≢true, lt-leb}
 use Rattle.std.proofs.lemmas.List.{drop-drop}
@@ -12,9 +12,9 @@ use Rattle.plist_base.specs.Sources.{LiesAt}
 use Rattle.plist_base.specs.Trees as trees
 use Rattle.plist_base.specs.Object.{Object, Scalar, Array, Dictionary, Faulty, date, date_if_any, text}
 use Rattle.plist_decode.specs.CountedContent.{content_means}
-use Rattle.plist_decode.proofs.Contents.{text-utf8}
+use Rattle.plist_decode.proofs.Contents.{text-utf8, text-not_utf8}
 use Rattle.plist_decode.specs.Decoded.{FitsBefore, content_size, small_count}
-use Rattle.plist_binread.specs.ObjectEvents.{FitsWalk, SetsContentAt, SetsDecoded, SetsEvent, event_of_object}
+use Rattle.plist_binread.specs.ObjectEvents.{FitsWalk, SetsContentAt, SetsDecoded, SetsEvent, SetsLarge, event_of_object}
 use Rattle.plist_decode.specs.Decoding.{IsCollection, scalar_event_in}
 use Rattle.plist_decode.specs.Packed.{is_small_event, unmarked}
 use Rattle.plist_binread.specs.Walking.{IsCachedIfSmall}
@@ -26,6 +26,7 @@ use Rattle.plist_decode.specs.declared.decoded.Decoded.{Decoded}
 use Rattle.plist_decode.specs.declared.decoded.Decoded.TheVariants as decoded
 use Rattle.plist_decode.specs.declared.step_fault.FaultDetails.{FaultDetails}
 use Rattle.plist_decode.specs.declared.step_fault.StepFault.{StepFault}
+use Rattle.plist_decode.specs.declared.step_fault.StepFault.TheVariants as fault
 use Rattle.plist_decode.specs.declared.head.Bounds.{Bounds}
 use Rattle.plist_decode.proofs.NumberRuns.{take-drop-take}
 
@@ -128,7 +129,7 @@ long_sets known bounds place content answer current lies sets =
 
 -- ---- what is small
 
-pub large_text : (bytes : List ℕ) (current : PlainEvent) → 8 < length bytes
+large_text : (bytes : List ℕ) (current : PlainEvent) → 8 < length bytes
     → event_of_object (text bytes) ≡ Some current → is_small_event current ≡ false
 large_text bytes current h is = by _ is
   where
@@ -140,11 +141,32 @@ large_text bytes current h is = by _ is
     by false is = absurd (cc)
 
 -- the event of a string in UTF-8
-pub utf8_event : (bytes string : List ℕ) → string ≡ bytes → IsUtf8 bytes
+utf8_event : (bytes string : List ℕ) → string ≡ bytes → IsUtf8 bytes
     → event_of_object (text bytes) ≡ Some (ScalarEvent (trees.String string))
 utf8_event bytes string same utf8 =
     ap event_of_object (text-utf8 bytes utf8)
     ∙ ap (λ content. Some (ScalarEvent (trees.String content))) (sym same)
+
+-- bytes that are UTF-8 and more than eight are set as a string
+pub text_set : {A : Type 0} (bytes string : List ℕ) (value : A) → 8 < length bytes
+    → string ≡ bytes → IsUtf8 bytes
+    → SetsLarge (text bytes) (Ok value) (ScalarEvent (trees.String string))
+text_set bytes string value long same utf8 = let is = utf8_event bytes string same utf8 in record {
+  sets = λ details. is;
+  large = large_text bytes _ long is;
+  fault = λ details start end. tt;
+  never_io = λ details. tt;
+}
+
+-- bytes that aren't UTF-8 are a fault
+pub text_refused : {A : Type 0} (bytes : List ℕ) (current : PlainEvent) → (IsUtf8 bytes → ⊥)
+    → SetsLarge {A = A} (text bytes) (Err fault.NotUtf8) current
+text_refused bytes current none = record {
+  sets = λ details. (text-not_utf8 bytes none, refl);
+  large = tt;
+  fault = λ details start end. record { placed = tt };
+  never_io = λ details. tt;
+}
 
 -- if the event isn't that of a small scalar, the object need not have been decoded as one
 pub large_unlike : {A E : Type 0} (answer : Result A E) (d : Decoded) (current : PlainEvent)
