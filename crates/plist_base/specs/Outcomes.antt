@@ -1,5 +1,6 @@
--- Facts about the result of a call: which errors it returns, and what it says about known bytes.
-use Rattle.std.specs.Prelude.{◌≡◌, ℕ, List, Option, Result, IfOk, IfErr, IfSome}
+-- Facts about the result of a call: which errors it returns, and what it says about known bytes or
+-- a size.
+use Rattle.std.specs.Prelude.{◌≡◌, ◌≤◌, ◌^◌, ℕ, List, MatchOption, Option, Result, IfOk, IfErr, IfSome}
 use Rattle.plist_base.specs.declared.error.Error.{Error}
 use Rattle.plist_base.specs.Faults.{Fault, Io, OutOfMemory, fault_without_offset, fault_of}
 
@@ -33,3 +34,7 @@ DecodesBy answer known meaning = IfRead answer known (λ bytes value. value ≡ 
 abbrev pub IfRefused : {A : Type 0} → Result A Error → (known : Option (List ℕ))
     → (List ℕ → Fault → Type 0) → Type 0
 IfRefused answer known P = IfErr answer (λ error. IfSome known (λ bytes. P bytes (fault_of error)))
+
+-- `found` is the size, or `None` only if the size is 2^64 or more
+abbrev pub IsSizeOrNone : (found : Option ℕ) → (size : ℕ) → Type 0
+IsSizeOrNone found size = MatchOption found (2 ^ 64 ≤ size) (λ number. number ≡ size)

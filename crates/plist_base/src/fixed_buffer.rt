@@ -98,10 +98,10 @@ fn copy_enclosed<T: ByteTest, const BEFORE: usize, const AFTER: usize>(
 }
 
 impl FixedBuffer {
-    ghost use Rattle.std.specs.Prelude.{◌≡◌, ◌≤◌, ◌+◌, ◌++◌, [], ◌^◌, length, take, true, false, IfOk};
+    ghost use Rattle.std.specs.Prelude.{◌≡◌, ◌≤◌, ◌+◌, ◌++◌, [], length, take, true, false, IfOk};
     ghost use Rattle.plist_base.specs.ByteTests.{EachByte};
+    ghost use Rattle.plist_base.specs.FixedBuffers.{room, sink_capacity};
     ghost use Rattle.plist_base.specs.Outcomes.{OnlyMemory};
-    ghost use Rattle.plist_base.specs.Sinks.{buffered, room};
 
     /// Allocates an empty buffer.
     ///
@@ -109,7 +109,7 @@ impl FixedBuffer {
     ///
     /// `OutOfMemory`, without an offset, if the allocation fails.
     pub fn new(alloc: Global) -> Result<FixedBuffer, Error>
-        ensures empty { IfOk result (λ buffer. buffered buffer ≡ []) }
+        ensures empty { IfOk result (λ buffer. buffer ≡ []) }
         ensures memory { OnlyMemory result }
     {
         let bytes = vec![in alloc; 0u8; SINK_CAPACITY]?;
@@ -126,15 +126,15 @@ impl FixedBuffer {
 
     /// Returns the bytes that were pushed since the last [`FixedBuffer::clear`].
     pub fn as_slice(&self) -> &[u8]
-        ensures { result.now ≡ buffered self.now }
+        ensures { result.now ≡ self.now }
     {
         &self.bytes[..self.used]
     }
 
     /// Removes all pushed bytes.
     pub fn clear(&mut self)
-        ensures empty { buffered self.new ≡ [] }
-        ensures room { room self.new ≡ 2 ^ 16 }
+        ensures empty { self.new ≡ [] }
+        ensures room { room self.new ≡ sink_capacity }
     {
         self.used = 0;
     }
@@ -143,7 +143,7 @@ impl FixedBuffer {
     #[inline(always)]
     pub fn push(&mut self, bytes: &[u8])
         requires room { length bytes.now ≤ room self.old }
-        ensures pushed { buffered self.new ≡ buffered self.old ++ bytes.now }
+        ensures pushed { self.new ≡ self.old ++ bytes.now }
         ensures room { room self.new + length bytes.now ≡ room self.old }
     {
         let end = self.used + bytes.len();
@@ -156,7 +156,7 @@ impl FixedBuffer {
     #[inline(always)]
     pub fn push_array<const N: usize>(&mut self, bytes: [u8; N])
         requires room { N ≤ room self.old }
-        ensures pushed { buffered self.new ≡ buffered self.old ++ bytes.entry }
+        ensures pushed { self.new ≡ self.old ++ bytes.entry }
         ensures room { room self.new + N ≡ room self.old }
     {
         self.push(&bytes);
@@ -173,8 +173,7 @@ impl FixedBuffer {
     ) -> bool
         requires room { BEFORE + length bytes.now + AFTER ≤ room self.old }
         ensures pushed { result ≡ true
-            → buffered self.new
-            ≡ buffered self.old ++ (before.entry ++ bytes.now ++ after.entry) }
+            → self.new ≡ self.old ++ (before.entry ++ bytes.now ++ after.entry) }
         ensures passed { result ≡ true → EachByte T.passes bytes.now }
         ensures room { result ≡ true
             → room self.new + (BEFORE + length bytes.now + AFTER) ≡ room self.old }
@@ -195,7 +194,7 @@ impl FixedBuffer {
     pub fn push_first(&mut self, bytes: [u8; 8], count: usize)
         requires count { count ≤ 8 }
         requires room { 8 ≤ room self.old }
-        ensures pushed { buffered self.new ≡ buffered self.old ++ take count bytes }
+        ensures pushed { self.new ≡ self.old ++ take count bytes }
         ensures room { room self.new + count ≡ room self.old }
     {
         let end = self.used + count;
@@ -208,7 +207,7 @@ impl FixedBuffer {
     #[inline(always)]
     pub fn push_decimal(&mut self, number: u64)
         requires room { 20 ≤ room self.old }
-        ensures pushed { buffered self.new ≡ buffered self.old ++ decimal number }
+        ensures pushed { self.new ≡ self.old ++ decimal number }
         ensures room { room self.old ≤ room self.new + 20 }
     {
         let end = self.used + digits_of(number);

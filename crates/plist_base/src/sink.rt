@@ -2,9 +2,11 @@
 
 ghost use Rattle.std.specs.Prelude.{◌≡◌, ◌++◌, ◌+◌, ◌≤◌, ◌<◌, ℕ, [], Ok, true, false, OnOk, length};
 ghost use Rattle.std.specs.Io.KnownBytes.{Appends};
-ghost use Rattle.plist_base.specs.Outcomes.{OnlyDevice};
+ghost use Rattle.plist_base.specs.FixedBuffers.{room, sink_capacity};
+ghost use Rattle.plist_base.specs.Outcomes.{IsSizeOrNone, OnlyDevice};
 ghost use Rattle.plist_base.specs.Prefixes.{AppendsPrefix};
-ghost use Rattle.plist_base.specs.Sinks.{HasPut, IsSameSink, IsSizeOrNone, Puts, PutsBytes, PutsNothing, buffered, pending, room, sink_capacity, written};
+ghost use Rattle.plist_base.specs.Sinks.{HasPut, IsSameSink, Puts, pending};
+ghost use Rattle.plist_base.specs.Writing.{answer_of};
 
 use crate::send::{send, send_and_flush};
 use crate::{Error, FixedBuffer};
@@ -49,7 +51,7 @@ fn sum(sent: Option<u64>, more: usize) -> Option<u64>
 #[inline(always)]
 fn push_bytes(buffer: &mut FixedBuffer, bytes: &[u8])
     requires { length bytes.now ≤ room buffer.old }
-    ensures pushed { buffered buffer.new ≡ buffered buffer.old ++ bytes.now }
+    ensures pushed { buffer.new ≡ buffer.old ++ bytes.now }
     ensures room { room buffer.new + length bytes.now ≡ room buffer.old }
 {
     match bytes {
@@ -97,8 +99,8 @@ impl<'s, W: Write> Sink<'s, W> {
     /// smaller than the result of [`Sink::put`].
     #[inline(always)]
     pub fn try_put(&mut self, bytes: &[u8]) -> bool
-        ensures put { result ≡ true → PutsBytes W.contents self.old bytes.now (Ok tt) self.new }
-        ensures unchanged { result ≡ false → PutsNothing self.old self.new }
+        ensures put { result ≡ true → Puts W.contents self.old bytes.now (Ok tt) self.new }
+        ensures unchanged { result ≡ false → self.new ≡ self.old }
         ensures full { result ≡ false → room self.old.buffer.now < length bytes.now }
     {
         if bytes.len() > self.buffer.room() {
@@ -112,7 +114,7 @@ impl<'s, W: Write> Sink<'s, W> {
     #[cold]
     #[inline(never)]
     pub fn write_pending(&mut self) -> Result<(), Error>
-        ensures put { Puts W.contents self.old [] result self.new }
+        ensures put { Puts W.contents self.old [] (answer_of result) self.new }
         ensures empty { OnOk result (pending self.new ≡ []) }
         ensures room { OnOk result (room self.new.buffer.now ≡ sink_capacity) }
     {
@@ -128,7 +130,7 @@ impl<'s, W: Write> Sink<'s, W> {
     #[inline(always)]
     pub fn make_room(&mut self, size: usize) -> Result<(), Error>
         requires { size ≤ sink_capacity }
-        ensures put { Puts W.contents self.old [] result self.new }
+        ensures put { Puts W.contents self.old [] (answer_of result) self.new }
         ensures room { OnOk result (size ≤ room self.new.buffer.now) }
     {
         if size <= self.room() {
@@ -141,7 +143,7 @@ impl<'s, W: Write> Sink<'s, W> {
     #[cold]
     #[inline(never)]
     fn write_through(&mut self, bytes: &[u8]) -> Result<(), Error>
-        ensures { Puts W.contents self.old bytes.now result self.new }
+        ensures { Puts W.contents self.old bytes.now (answer_of result) self.new }
     {
         self.write_pending()?;
         send(self.writer, bytes)?;
@@ -151,7 +153,7 @@ impl<'s, W: Write> Sink<'s, W> {
 
     /// Puts bytes after all that were put before.
     pub fn put(&mut self, bytes: &[u8]) -> Result<(), Error>
-        ensures { Puts W.contents self.old bytes.now result self.new }
+        ensures { Puts W.contents self.old bytes.now (answer_of result) self.new }
     {
         if self.try_put(bytes) {
             return Ok(());
@@ -161,9 +163,9 @@ impl<'s, W: Write> Sink<'s, W> {
 
     // Puts two slices if both fit into the buffer, and returns whether they do.
     fn try_put_both(&mut self, first: &[u8], second: &[u8]) -> bool
-        ensures put { result ≡ true → PutsBytes W.contents self.old (first.now ++ second.now)
+        ensures put { result ≡ true → Puts W.contents self.old (first.now ++ second.now)
             (Ok tt) self.new }
-        ensures unchanged { result ≡ false → PutsNothing self.old self.new }
+        ensures unchanged { result ≡ false → self.new ≡ self.old }
     {
         let room = self.buffer.room();
         if first.len() > room || second.len() > room - first.len() {
@@ -178,7 +180,7 @@ impl<'s, W: Write> Sink<'s, W> {
     #[cold]
     #[inline(never)]
     fn put_apart(&mut self, first: &[u8], second: &[u8]) -> Result<(), Error>
-        ensures { Puts W.contents self.old (first.now ++ second.now) result self.new }
+        ensures { Puts W.contents self.old (first.now ++ second.now) (answer_of result) self.new }
     {
         self.put(first)?;
         self.put(second)
@@ -186,7 +188,7 @@ impl<'s, W: Write> Sink<'s, W> {
 
     /// Puts two slices, one after the other.
     pub fn put_both(&mut self, first: &[u8], second: &[u8]) -> Result<(), Error>
-        ensures { Puts W.contents self.old (first.now ++ second.now) result self.new }
+        ensures { Puts W.contents self.old (first.now ++ second.now) (answer_of result) self.new }
     {
         if self.try_put_both(first, second) {
             return Ok(());
@@ -202,11 +204,11 @@ impl<'s, W: Write> Sink<'s, W> {
     /// `Io`, without an offset. If a write fails or accepts no byte, a prefix of the pending bytes
     /// was written; if the flush fails, all of them were.
     pub fn finish(&mut self) -> Result<(), Error>
-        ensures sent { OnOk result (Appends (written W.contents self.old)
-            (written W.contents self.new) (pending self.old)) }
+        ensures sent { OnOk result (Appends (W.contents self.old.writer.now)
+            (W.contents self.new.writer.now) (pending self.old)) }
         ensures fault { OnlyDevice result }
-        ensures prefix { AppendsPrefix (written W.contents self.old) (written W.contents self.new)
-            (pending self.old) }
+        ensures prefix { AppendsPrefix (W.contents self.old.writer.now)
+            (W.contents self.new.writer.now) (pending self.old) }
         ensures kept { pending self.new ≡ pending self.old }
         ensures same { IsSameSink self.old self.new }
     {

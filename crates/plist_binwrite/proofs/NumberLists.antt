@@ -4,7 +4,8 @@ use Rattle.std.specs.Int.{bytes_high_first}
 use Rattle.std.proofs.Math.Nat.{mul-add}
 use Rattle.std.proofs.lemmas.List.{map-append, take-append-drop, take_more}
 use Rattle.plist_base.specs.Events.{PlainEvent, EndCollection, ScalarEvent, StartArray, StartDictionary}
-use Rattle.plist_base.specs.Sinks.{buffered, room, PutsBytes}
+use Rattle.plist_base.specs.FixedBuffers.{room}
+use Rattle.plist_base.specs.Sinks.{Puts}
 use Rattle.plist_base.specs.declared.fixed_buffer.FixedBuffer.{FixedBuffer}
 use Rattle.plist_buffer.specs.Children.{children_after, children_within, half_of}
 use Rattle.plist_buffer.specs.EventTable.{event_at, is_end}
@@ -23,8 +24,8 @@ use Rattle.plist_binwrite.specs.Forms.{table_form}
 abbrev pub PutsRest : {W : Type 0} (contents : W → Option (List ℕ)) (number : ℕ → ℕ) (width : ℕ)
     (a : Sink W) (all : List ℕ) (b : Sink W) (indices : List ℕ) → Type 0
 PutsRest {W} contents number width a all b indices = (answer : Answer) (c : Sink W)
-    → PutsBytes contents b (table_form width (map number indices)) answer c
-    → PutsBytes contents a all answer c
+    → Puts contents b (table_form width (map number indices)) answer c
+    → Puts contents a all answer c
 
 -- ---- the bytes of several numbers
 
@@ -49,13 +50,13 @@ module _ (f : ℕ → List ℕ) (xs : List ℕ) (i : ℕ) (lt : i < length xs) w
 -- one more reference is pushed
 pub pushes_one : {plan : FilePlan} {a b c : FixedBuffer} {all rest : List ℕ} (child : ℕ)
     → PushesReferences plan (a, all) (b, child ∷ rest)
-    → buffered c ≡ buffered b ++ bytes_high_first plan.width (number_of_event plan child)
+    → c ≡ b ++ bytes_high_first plan.width (number_of_event plan child)
     → room c + plan.width ≡ room b → PushesReferences plan (a, all) (c, rest)
 pushes_one {plan} {a} {b} {c} {all} {rest} child p pushed less = record {
   front = p.front ++ child ∷ [];
   left = p.left ∙ sym (append_assoc p.front (child ∷ []) rest);
-  pushed = pushed ∙ ap (λ l. l ++ bytes) p.pushed ∙ append_assoc (buffered a) (table p.front) bytes
-      ∙ ap (λ l. buffered a ++ l) (sym more);
+  pushed = pushed ∙ ap (λ l. l ++ bytes) p.pushed ∙ append_assoc a (table p.front) bytes
+      ∙ ap (λ l. a ++ l) (sym more);
   fewer = omega (
     arith,
     less,
@@ -96,10 +97,9 @@ module _ {plan : FilePlan} {old new : FixedBuffer × List ℕ} (p : PushesRefere
   pub whole_front : p.front ≡ old.1
   whole_front = sym (append-nil p.front) ∙ ap (λ l. p.front ++ l) (sym none) ∙ sym p.left
 
-  pub whole_pushed : buffered new.0
-      ≡ buffered old.0 ++ table_form plan.width (map (number_of_event plan) old.1)
+  pub whole_pushed : new.0 ≡ old.0 ++ table_form plan.width (map (number_of_event plan) old.1)
   whole_pushed =
-      p.pushed ∙ ap (λ l. buffered old.0 ++ table_form plan.width (map (number_of_event plan) l)) whole_front
+      p.pushed ∙ ap (λ l. old.0 ++ table_form plan.width (map (number_of_event plan) l)) whole_front
 
 -- ---- keys
 

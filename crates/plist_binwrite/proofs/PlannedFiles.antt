@@ -40,7 +40,7 @@ use Rattle.plist_buffer.proofs.Grammar.{complete_of_whole}
 use Rattle.std.specs.Io.KnownBytes.{Appends}
 use Rattle.plist_base.specs.declared.sink.Sink.{Sink}
 use Rattle.plist_base.specs.Prefixes.{AppendsPrefix}
-use Rattle.plist_base.specs.Sinks.{pending, written}
+use Rattle.plist_base.specs.Sinks.{pending}
 use Rattle.plist_base.proofs.SinkSteps.{put_part, sent_part, sent_whole}
 use Rattle.plist_binwrite.specs.SendingAs.{IsOfTree, SendsAs}
 use Rattle.plist_buffer.proofs.Lengthless.{plain_lengthless}
@@ -227,8 +227,9 @@ module _ (plan : FilePlan) {W : Type 0} {contents : W → Option (List ℕ)} {st
   -- the file is put, and the pending bytes are written
   pub sends_file : {middle : Sink W} (new : Sink W) → PutsFile plan contents start (Ok tt) middle
       → (answer : Result (Unit {0}) Error)
-      → OnOk answer (Appends (written contents middle) (written contents new) (pending middle))
-      → AppendsPrefix (written contents middle) (written contents new) (pending middle)
+      → OnOk answer
+      (Appends (contents middle.writer.now) (contents new.writer.now) (pending middle))
+      → AppendsPrefix (contents middle.writer.now) (contents new.writer.now) (pending middle)
       → OnlyDevice answer → SendsAs (files_by (class_in plan.given)) contents
       (events_in plan.given) (answer_of answer) start.writer.now new.writer.now
   sends_file new (file, of, put) (Ok done) sent prefix failed =
@@ -244,5 +245,5 @@ module _ (plan : FilePlan) {W : Type 0} {contents : W → Option (List ℕ)} {st
       start.writer.now new.writer.now
   sends_part {new} (file, of, put) =
       subst (λ fault. SendsAs (files_by (class_in plan.given)) contents (events_in plan.given)
-      (Err fault) start.writer.now new.writer.now) (sym put.follows.0)
+      (Err fault) start.writer.now new.writer.now) (sym put.fault)
       (refl, (file, (complete_of_whole _ tree, of), put_part empty put))

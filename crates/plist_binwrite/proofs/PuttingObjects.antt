@@ -10,7 +10,8 @@ use Rattle.plist_base.specs.Container.{magic}
 use Rattle.plist_base.specs.Object.{Object}
 use Rattle.plist_binwrite.specs.Written.{file_with, object_table, laid_out, table_and_trailer}
 use Rattle.plist_base.specs.Faults.{Fault}
-use Rattle.plist_base.specs.Sinks.{HasPut, IsSizeOrNone, PutsBytes, PutsNothing}
+use Rattle.plist_base.specs.Outcomes.{IsSizeOrNone}
+use Rattle.plist_base.specs.Sinks.{HasPut, Puts}
 use Rattle.plist_base.specs.Writing.{Answer}
 use Rattle.plist_base.specs.declared.sink.Sink.{Sink}
 use Rattle.plist_base.proofs.SinkSteps.{puts_after, puts_as, puts_front, puts_then}
@@ -29,7 +30,7 @@ module _ {plan : FilePlan} (r : IsFilePlan plan) {W : Type 0} {contents : W → 
     {start : Sink W} where
   -- nothing but the magic is put
   pub start_put : {offsets : List ℕ} {answer : Answer} {sink : Sink W}
-      → offsets ≡ replicate plan.numbering.count 0 → PutsBytes contents start magic answer sink
+      → offsets ≡ replicate plan.numbering.count 0 → Puts contents start magic answer sink
       → ArePut plan contents start offsets answer sink
   unfolding IsDistinct
   start_put {offsets} zeros put =
@@ -83,7 +84,7 @@ module _ {plan : FilePlan} (r : IsFilePlan plan) {W : Type 0} {contents : W → 
     -- the offset table and the trailer follow all objects
     pub all_put : ((p : ℕ) → HasItem (events_in plan.given) p → HasStoredOffset plan offsets p)
         → (v : ℕ) → ((n : ℕ) → HasPut sink n → n < 2 ^ 64 → v ≡ n) → (answer : Answer) (new : Sink W)
-        → PutsBytes contents sink (table_and_trailer offsets v) answer new
+        → Puts contents sink (table_and_trailer offsets v) answer new
         → PutsFile plan contents start answer new
     all_put all v is answer new put = (
       _,
@@ -139,10 +140,10 @@ module _ {plan : FilePlan} (r : IsFilePlan plan) {W : Type 0}
         );
   }
 
-  -- the offset of an event's object is stored, and nothing is put
-  pub lacks_first : {same : Sink W} → PutsNothing sink same
+  -- the offset of an event's object is stored, and the sink is unchanged
+  pub lacks_first : {same : Sink W} → same ≡ sink
       → LacksObject plan contents p (offsets, sink) (set offsets (number_of_event plan p) v, same)
-  lacks_first n answer after put = puts_first answer (λ t o. puts_after n (put t o))
+  lacks_first is answer after put = puts_first answer (λ t o. puts_after is (put t o))
 
 module _ {plan : FilePlan} {W : Type 0} {contents : W → Option (List ℕ)} {asked : ℕ → Type 0}
     {a b : List ℕ × Sink W} where

@@ -7,7 +7,7 @@ use Rattle.std.proofs.lemmas.Bool.{le-ltb, lt-ltb}
 use Rattle.std.proofs.lemmas.Bool.Decides.{leb_tells}
 use Rattle.std.proofs.lemmas.Grind.{flat_map-append}
 use Rattle.std.proofs.lemmas.Str.{IsUtf8-past_char}
-use Rattle.plist_base.specs.Sinks.{buffered, room}
+use Rattle.plist_base.specs.FixedBuffers.{room}
 use Rattle.plist_base.specs.declared.fixed_buffer.FixedBuffer.{FixedBuffer}
 use Rattle.plist_base.specs.Utf16.{units_of}
 use Rattle.plist_binwrite.specs.Forms.{table_form}
@@ -24,7 +24,7 @@ some_units c = elim (leb_tells 0x1_0000 c) [
 -- the units of one more character are pushed
 pub units_one : {a b c : FixedBuffer} {all text rest : List ℕ} (x : ℕ)
     → PushesUnits (a, all) (b, text) → text ≡ encode_utf8 x ++ rest
-    → buffered c ≡ buffered b ++ table_form 2 (encode_utf16 x)
+    → c ≡ b ++ table_form 2 (encode_utf16 x)
     → room c + 2 * length (encode_utf16 x) ≡ room b → PushesUnits (a, all) (c, rest)
 units_one {a} {b} {c} {all} {text} {rest} x p parts pushed less = record {
   front = p.front ++ encode_utf16 x;
@@ -32,8 +32,8 @@ units_one {a} {b} {c} {all} {text} {rest} x p parts pushed less = record {
       ∙ sym (append_assoc p.front (encode_utf16 x) (units_of rest));
   utf8 = IsUtf8-past_char _ _ x p.utf8 parts;
   pushed = pushed ∙ ap (λ l. l ++ table_form 2 (encode_utf16 x)) p.pushed
-      ∙ append_assoc (buffered a) (table_form 2 p.front) (table_form 2 (encode_utf16 x))
-      ∙ ap (λ l. buffered a ++ l)
+      ∙ append_assoc a (table_form 2 p.front) (table_form 2 (encode_utf16 x))
+      ∙ ap (λ l. a ++ l)
       (sym (flat_map-append (bytes_high_first 2) p.front (encode_utf16 x)));
   fewer = omega (arith, less, p.fewer, length-append p.front (encode_utf16 x));
 }

@@ -13,7 +13,9 @@ ghost use Rattle.plist_binwrite.specs.inner.Numbering.{IsCapped};
 ghost use Rattle.std.specs.Int.{bytes_high_first};
 ghost use Rattle.plist_base.specs.Utf16.{utf8_of_utf16};
 ghost use Rattle.plist_buffer.specs.StoredScalars.{IsStored, IsWide, scalar_of_ref};
-ghost use Rattle.plist_base.specs.Sinks.{Puts, PutsBytes, PutsNothing, room};
+ghost use Rattle.plist_base.specs.FixedBuffers.{room};
+ghost use Rattle.plist_base.specs.Sinks.{Puts};
+ghost use Rattle.plist_base.specs.Writing.{answer_of};
 ghost use Rattle.plist_binwrite.specs.Written.{table_and_trailer, trailer_of};
 
 use crate::push::{
@@ -35,7 +37,7 @@ pub(crate) const MAX_FIXED_OBJECT: usize = 17;
 /// Puts the lowest `width` bytes of a number in big-endian order. `width` is at most 8.
 pub fn put_number<W: Write>(sink: &mut Sink<'_, W>, width: usize, number: u64) -> Result<(), Error>
     requires width { width ≤ 8 }
-    ensures { Puts W.contents sink.old (bytes_high_first width number) result sink.new }
+    ensures { Puts W.contents sink.old (bytes_high_first width number) (answer_of result) sink.new }
 {
     let digits = number.to_be_bytes();
     sink.put(&digits[8 - width..])
@@ -47,9 +49,9 @@ pub fn put_number<W: Write>(sink: &mut Sink<'_, W>, width: usize, number: u64) -
 #[inline(always)]
 pub fn try_put_number<W: Write>(sink: &mut Sink<'_, W>, width: usize, number: u64) -> bool
     requires width { width ≤ 8 }
-    ensures put { result ≡ true → PutsBytes W.contents sink.old (bytes_high_first width number)
+    ensures put { result ≡ true → Puts W.contents sink.old (bytes_high_first width number)
         (Ok tt) sink.new }
-    ensures unchanged { result ≡ false → PutsNothing sink.old sink.new }
+    ensures unchanged { result ≡ false → sink.new ≡ sink.old }
     ensures full { result ≡ false → room sink.old.buffer.now < 8 }
 {
     if sink.room() < 8 {
@@ -67,7 +69,7 @@ pub fn put_length<W: Write>(
     kind: CountedKind,
     count: u64,
 ) -> Result<(), Error>
-    ensures { Puts W.contents sink.old (length_form kind count) result sink.new }
+    ensures { Puts W.contents sink.old (length_form kind count) (answer_of result) sink.new }
 {
     sink.make_room(MAX_FIXED_OBJECT)?;
     push_length(sink.buffer, kind, count);
@@ -77,7 +79,8 @@ pub fn put_length<W: Write>(
 /// Puts the object of a scalar. An error is that of [`Sink::put`].
 pub fn put_scalar<W: Write>(sink: &mut Sink<'_, W>, scalar: ScalarRef<'_>) -> Result<(), Error>
     requires { IsStored scalar }
-    ensures { Puts W.contents sink.old (scalar_form (scalar_of_ref scalar.entry)) result sink.new }
+    ensures { Puts W.contents sink.old (scalar_form (scalar_of_ref scalar.entry)) (answer_of result)
+        sink.new }
 {
     sink.make_room(MAX_FIXED_OBJECT)?;
     match scalar {
@@ -95,14 +98,16 @@ pub fn put_scalar<W: Write>(sink: &mut Sink<'_, W>, scalar: ScalarRef<'_>) -> Re
 
 /// Puts a Boolean.
 pub fn put_boolean<W: Write>(sink: &mut Sink<'_, W>, value: bool) -> Result<(), Error>
-    ensures { Puts W.contents sink.old (scalar_form (trees.Boolean value)) result sink.new }
+    ensures { Puts W.contents sink.old (scalar_form (trees.Boolean value)) (answer_of result)
+        sink.new }
 {
     put_scalar(sink, ScalarRef::Boolean(value))
 }
 
 /// Puts data.
 pub fn put_data<W: Write>(sink: &mut Sink<'_, W>, content: &[u8]) -> Result<(), Error>
-    ensures { Puts W.contents sink.old (scalar_form (trees.Data content.now)) result sink.new }
+    ensures { Puts W.contents sink.old (scalar_form (trees.Data content.now)) (answer_of result)
+        sink.new }
 {
     let count = content.len();
     put_length(sink, CountedKind::Data, count as u64)?;
@@ -111,21 +116,21 @@ pub fn put_data<W: Write>(sink: &mut Sink<'_, W>, content: &[u8]) -> Result<(), 
 
 /// Puts a date: a marker and its eight bytes.
 pub fn put_date<W: Write>(sink: &mut Sink<'_, W>, date: Date) -> Result<(), Error>
-    ensures { Puts W.contents sink.old (scalar_form (trees.Date date)) result sink.new }
+    ensures { Puts W.contents sink.old (scalar_form (trees.Date date)) (answer_of result) sink.new }
 {
     put_scalar(sink, ScalarRef::Date(date))
 }
 
 /// Puts a real: a marker and its four or eight bytes.
 pub fn put_real<W: Write>(sink: &mut Sink<'_, W>, bits: RealBits) -> Result<(), Error>
-    ensures { Puts W.contents sink.old (scalar_form (trees.Real bits)) result sink.new }
+    ensures { Puts W.contents sink.old (scalar_form (trees.Real bits)) (answer_of result) sink.new }
 {
     put_scalar(sink, ScalarRef::Real(bits))
 }
 
 /// Puts a Uid in the smallest of 1, 2, 4 and 8 bytes into which it fits.
 pub fn put_uid<W: Write>(sink: &mut Sink<'_, W>, uid: Uid) -> Result<(), Error>
-    ensures { Puts W.contents sink.old (scalar_form (trees.Uid uid)) result sink.new }
+    ensures { Puts W.contents sink.old (scalar_form (trees.Uid uid)) (answer_of result) sink.new }
 {
     put_scalar(sink, ScalarRef::Uid(uid))
 }
@@ -133,7 +138,8 @@ pub fn put_uid<W: Write>(sink: &mut Sink<'_, W>, uid: Uid) -> Result<(), Error>
 /// Puts an integer. One from 0 to `i64::MAX` has the smallest of 1, 2, 4 and 8 bytes into which it
 /// fits, a negative one has eight bytes, and one above `i64::MAX` has sixteen.
 pub fn put_integer<W: Write>(sink: &mut Sink<'_, W>, value: Integer) -> Result<(), Error>
-    ensures { Puts W.contents sink.old (scalar_form (trees.Integer value)) result sink.new }
+    ensures { Puts W.contents sink.old (scalar_form (trees.Integer value)) (answer_of result)
+        sink.new }
 {
     put_scalar(sink, ScalarRef::Integer(value))
 }
@@ -145,7 +151,7 @@ pub fn put_numbers<W: Write>(
     list: &[u64],
 ) -> Result<(), Error>
     requires width { width ≤ 8 }
-    ensures { Puts W.contents sink.old (table_form width list.now) result sink.new }
+    ensures { Puts W.contents sink.old (table_form width list.now) (answer_of result) sink.new }
 {
     for index in 0..list.len() {
         let number = list[index];
@@ -159,7 +165,7 @@ pub fn put_numbers<W: Write>(
 /// Puts the trailer of a file with `count` objects, whose offset table lies at the byte offset
 /// `table`. The root is object 0.
 pub fn put_trailer<W: Write>(sink: &mut Sink<'_, W>, count: usize, table: u64) -> Result<(), Error>
-    ensures { Puts W.contents sink.old (trailer_of count table) result sink.new }
+    ensures { Puts W.contents sink.old (trailer_of count table) (answer_of result) sink.new }
 {
     let wide = offset_width(table) as u8;
     let narrow = reference_width(count as u64) as u8;
@@ -174,7 +180,8 @@ pub fn put_table_and_trailer<W: Write>(
     offsets: &[u64],
     table: u64,
 ) -> Result<(), Error>
-    ensures { Puts W.contents sink.old (table_and_trailer offsets.now table) result sink.new }
+    ensures { Puts W.contents sink.old (table_and_trailer offsets.now table) (answer_of result)
+        sink.new }
 {
     let width = offset_width(table);
     put_numbers(sink, width, offsets)?;

@@ -4,8 +4,7 @@
 ghost use Rattle.std.specs.Prelude.{◌≡◌, ◌<◌, ◌≤◌, ◌^◌, ◌⊎◌, ℕ, length, IfOk, IfSome};
 ghost use Rattle.plist_base.specs.Bracketing.{AreTreeEvents};
 ghost use Rattle.plist_base.specs.Faults.{OutOfMemory, PlistTooLarge, fault_without_offset};
-ghost use Rattle.plist_base.specs.Outcomes.{IfFault};
-ghost use Rattle.plist_base.specs.Sinks.{IsSizeOrNone};
+ghost use Rattle.plist_base.specs.Outcomes.{IfFault, IsSizeOrNone};
 ghost use Rattle.plist_binwrite.specs.Classes.{size_by};
 ghost use Rattle.plist_binwrite.specs.EventClasses.{IsClassed, class_in, events_in};
 ghost use Rattle.plist_binwrite.specs.SendingAs.{IsOfTree};

@@ -3,7 +3,7 @@
 //! If the room is known, nothing can fail, so no `Result` is passed through the calls.
 
 ghost use Rattle.std.specs.Prelude.{◌≡◌, ◌+◌, ◌++◌, ◌∷◌, ◌≤◌, length, true, false};
-ghost use Rattle.plist_base.specs.Sinks.{buffered, room};
+ghost use Rattle.plist_base.specs.FixedBuffers.{room};
 ghost use Rattle.plist_base.specs.Trees as trees;
 ghost use Rattle.plist_binwrite.specs.Forms.{integer_marker, unsigned_form, length_form, scalar_form};
 ghost use Rattle.std.specs.Int.{bytes_high_first};
@@ -37,7 +37,7 @@ fn number_marker(width: usize) -> Marker
 pub fn push_number(buffer: &mut FixedBuffer, width: usize, number: u64)
     requires width { width ≤ 8 }
     requires room { 8 ≤ room buffer.old }
-    ensures pushed { buffered buffer.new ≡ buffered buffer.old ++ bytes_high_first width number }
+    ensures pushed { buffer.new ≡ buffer.old ++ bytes_high_first width number }
     ensures room { room buffer.new + width ≡ room buffer.old }
 {
     // A shift by 64 bits, for which no byte is pushed, leaves the number as it is.
@@ -49,7 +49,7 @@ pub fn push_number(buffer: &mut FixedBuffer, width: usize, number: u64)
 #[inline(always)]
 fn push_marked(buffer: &mut FixedBuffer, marker: Marker, bytes: &[u8])
     requires { 1 + length bytes.now ≤ room buffer.old }
-    ensures pushed { buffered buffer.new ≡ buffered buffer.old ++ byte_of marker ∷ bytes.now }
+    ensures pushed { buffer.new ≡ buffer.old ++ byte_of marker ∷ bytes.now }
     ensures room { room buffer.new + (1 + length bytes.now) ≡ room buffer.old }
 {
     buffer.push(&[marker.encode()]);
@@ -61,8 +61,7 @@ fn push_marked(buffer: &mut FixedBuffer, marker: Marker, bytes: &[u8])
 fn push_marked_number(buffer: &mut FixedBuffer, marker: Marker, width: usize, number: u64)
     requires width { width ≤ 8 }
     requires room { 9 ≤ room buffer.old }
-    ensures pushed { buffered buffer.new ≡ buffered buffer.old
-        ++ byte_of marker ∷ bytes_high_first width number }
+    ensures pushed { buffer.new ≡ buffer.old ++ byte_of marker ∷ bytes_high_first width number }
     ensures room { room buffer.old ≤ room buffer.new + 9 }
 {
     buffer.push(&[marker.encode()]);
@@ -73,7 +72,7 @@ fn push_marked_number(buffer: &mut FixedBuffer, marker: Marker, width: usize, nu
 #[inline(always)]
 fn push_unsigned(buffer: &mut FixedBuffer, number: u64)
     requires { 9 ≤ room buffer.old }
-    ensures pushed { buffered buffer.new ≡ buffered buffer.old ++ unsigned_form number }
+    ensures pushed { buffer.new ≡ buffer.old ++ unsigned_form number }
 {
     let width = least_width(number);
     push_marked_number(buffer, number_marker(width), width, number);
@@ -83,8 +82,7 @@ fn push_unsigned(buffer: &mut FixedBuffer, number: u64)
 #[inline(always)]
 pub fn push_length(buffer: &mut FixedBuffer, kind: CountedKind, count: u64)
     requires { 10 ≤ room buffer.old }
-    ensures pushed { buffered buffer.new ≡ buffered buffer.old
-        ++ length_form kind count }
+    ensures pushed { buffer.new ≡ buffer.old ++ length_form kind count }
     ensures room { room buffer.old ≤ room buffer.new + 10 }
 {
     if let Some(low) = LowHalf::of_length(count) {
@@ -101,8 +99,7 @@ pub fn push_length(buffer: &mut FixedBuffer, kind: CountedKind, count: u64)
 #[inline(always)]
 pub fn push_boolean(buffer: &mut FixedBuffer, value: bool)
     requires { 1 ≤ room buffer.old }
-    ensures pushed { buffered buffer.new ≡ buffered buffer.old
-        ++ scalar_form (trees.Boolean value) }
+    ensures pushed { buffer.new ≡ buffer.old ++ scalar_form (trees.Boolean value) }
 {
     buffer.push(&[Marker::Boolean(value).encode()]);
 }
@@ -111,7 +108,7 @@ pub fn push_boolean(buffer: &mut FixedBuffer, value: bool)
 #[inline(always)]
 pub fn push_date(buffer: &mut FixedBuffer, date: Date)
     requires { 9 ≤ room buffer.old }
-    ensures pushed { buffered buffer.new ≡ buffered buffer.old ++ scalar_form (trees.Date date) }
+    ensures pushed { buffer.new ≡ buffer.old ++ scalar_form (trees.Date date) }
 {
     push_marked(buffer, Marker::Date, &date.to_plist_real());
 }
@@ -120,7 +117,7 @@ pub fn push_date(buffer: &mut FixedBuffer, date: Date)
 #[inline(always)]
 pub fn push_real(buffer: &mut FixedBuffer, bits: RealBits)
     requires { 9 ≤ room buffer.old }
-    ensures pushed { buffered buffer.new ≡ buffered buffer.old ++ scalar_form (trees.Real bits) }
+    ensures pushed { buffer.new ≡ buffer.old ++ scalar_form (trees.Real bits) }
 {
     match bits {
         RealBits::Four(digits) => push_marked(buffer, Marker::Real4, &digits),
@@ -132,7 +129,7 @@ pub fn push_real(buffer: &mut FixedBuffer, bits: RealBits)
 #[inline(always)]
 pub fn push_uid(buffer: &mut FixedBuffer, uid: Uid)
     requires { 9 ≤ room buffer.old }
-    ensures pushed { buffered buffer.new ≡ buffered buffer.old ++ scalar_form (trees.Uid uid) }
+    ensures pushed { buffer.new ≡ buffer.old ++ scalar_form (trees.Uid uid) }
 {
     let width = least_width(uid.get());
     let marker = Marker::Uid(UidWidth::new(width));
@@ -142,7 +139,7 @@ pub fn push_uid(buffer: &mut FixedBuffer, uid: Uid)
 // Pushes an integer above `i64::MAX`, in sixteen bytes.
 fn push_wide_integer(buffer: &mut FixedBuffer, number: u64)
     requires { 17 ≤ room buffer.old }
-    ensures pushed { buffered buffer.new ≡ buffered buffer.old
+    ensures pushed { buffer.new ≡ buffer.old
         ++ byte_of Marker.Integer16 ∷ bytes_high_first 16 number }
 {
     push_marked_number(buffer, Marker::Integer16, 8, 0);
@@ -153,8 +150,7 @@ fn push_wide_integer(buffer: &mut FixedBuffer, number: u64)
 #[inline(always)]
 pub fn push_integer(buffer: &mut FixedBuffer, value: Integer)
     requires { 17 ≤ room buffer.old }
-    ensures pushed { buffered buffer.new ≡ buffered buffer.old
-        ++ scalar_form (trees.Integer value) }
+    ensures pushed { buffer.new ≡ buffer.old ++ scalar_form (trees.Integer value) }
 {
     match (value.as_unsigned(), value.as_signed()) {
         (Some(number), Some(_)) => push_unsigned(buffer, number),
@@ -171,7 +167,7 @@ pub fn push_integer(buffer: &mut FixedBuffer, value: Integer)
 fn push_encoded(buffer: &mut FixedBuffer, text: &str) -> bool
     requires wide { is_ascii_text text.now ≡ false }
     ensures pushed { result ≡ true
-        → buffered buffer.new ≡ buffered buffer.old ++ scalar_form (trees.String text.now) }
+        → buffer.new ≡ buffer.old ++ scalar_form (trees.String text.now) }
     ensures unchanged { result ≡ false → buffer.new ≡ buffer.old }
 {
     let count = count_units(text);
@@ -188,7 +184,7 @@ fn push_encoded(buffer: &mut FixedBuffer, text: &str) -> bool
 fn push_text(buffer: &mut FixedBuffer, text: &str) -> bool
     requires { 17 ≤ room buffer.old }
     ensures pushed { result ≡ true
-        → buffered buffer.new ≡ buffered buffer.old ++ scalar_form (trees.String text.now) }
+        → buffer.new ≡ buffer.old ++ scalar_form (trees.String text.now) }
     ensures unchanged { result ≡ false → buffer.new ≡ buffer.old }
 {
     if text.len() > buffer.room() - 10 {
@@ -208,7 +204,7 @@ fn push_text(buffer: &mut FixedBuffer, text: &str) -> bool
 fn push_wide(buffer: &mut FixedBuffer, units: &[u8]) -> bool
     requires room { 17 ≤ room buffer.old }
     requires wide { IsWide units.now }
-    ensures pushed { result ≡ true → buffered buffer.new ≡ buffered buffer.old
+    ensures pushed { result ≡ true → buffer.new ≡ buffer.old
         ++ scalar_form (trees.String (utf8_of_utf16 units.now)) }
     ensures unchanged { result ≡ false → buffer.new ≡ buffer.old }
 {
@@ -224,8 +220,7 @@ fn push_wide(buffer: &mut FixedBuffer, units: &[u8]) -> bool
 #[inline(always)]
 fn push_data(buffer: &mut FixedBuffer, bytes: &[u8]) -> bool
     requires { 17 ≤ room buffer.old }
-    ensures pushed { result ≡ true
-        → buffered buffer.new ≡ buffered buffer.old ++ scalar_form (trees.Data bytes.now) }
+    ensures pushed { result ≡ true → buffer.new ≡ buffer.old ++ scalar_form (trees.Data bytes.now) }
     ensures unchanged { result ≡ false → buffer.new ≡ buffer.old }
 {
     if bytes.len() > buffer.room() - 10 {
@@ -244,7 +239,7 @@ pub fn push_scalar(buffer: &mut FixedBuffer, scalar: ScalarRef<'_>) -> bool
     requires room { 17 ≤ room buffer.old }
     requires stored { IsStored scalar }
     ensures pushed { result ≡ true
-        → buffered buffer.new ≡ buffered buffer.old ++ scalar_form (scalar_of_ref scalar.entry) }
+        → buffer.new ≡ buffer.old ++ scalar_form (scalar_of_ref scalar.entry) }
     ensures unchanged { result ≡ false → buffer.new ≡ buffer.old }
 {
     match scalar {

@@ -7,7 +7,9 @@ ghost use Rattle.std.specs.Char.Escape.{encode_utf16};
 ghost use Rattle.plist_base.specs.Trees.{String};
 ghost use Rattle.plist_base.specs.Utf16.{units_of, utf8_of_utf16};
 ghost use Rattle.plist_binwrite.specs.Forms.{length_form, scalar_form, table_form};
-ghost use Rattle.plist_base.specs.Sinks.{Puts, buffered, room};
+ghost use Rattle.plist_base.specs.FixedBuffers.{room};
+ghost use Rattle.plist_base.specs.Sinks.{Puts};
+ghost use Rattle.plist_base.specs.Writing.{answer_of};
 ghost use Rattle.plist_buffer.specs.StoredScalars.{IsWide};
 ghost use Rattle.std.specs.List.{sum_by};
 ghost use Rattle.plist_binwrite.specs.inner.Layout.{PushesUnits};
@@ -24,7 +26,7 @@ use std::str::Chars;
 #[inline(always)]
 fn push_char(buffer: &mut FixedBuffer, c: char)
     requires { 16 ≤ room buffer.old }
-    ensures pushed { buffered buffer.new ≡ buffered buffer.old ++ table_form 2 (encode_utf16 c) }
+    ensures pushed { buffer.new ≡ buffer.old ++ table_form 2 (encode_utf16 c) }
     ensures room { room buffer.new + 2 * length (encode_utf16 c) ≡ room buffer.old }
 {
     let code = u64::from(c as u32);
@@ -64,7 +66,8 @@ pub fn push_units(buffer: &mut FixedBuffer, chars: &mut Chars<'_>) -> bool
 
 // Puts the UTF-16 units of a string, each in two bytes.
 fn put_units<W: Write>(sink: &mut Sink<'_, W>, text: &str) -> Result<(), Error>
-    ensures { Puts W.contents sink.old (table_form 2 (units_of text.now)) result sink.new }
+    ensures { Puts W.contents sink.old (table_form 2 (units_of text.now)) (answer_of result)
+        sink.new }
 {
     let mut chars = text.chars();
     loop {
@@ -112,7 +115,7 @@ pub fn count_units(text: &str) -> usize
 // Puts a string whose bytes are all ASCII.
 fn put_ascii<W: Write>(sink: &mut Sink<'_, W>, text: &str) -> Result<(), Error>
     ensures { Puts W.contents sink.old
-        (length_form CountedKind.Text (length text.now) ++ text.now) result sink.new }
+        (length_form CountedKind.Text (length text.now) ++ text.now) (answer_of result) sink.new }
 {
     let count = text.len();
     put_length(sink, CountedKind::Text, count as u64)?;
@@ -123,7 +126,7 @@ fn put_ascii<W: Write>(sink: &mut Sink<'_, W>, text: &str) -> Result<(), Error>
 fn put_encoded<W: Write>(sink: &mut Sink<'_, W>, text: &str) -> Result<(), Error>
     ensures { Puts W.contents sink.old
         (length_form CountedKind.WideText (length (units_of text.now))
-        ++ table_form 2 (units_of text.now)) result sink.new }
+        ++ table_form 2 (units_of text.now)) (answer_of result) sink.new }
 {
     let count = count_units(text);
     put_length(sink, CountedKind::WideText, count as u64)?;
@@ -133,7 +136,7 @@ fn put_encoded<W: Write>(sink: &mut Sink<'_, W>, text: &str) -> Result<(), Error
 /// Puts a string: its bytes if all of them are ASCII, and otherwise its UTF-16 units. An error is
 /// that of [`Sink::put`].
 pub fn put_text<W: Write>(sink: &mut Sink<'_, W>, text: &str) -> Result<(), Error>
-    ensures { Puts W.contents sink.old (scalar_form (String text.now)) result sink.new }
+    ensures { Puts W.contents sink.old (scalar_form (String text.now)) (answer_of result) sink.new }
 {
     if is_ascii_text(text) {
         put_ascii(sink, text)
@@ -145,8 +148,8 @@ pub fn put_text<W: Write>(sink: &mut Sink<'_, W>, text: &str) -> Result<(), Erro
 /// Puts a string that isn't ASCII, given its units in UTF-16. An error is that of [`Sink::put`].
 pub fn put_wide<W: Write>(sink: &mut Sink<'_, W>, units: &[u8]) -> Result<(), Error>
     requires { IsWide units.now }
-    ensures { Puts W.contents sink.old (scalar_form (String (utf8_of_utf16 units.now))) result
-        sink.new }
+    ensures { Puts W.contents sink.old (scalar_form (String (utf8_of_utf16 units.now)))
+        (answer_of result) sink.new }
 {
     put_length(sink, CountedKind::WideText, (units.len() / 2) as u64)?;
     sink.put(units)

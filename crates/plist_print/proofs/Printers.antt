@@ -1,5 +1,5 @@
 -- What is written for the events that a printer takes.
-use Rattle.std.proofs.Common.{◌≡◌, ◌++◌, ℕ, List, [], Option, None, Some, Result, Ok, Err, sym, ◌∙◌, append-nil}
+use Rattle.std.proofs.Common.{◌≡◌, ◌++◌, ℕ, List, [], Option, None, Some, Result, Ok, Err, ap, sym, ◌∙◌, append-nil}
 use Rattle.std.specs.Io.KnownBytes.{Appends}
 use Rattle.std.specs.declared.ops.ControlFlow.TheVariants.{Break, Continue}
 use Rattle.std.specs.Prelude.{IfErr, OnOk}
@@ -9,38 +9,49 @@ use Rattle.plist_base.specs.declared.visitor.Visited.TheVariants.{Ended, Stopped
 use Rattle.plist_base.specs.Events.{PlainEvent}
 use Rattle.plist_base.specs.Faults.{Io, fault_without_offset, fault_of}
 use Rattle.plist_base.specs.Prefixes.{AppendsPrefix}
-use Rattle.plist_base.specs.Sinks.{Puts, pending, written}
+use Rattle.plist_base.specs.Sinks.{Puts, pending}
 use Rattle.plist_base.specs.Visits.{Flow, HandsOverAll, PlainItem, Visits}
+use Rattle.plist_base.specs.Writing.{answer_of}
 use Rattle.plist_base.proofs.WriterBytes.{Appends-at}
 use Rattle.plist_base.proofs.SinkSteps.{puts_as, puts_then, same_itself, same_then}
 use Rattle.plist_base.proofs.Visits.{kept_all}
 use Rattle.plist_print.specs.declared.printer.Printer.{Printer}
 use Rattle.plist_print.specs.Printers.{IsSamePrinter, PrintsBytes, PrintsLine, pending_lines, printed, printer_sink}
 use Rattle.plist_print.specs.PrintRuns.{PrintsRun}
-use Rattle.plist_print.proofs.Runs.{HasRun, run_more, run_none, run_stopped}
+use Rattle.plist_print.proofs.Runs.{HasRun, WritesBut, run_more, run_none, run_stopped}
 
 module _ {W : Type 0} (contents : W → Option (List ℕ)) where
   -- the pending bytes are written, or a prefix of them if a write fails
   pub record Empties (old : Sink W) (answer : Result (Unit {0}) Error) (new : Sink W) : Type 0 where
-    pub sent : OnOk answer (Appends (written contents old) (written contents new) (pending old))
+    pub sent : OnOk answer
+        (Appends (contents old.writer.now) (contents new.writer.now) (pending old))
     pub fault : IfErr answer (λ error. fault_of error ≡ fault_without_offset Io)
-    pub prefix : AppendsPrefix (written contents old) (written contents new) (pending old)
+    pub prefix : AppendsPrefix (contents old.writer.now) (contents new.writer.now) (pending old)
 
-  pub empties : (old new : Sink W) (answer : Result (Unit {0}) Error) → Puts contents old [] answer new
-      → OnOk answer (pending new ≡ []) → Empties old answer new
+  pub empties : (old new : Sink W) (answer : Result (Unit {0}) Error)
+      → Puts contents old [] (answer_of answer) new → OnOk answer (pending new ≡ [])
+      → Empties old answer new
   empties old new (Ok done) put none =
-      let (sent, appended, is) = put.follows in
-      let all : pending old ≡ sent = sym (append-nil (pending old)) ∙ rw none at is ∙ append-nil sent in
+      let all : pending old ≡ put.sent = sym (append-nil (pending old)) ∙ put.all
+      ∙ ap (λ l. put.sent ++ l) (sym put.kept ∙ none) ∙ append-nil put.sent in
       record {
-        sent = Appends-at (written contents old) (written contents new) _ _ (sym all) appended;
+        sent = Appends-at (contents old.writer.now) (contents new.writer.now) _ _ (sym all)
+            put.written;
         fault = tt;
-        prefix = (sent, [], appended, all ∙ sym (append-nil sent));
+        prefix = (put.sent, [], put.written, all ∙ sym (append-nil put.sent));
       }
   empties old new (Err error) put none = record {
     sent = tt;
-    fault = put.follows.0;
-    prefix = rw (append-nil (pending old)) at put.follows.1;
+    fault = put.fault;
+    prefix = (put.sent, put.rest, put.written, sym (append-nil (pending old)) ∙ put.all);
   }
+
+-- what is written when bytes are put
+passed : {W : Type 0} {contents : W → Option (List ℕ)} {old new : Sink W} {bytes : List ℕ}
+    → Puts contents old bytes (Ok tt) new
+    → WritesBut (contents old.writer.now) (contents new.writer.now) (pending old ++ bytes)
+    (pending new)
+passed put = (put.sent, put.written, put.all ∙ ap (λ l. put.sent ++ l) (sym put.kept))
 
 -- bytes are put into the sink, and then the printer prints more
 pub prints_then : {W : Type 0} {contents : W → Option (List ℕ)} (a b c : Printer W)
@@ -66,7 +77,7 @@ module _ {I W : Type 0} (yields : I → PlainItem → I → Type 0) (contents : 
       (λ now next event (run, same) one. (
         run_more yields old.0 now.0 next.0 event (printed contents old.1) (printed contents now.1)
             (printed contents next.1) (pending_lines now.1) (pending_lines next.1) run one.given
-            one.taken.follows,
+            (passed one.taken),
         same_then same one.taken.same,
       ))
       old new events (
@@ -116,6 +127,6 @@ module _ {I W : Type 0} (yields : I → PlainItem → I → Type 0) (contents : 
       let (error, is, put) = one.taken in (
         rw is (run_stopped yields old.0 visit.left.0 new.0 event (printed contents old.1)
             (printed contents visit.left.1) (printed contents new.1) (pending_lines visit.left.1)
-            error ran.0 one.given put.follows.0 put.follows.1),
+            error ran.0 one.given put.fault (put.sent, put.rest, put.written, put.all)),
         same_then ran.1 put.same,
       )

@@ -7,7 +7,6 @@ use Rattle.plist_base.specs.declared.error.Error.{Error}
 use Rattle.plist_base.specs.Events.{PlainEvent}
 use Rattle.plist_base.specs.Faults.{Io, OutOfMemory, fault_without_offset, fault_of}
 use Rattle.plist_base.specs.Prefixes.{AppendsPrefix}
-use Rattle.plist_base.specs.Sinks.{WritesBut}
 use Rattle.plist_base.specs.Visits.{YieldsAll, PlainItem}
 use Rattle.plist_base.proofs.WriterBytes.{Appends-at}
 use Rattle.plist_base.proofs.Visits.{given_more}
@@ -20,6 +19,10 @@ lines_more [] event = append-nil (line_of event)
 lines_more (first ∷ events) event =
     ap (λ l. line_of first ++ l) (lines_more events event)
     ∙ sym (append_assoc (line_of first) (lines_of_events events) (line_of event))
+
+-- a prefix of `all` was appended to the known bytes, and `rest` is the rest of `all`
+abbrev pub WritesBut : (old new : Option (List ℕ)) → (all rest : List ℕ) → Type 0
+WritesBut old new all rest = (sent : List ℕ) × Appends old new sent × (all ≡ sent ++ rest)
 
 -- all pending lines were written
 all_sent : (old now after : Option (List ℕ)) (lines held : List ℕ) → WritesBut old now lines held

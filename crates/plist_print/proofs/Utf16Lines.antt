@@ -7,7 +7,6 @@ use Rattle.std.proofs.lemmas.Grind.{flat_map-append}
 use Rattle.std.proofs.lemmas.Str.{encodes-IsAscii, encodes-append}
 use Rattle.plist_base.specs.declared.fixed_buffer.FixedBuffer.{FixedBuffer}
 use Rattle.plist_base.specs.ByteTests.{EachByte}
-use Rattle.plist_base.specs.Sinks.{buffered}
 use Rattle.plist_base.proofs.ByteBlocks.{ascii_from_each}
 use Rattle.plist_print.specs.EscapedLines.{escaped_byte, escaped_chars, escaped_text}
 use Rattle.plist_print.specs.Utf16Lines.{PushesChars}
@@ -56,21 +55,21 @@ chars-append xs ys =
 
 -- a character is pushed
 pub pushes_one : {a b : FixedBuffer} {chars rest : List ℕ} (x : ℕ) → chars ≡ x ∷ rest
-    → buffered b ≡ buffered a ++ escaped_text (encode_utf8 x) → PushesChars (a, chars) (b, rest)
+    → b ≡ a ++ escaped_text (encode_utf8 x) → PushesChars (a, chars) (b, rest)
 pushes_one {a} x parts pushed = record {
   front = x ∷ [];
   left = parts;
-  pushed = pushed ∙ ap (λ l. buffered a ++ escaped_text l) (sym (append-nil (encode_utf8 x)));
+  pushed = pushed ∙ ap (λ l. a ++ escaped_text l) (sym (append-nil (encode_utf8 x)));
 }
 
 -- characters that are ASCII are pushed
 pub pushes_block : {a b : FixedBuffer} {chars rest : List ℕ} (block : List ℕ)
     → chars ≡ block ++ rest → EachByte (λ byte. byte < 128) block
-    → buffered b ≡ buffered a ++ escaped_text block → PushesChars (a, chars) (b, rest)
+    → b ≡ a ++ escaped_text block → PushesChars (a, chars) (b, rest)
 pushes_block {a} block parts ascii pushed = record {
   front = block;
   left = parts;
-  pushed = pushed ∙ ap (λ l. buffered a ++ escaped_text l)
+  pushed = pushed ∙ ap (λ l. a ++ escaped_text l)
       (sym (encodes-IsAscii block (ascii_from_each block ascii)));
 }
 
@@ -82,8 +81,8 @@ pushes_then {a} {rest = rest} p q = record {
   front = p.front ++ q.front;
   left = p.left ∙ ap (λ l. p.front ++ l) q.left ∙ sym (append_assoc p.front q.front rest);
   pushed = q.pushed ∙ ap (λ l. l ++ escaped_chars q.front) p.pushed
-      ∙ append_assoc (buffered a) (escaped_chars p.front) (escaped_chars q.front)
-      ∙ ap (λ l. buffered a ++ l) (chars-append p.front q.front);
+      ∙ append_assoc a (escaped_chars p.front) (escaped_chars q.front)
+      ∙ ap (λ l. a ++ l) (chars-append p.front q.front);
 }
 
 -- the printed forms of the characters before a call, those that it pushes, and the others

@@ -7,7 +7,7 @@ use Rattle.plist_base.specs.declared.sink.Sink.{Sink}
 use Rattle.plist_base.specs.Events.{PlainEvent}
 use Rattle.plist_base.specs.Faults.{Io, fault_without_offset, fault_of}
 use Rattle.plist_base.specs.Prefixes.{AppendsPrefix}
-use Rattle.plist_base.specs.Sinks.{IsSameSink, Puts, buffered, pending, written}
+use Rattle.plist_base.specs.Sinks.{IsSameSink, Puts, pending}
 use Rattle.plist_base.specs.Visits.{Flow}
 use Rattle.plist_print.specs.declared.printer.Printer.{Printer}
 use Rattle.plist_print.specs.EscapedLines.{line_of}
@@ -18,7 +18,7 @@ printer_sink printer = printer.sink
 
 -- the lines that are pending
 abbrev pub pending_lines : {W : Type 0} → Printer W → List ℕ
-pending_lines printer = buffered printer.sink.buffer.now
+pending_lines printer = pending printer.sink
 
 -- the printer has the same writer and the same buffer
 abbrev pub IsSamePrinter : {W : Type 0} → (old new : Printer W) → Type 0
@@ -36,7 +36,7 @@ module _ {W : Type 0} (contents : W → Option (List ℕ)) where
       Puts contents (printer_sink old) bytes (Ok tt) (printer_sink new)
   PrintsBytes old bytes (Break stop) new =
       (error : Error) × (new.result ≡ Err error)
-      × Puts contents (printer_sink old) bytes (Err error) (printer_sink new)
+      × Puts contents (printer_sink old) bytes (Err (fault_of error)) (printer_sink new)
 
   -- the line of the event is put into the sink
   abbrev pub PrintsLine : (old : Printer W) → PlainEvent → Flow → (new : Printer W) → Type 0
@@ -45,6 +45,7 @@ module _ {W : Type 0} (contents : W → Option (List ℕ)) where
   -- all that was pending is written and this error is the result, or a write fails
   pub record FailsAfterLines (old : Sink W) (error answer : Error) (new : Sink W) : Type 0 where
     pub same : IsSameSink old new
-    pub lines : ((answer ≡ error) × Appends (written contents old) (written contents new)
-        (pending old)) ⊎ (fault_of answer ≡ fault_without_offset Io)
-    pub prefix : AppendsPrefix (written contents old) (written contents new) (pending old)
+    pub lines : ((answer ≡ error)
+        × Appends (contents old.writer.now) (contents new.writer.now) (pending old))
+        ⊎ (fault_of answer ≡ fault_without_offset Io)
+    pub prefix : AppendsPrefix (contents old.writer.now) (contents new.writer.now) (pending old)

@@ -1,7 +1,7 @@
 //! Bytes as hexadecimal digits.
 
 ghost use Rattle.std.specs.Prelude.{◌≡◌, ◌++◌, ◌+◌, ◌*◌, ◌<◌, ◌≤◌, [], ◌∷◌, length};
-ghost use Rattle.plist_base.specs.Sinks.{buffered, room};
+ghost use Rattle.plist_base.specs.FixedBuffers.{room};
 ghost use Rattle.plist_print.specs.EscapedLines.{hexadecimal, hexadecimal_digit};
 
 use plist_base::FixedBuffer;
@@ -59,7 +59,7 @@ fn digits_of_block<const N: usize, const DIGITS: usize>(bytes: &[u8; N]) -> [u8;
 // Pushes two hexadecimal digits for each byte, one byte at a time.
 fn push_digits(line: &mut FixedBuffer, bytes: &[u8])
     requires { 2 * length bytes.now ≤ room line.old }
-    ensures pushed { buffered line.new ≡ buffered line.old ++ hexadecimal bytes.now }
+    ensures pushed { line.new ≡ line.old ++ hexadecimal bytes.now }
     ensures room { room line.old ≤ room line.new + 2 * length bytes.now }
 {
     for &byte in bytes {
@@ -76,8 +76,7 @@ fn push_blocks<'b, const N: usize, const DIGITS: usize>(
 ) -> &'b [u8]
     requires size { (0 < N) × (DIGITS ≡ 2 * N) }
     requires room { 2 * length bytes.now ≤ room line.old }
-    ensures pushed { buffered line.new ++ hexadecimal result.now
-        ≡ buffered line.old ++ hexadecimal bytes.now }
+    ensures pushed { line.new ++ hexadecimal result.now ≡ line.old ++ hexadecimal bytes.now }
     ensures room { room line.old + 2 * length result.now ≤ room line.new + 2 * length bytes.now }
 {
     let (blocks, rest) = bytes.as_chunks::<N>();
@@ -90,7 +89,7 @@ fn push_blocks<'b, const N: usize, const DIGITS: usize>(
 /// Pushes two hexadecimal digits for each byte.
 pub fn push_hexadecimal(line: &mut FixedBuffer, bytes: &[u8])
     requires { 2 * length bytes.now ≤ room line.old }
-    ensures pushed { buffered line.new ≡ buffered line.old ++ hexadecimal bytes.now }
+    ensures pushed { line.new ≡ line.old ++ hexadecimal bytes.now }
     ensures room { room line.old ≤ room line.new + 2 * length bytes.now }
 {
     let shorter = push_blocks::<64, 128>(line, bytes);

@@ -3,7 +3,7 @@
 ghost use Rattle.std.specs.Prelude.{◌≡◌, ◌++◌, ◌+◌, ◌*◌, ◌≤◌, codes, length};
 ghost use Rattle.std.specs.Fmt.{decimal, signed_decimal};
 ghost use Rattle.plist_base.specs.Events.{ScalarEvent};
-ghost use Rattle.plist_base.specs.Sinks.{buffered, room};
+ghost use Rattle.plist_base.specs.FixedBuffers.{room};
 ghost use Rattle.plist_base.specs.Trees.{Boolean, Data, String};
 ghost use Rattle.plist_print.specs.EscapedLines.{event_of_short, in_notation, line_of, text_of_date, text_of_real, text_of_start};
 
@@ -49,7 +49,7 @@ pub const MAX_FIXED_LINE: usize = 64;
 /// Pushes the printed form of these bytes, which has at most four bytes for each of them.
 pub fn push_bytes(line: &mut FixedBuffer, bytes: &[u8], notation: Notation)
     requires { 4 * length bytes.now ≤ room line.old }
-    ensures { buffered line.new ≡ buffered line.old ++ in_notation notation bytes.now }
+    ensures { line.new ≡ line.old ++ in_notation notation bytes.now }
 {
     match notation {
         Notation::Text => push_text(line, bytes),
@@ -61,8 +61,7 @@ pub fn push_bytes(line: &mut FixedBuffer, bytes: &[u8], notation: Notation)
 #[inline(always)]
 fn push_number<const N: usize>(line: &mut FixedBuffer, word: [u8; N], number: u64)
     requires { N + 21 ≤ room line.old }
-    ensures { buffered line.new
-        ≡ buffered line.old ++ word.entry ++ decimal number ++ codes "\n" }
+    ensures { line.new ≡ line.old ++ word.entry ++ decimal number ++ codes "\n" }
 {
     line.push_array(word);
     line.push_decimal(number);
@@ -73,8 +72,7 @@ fn push_number<const N: usize>(line: &mut FixedBuffer, word: [u8; N], number: u6
 #[inline(always)]
 fn push_start<const N: usize>(line: &mut FixedBuffer, word: [u8; N], count: Option<u64>)
     requires { N + 22 ≤ room line.old }
-    ensures { buffered line.new
-        ≡ buffered line.old ++ text_of_start word.entry count ++ codes "\n" }
+    ensures { line.new ≡ line.old ++ text_of_start word.entry count ++ codes "\n" }
 {
     line.push_array(word);
     match count {
@@ -86,7 +84,7 @@ fn push_start<const N: usize>(line: &mut FixedBuffer, word: [u8; N], count: Opti
 // Pushes the digits of a signed number.
 fn push_signed(line: &mut FixedBuffer, number: i64)
     requires { 21 ≤ room line.old }
-    ensures pushed { buffered line.new ≡ buffered line.old ++ signed_decimal number }
+    ensures pushed { line.new ≡ line.old ++ signed_decimal number }
     ensures room { room line.old ≤ room line.new + 21 }
 {
     if number < 0 {
@@ -101,8 +99,7 @@ fn push_signed(line: &mut FixedBuffer, number: i64)
 #[inline(never)]
 fn push_negative(line: &mut FixedBuffer, number: i64)
     requires { 64 ≤ room line.old }
-    ensures { buffered line.new
-        ≡ buffered line.old ++ codes "Integer " ++ signed_decimal number ++ codes "\n" }
+    ensures { line.new ≡ line.old ++ codes "Integer " ++ signed_decimal number ++ codes "\n" }
 {
     line.push(b"Integer ");
     push_signed(line, number);
@@ -113,8 +110,7 @@ fn push_negative(line: &mut FixedBuffer, number: i64)
 #[inline(always)]
 fn push_integer(line: &mut FixedBuffer, integer: Integer)
     requires { 64 ≤ room line.old }
-    ensures { buffered line.new
-        ≡ buffered line.old ++ codes "Integer " ++ signed_decimal integer ++ codes "\n" }
+    ensures { line.new ≡ line.old ++ codes "Integer " ++ signed_decimal integer ++ codes "\n" }
 {
     match integer.as_unsigned() {
         Some(number) => push_number(line, *b"Integer ", number),
@@ -126,7 +122,7 @@ fn push_integer(line: &mut FixedBuffer, integer: Integer)
 #[inline(always)]
 fn push_boolean(line: &mut FixedBuffer, value: bool)
     requires { 64 ≤ room line.old }
-    ensures { buffered line.new ≡ buffered line.old ++ line_of (ScalarEvent (Boolean value)) }
+    ensures { line.new ≡ line.old ++ line_of (ScalarEvent (Boolean value)) }
 {
     if value {
         line.push_array(*b"Boolean true\n");
@@ -138,7 +134,7 @@ fn push_boolean(line: &mut FixedBuffer, value: bool)
 // Pushes a date: its second, and its bytes if it has a fraction.
 fn push_date(line: &mut FixedBuffer, date: Date)
     requires { 38 ≤ room line.old }
-    ensures pushed { buffered line.new ≡ buffered line.old ++ text_of_date date }
+    ensures pushed { line.new ≡ line.old ++ text_of_date date }
     ensures room { room line.old ≤ room line.new + 38 }
 {
     push_signed(line, date.plist_secs());
@@ -152,8 +148,7 @@ fn push_date(line: &mut FixedBuffer, date: Date)
 #[inline(never)]
 fn push_date_line(line: &mut FixedBuffer, date: Date)
     requires { 64 ≤ room line.old }
-    ensures { buffered line.new
-        ≡ buffered line.old ++ codes "Date " ++ text_of_date date ++ codes "\n" }
+    ensures { line.new ≡ line.old ++ codes "Date " ++ text_of_date date ++ codes "\n" }
 {
     line.push(b"Date ");
     push_date(line, date);
@@ -163,7 +158,7 @@ fn push_date_line(line: &mut FixedBuffer, date: Date)
 // Pushes the bytes of a real.
 fn push_real(line: &mut FixedBuffer, real: RealBits)
     requires { 16 ≤ room line.old }
-    ensures pushed { buffered line.new ≡ buffered line.old ++ text_of_real real }
+    ensures pushed { line.new ≡ line.old ++ text_of_real real }
     ensures room { room line.old ≤ room line.new + 16 }
 {
     match real {
@@ -176,8 +171,7 @@ fn push_real(line: &mut FixedBuffer, real: RealBits)
 #[inline(never)]
 fn push_real_line(line: &mut FixedBuffer, real: RealBits)
     requires { 64 ≤ room line.old }
-    ensures { buffered line.new
-        ≡ buffered line.old ++ codes "Real " ++ text_of_real real ++ codes "\n" }
+    ensures { line.new ≡ line.old ++ codes "Real " ++ text_of_real real ++ codes "\n" }
 {
     line.push(b"Real ");
     push_real(line, real);
@@ -188,7 +182,7 @@ fn push_real_line(line: &mut FixedBuffer, real: RealBits)
 #[inline(always)]
 pub fn push_short(line: &mut FixedBuffer, short: ShortLine)
     requires { 64 ≤ room line.old }
-    ensures { buffered line.new ≡ buffered line.old ++ line_of (event_of_short short) }
+    ensures { line.new ≡ line.old ++ line_of (event_of_short short) }
 {
     match short {
         ShortLine::Array(length) => push_start(line, *b"StartArray", length),
@@ -206,7 +200,7 @@ pub fn push_short(line: &mut FixedBuffer, short: ShortLine)
 #[inline(always)]
 pub fn push_string(line: &mut FixedBuffer, text: &str)
     requires { 4 * length text.now + 64 ≤ room line.old }
-    ensures { buffered line.new ≡ buffered line.old ++ line_of (ScalarEvent (String text.now)) }
+    ensures { line.new ≡ line.old ++ line_of (ScalarEvent (String text.now)) }
 {
     push_text_line(line, text.as_bytes());
 }
@@ -214,7 +208,7 @@ pub fn push_string(line: &mut FixedBuffer, text: &str)
 /// Pushes the line of data.
 pub fn push_data(line: &mut FixedBuffer, bytes: &[u8])
     requires { 2 * length bytes.now + 64 ≤ room line.old }
-    ensures { buffered line.new ≡ buffered line.old ++ line_of (ScalarEvent (Data bytes.now)) }
+    ensures { line.new ≡ line.old ++ line_of (ScalarEvent (Data bytes.now)) }
 {
     if bytes.is_empty() {
         line.push(b"Data\n");

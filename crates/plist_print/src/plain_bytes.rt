@@ -4,7 +4,7 @@
 ghost use Rattle.std.specs.Prelude.{◌≡◌, ◌++◌, ◌+◌, ◌*◌, ◌<◌, ◌≤◌, false, length, true};
 ghost use Rattle.plist_base.specs.ByteTests.{EachByte};
 ghost use Rattle.plist_base.specs.Events.{ScalarEvent};
-ghost use Rattle.plist_base.specs.Sinks.{buffered, room};
+ghost use Rattle.plist_base.specs.FixedBuffers.{room};
 ghost use Rattle.plist_base.specs.Trees.{String};
 ghost use Rattle.plist_print.specs.EscapedLines.{escaped_byte, escaped_text, line_of, stands_for_itself};
 
@@ -82,7 +82,7 @@ impl ByteTest for Plain {
 pub fn push_escape(line: &mut FixedBuffer, byte: u8)
     requires escaped { stands_for_itself byte ≡ false }
     requires room { 4 ≤ room line.old }
-    ensures pushed { buffered line.new ≡ buffered line.old ++ escaped_byte byte }
+    ensures pushed { line.new ≡ line.old ++ escaped_byte byte }
     ensures room { room line.old ≤ room line.new + 4 }
 {
     let [high, low] = digits_of(byte);
@@ -93,7 +93,7 @@ pub fn push_escape(line: &mut FixedBuffer, byte: u8)
 #[inline(always)]
 pub fn push_byte(line: &mut FixedBuffer, byte: u8)
     requires { 4 ≤ room line.old }
-    ensures pushed { buffered line.new ≡ buffered line.old ++ escaped_byte byte }
+    ensures pushed { line.new ≡ line.old ++ escaped_byte byte }
     ensures room { room line.old ≤ room line.new + 4 }
 {
     if is_marked_plain(byte) {
@@ -107,7 +107,7 @@ pub fn push_byte(line: &mut FixedBuffer, byte: u8)
 #[inline(always)]
 fn push_escaped(line: &mut FixedBuffer, text: &[u8])
     requires { 4 * length text.now ≤ room line.old }
-    ensures pushed { buffered line.new ≡ buffered line.old ++ escaped_text text.now }
+    ensures pushed { line.new ≡ line.old ++ escaped_text text.now }
     ensures room { room line.old ≤ room line.new + 4 * length text.now }
 {
     for &byte in text {
@@ -120,7 +120,7 @@ fn push_escaped(line: &mut FixedBuffer, text: &[u8])
 #[inline(always)]
 pub fn push_text(line: &mut FixedBuffer, text: &[u8])
     requires { 4 * length text.now ≤ room line.old }
-    ensures pushed { buffered line.new ≡ buffered line.old ++ escaped_text text.now }
+    ensures pushed { line.new ≡ line.old ++ escaped_text text.now }
     ensures room { room line.old ≤ room line.new + 4 * length text.now }
 {
     if !line.push_passing::<Plain, 0, 0>([], text, []) {
@@ -133,7 +133,7 @@ pub fn push_text(line: &mut FixedBuffer, text: &[u8])
 #[inline(never)]
 fn push_escaped_line(line: &mut FixedBuffer, text: &[u8])
     requires { 4 * length text.now + 64 ≤ room line.old }
-    ensures { buffered line.new ≡ buffered line.old ++ line_of (ScalarEvent (String text.now)) }
+    ensures { line.new ≡ line.old ++ line_of (ScalarEvent (String text.now)) }
 {
     line.push(b"String \"");
     push_escaped(line, text);
@@ -146,7 +146,7 @@ fn push_escaped_line(line: &mut FixedBuffer, text: &[u8])
 pub fn push_plain_line(line: &mut FixedBuffer, text: &[u8]) -> bool
     requires { length text.now + 64 ≤ room line.old }
     ensures pushed { result ≡ true
-        → buffered line.new ≡ buffered line.old ++ line_of (ScalarEvent (String text.now)) }
+        → line.new ≡ line.old ++ line_of (ScalarEvent (String text.now)) }
     ensures ascii { result ≡ true → EachByte (λ byte. byte < 128) text.now }
     ensures unchanged { result ≡ false → line.new ≡ line.old }
 {
@@ -157,7 +157,7 @@ pub fn push_plain_line(line: &mut FixedBuffer, text: &[u8]) -> bool
 #[inline(always)]
 pub fn push_text_line(line: &mut FixedBuffer, text: &[u8])
     requires { 4 * length text.now + 64 ≤ room line.old }
-    ensures { buffered line.new ≡ buffered line.old ++ line_of (ScalarEvent (String text.now)) }
+    ensures { line.new ≡ line.old ++ line_of (ScalarEvent (String text.now)) }
 {
     if !push_plain_line(line, text) {
         push_escaped_line(line, text);

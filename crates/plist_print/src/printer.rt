@@ -2,9 +2,11 @@
 
 ghost use Rattle.std.specs.Prelude.{◌≡◌, ◌++◌, ◌+◌, ◌*◌, ◌≤◌, [], Ok, OnOk, codes, length};
 ghost use Rattle.plist_base.specs.Events.{ScalarEvent};
-ghost use Rattle.plist_base.specs.Sinks.{Puts, room, sink_capacity};
+ghost use Rattle.plist_base.specs.FixedBuffers.{room, sink_capacity};
+ghost use Rattle.plist_base.specs.Sinks.{Puts};
 ghost use Rattle.plist_base.specs.Trees.{Data, String};
 ghost use Rattle.plist_base.specs.Utf16Strings.{chars_left, string_of_utf16};
+ghost use Rattle.plist_base.specs.Writing.{answer_of};
 ghost use Rattle.plist_print.specs.EscapedLines.{escaped_chars, event_of_short, in_notation};
 ghost use Rattle.plist_print.specs.PrintRuns.{PrintsRun};
 
@@ -49,7 +51,8 @@ fn put_block<W: Write>(
     notation: Notation,
 ) -> Result<(), Error>
     requires { length block.now ≤ 4096 }
-    ensures { Puts W.contents sink.old (in_notation notation block.now) result sink.new }
+    ensures { Puts W.contents sink.old (in_notation notation block.now) (answer_of result)
+        sink.new }
 {
     sink.make_room(4 * BLOCK)?;
     push_bytes(sink.buffer, block, notation);
@@ -62,7 +65,8 @@ fn put_blocks<W: Write>(
     bytes: &[u8],
     notation: Notation,
 ) -> Result<(), Error>
-    ensures { Puts W.contents sink.old (in_notation notation bytes.now) result sink.new }
+    ensures { Puts W.contents sink.old (in_notation notation bytes.now) (answer_of result)
+        sink.new }
 {
     let (blocks, rest) = bytes.as_chunks::<BLOCK>();
     for block in blocks {
@@ -73,8 +77,9 @@ fn put_blocks<W: Write>(
 
 // Puts a line into the sink: its word, its bytes in blocks, and its end.
 fn put_parts<W: Write>(sink: &mut Sink<'_, W>, line: &Parts<'_>) -> Result<(), Error>
-    ensures { Puts W.contents sink.old (line.now.word.now
-        ++ in_notation line.now.notation line.now.bytes.now ++ line.now.end.now) result sink.new }
+    ensures { Puts W.contents sink.old
+        (line.now.word.now ++ in_notation line.now.notation line.now.bytes.now ++ line.now.end.now)
+        (answer_of result) sink.new }
 {
     sink.put(line.word)?;
     put_blocks(sink, line.bytes, line.notation)?;
@@ -255,7 +260,8 @@ impl<'p, W: Write> Printer<'p, W> {
 
     // Writes the pending lines after the last event.
     fn finish(&mut self) -> Result<(), Error>
-        ensures put { Puts W.contents (printer_sink self.old) [] result (printer_sink self.new) }
+        ensures put { Puts W.contents (printer_sink self.old) [] (answer_of result)
+            (printer_sink self.new) }
         ensures empty { OnOk result (pending_lines self.new ≡ []) }
     {
         self.sink.write_pending()

@@ -2,7 +2,7 @@
 
 ghost use Rattle.std.specs.Prelude.{◌≡◌, ◌++◌, ◌+◌, ◌*◌, ◌%◌, ◌<◌, ◌≤◌, [], encode_utf8, false, length, true};
 ghost use Rattle.plist_base.specs.ByteTests.{EachByte};
-ghost use Rattle.plist_base.specs.Sinks.{buffered, room};
+ghost use Rattle.plist_base.specs.FixedBuffers.{room};
 ghost use Rattle.plist_base.specs.Utf16Strings.{chars_left};
 ghost use Rattle.plist_print.specs.EscapedLines.{escaped_text};
 ghost use Rattle.plist_print.specs.Utf16Lines.{PushesChars};
@@ -15,7 +15,7 @@ use plist_base::{FixedBuffer, Utf16Chars};
 fn push_escapes(line: &mut FixedBuffer, bytes: &[u8])
     requires high { EachByte (λ byte. 128 ≤ byte) bytes.now }
     requires room { 4 * length bytes.now ≤ room line.old }
-    ensures pushed { buffered line.new ≡ buffered line.old ++ escaped_text bytes.now }
+    ensures pushed { line.new ≡ line.old ++ escaped_text bytes.now }
     ensures room { room line.old ≤ room line.new + 4 * length bytes.now }
 {
     for &byte in bytes {
@@ -37,7 +37,7 @@ fn byte_after_first(bits: u32) -> u8
 fn push_wide_char(line: &mut FixedBuffer, code: u32)
     requires code { (0x80 ≤ code) × (code < 0x11_0000) }
     requires room { 16 ≤ room line.old }
-    ensures pushed { buffered line.new ≡ buffered line.old ++ escaped_text (encode_utf8 code) }
+    ensures pushed { line.new ≡ line.old ++ escaped_text (encode_utf8 code) }
     ensures room { room line.old ≤ room line.new + 16 }
 {
     let last = byte_after_first(code);
@@ -58,7 +58,7 @@ fn push_wide_char(line: &mut FixedBuffer, code: u32)
 #[inline(always)]
 fn push_char(line: &mut FixedBuffer, c: char)
     requires { 16 ≤ room line.old }
-    ensures pushed { buffered line.new ≡ buffered line.old ++ escaped_text (encode_utf8 c) }
+    ensures pushed { line.new ≡ line.old ++ escaped_text (encode_utf8 c) }
     ensures room { room line.old ≤ room line.new + 16 }
 {
     let code = c as u32;

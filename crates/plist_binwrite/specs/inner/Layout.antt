@@ -3,7 +3,8 @@ use Rattle.std.specs.Prelude.{◌≡◌, ◌≢◌, ◌↔◌, ℕ, ◌+◌, ◌
 use Rattle.std.specs.List.{list_any, IsDistinct}
 use Rattle.std.specs.Str.{IsUtf8}
 use Rattle.plist_base.specs.Bracketing.{bracketing, AreAlike}
-use Rattle.plist_base.specs.Sinks.{HasPut, PutsBytes, buffered, room}
+use Rattle.plist_base.specs.FixedBuffers.{room}
+use Rattle.plist_base.specs.Sinks.{HasPut, Puts}
 use Rattle.plist_base.specs.declared.fixed_buffer.FixedBuffer.{FixedBuffer}
 use Rattle.plist_base.specs.Trees.{Tree}
 use Rattle.plist_base.specs.Writing.{Answer}
@@ -29,7 +30,7 @@ pub record PushesUnits (old new : FixedBuffer × List ℕ) : Type 0 where
   pub front : List ℕ
   pub left : units_of old.1 ≡ front ++ units_of new.1
   pub utf8 : IsUtf8 new.1
-  pub pushed : buffered new.0 ≡ buffered old.0 ++ table_form 2 front
+  pub pushed : new.0 ≡ old.0 ++ table_form 2 front
   pub fewer : room new.0 + 2 * length front ≡ room old.0
 
 module _ (plan : FilePlan) where
@@ -62,7 +63,7 @@ module _ (plan : FilePlan) where
   pub record PushesReferences (old new : FixedBuffer × List ℕ) : Type 0 where
     pub front : List ℕ
     pub left : old.1 ≡ front ++ new.1
-    pub pushed : buffered new.0 ≡ buffered old.0 ++ table_form plan.width (map number_of_event front)
+    pub pushed : new.0 ≡ old.0 ++ table_form plan.width (map number_of_event front)
     pub fewer : room new.0 + plan.width * length front ≡ room old.0
 
   -- the object of the event at this index has an offset
@@ -85,19 +86,19 @@ module _ (plan : FilePlan) where
       pub objects : ℕ → Object
       pub order : List ℕ
       pub layout : IsLayout objects order offsets
-      pub put : PutsBytes contents start (laid_out plan.width objects order) answer sink
+      pub put : Puts contents start (laid_out plan.width objects order) answer sink
 
     -- a file of the tree with these events is put
     abbrev pub PutsFile : (start : Sink W) → Answer → Sink W → Type 0
     PutsFile start answer sink = (file : List ℕ) × ((tree : Tree)
         → AreAlike (events_in plan.given) (bracketing tree) → IsFileBy (class_in plan.given) tree file)
-        × PutsBytes contents start file answer sink
+        × Puts contents start file answer sink
 
     -- a call puts the object of the tree that begins at an index, with this result
     abbrev pub PutsObject : (index : ℕ) (old : Sink W) → Answer → (new : Sink W) → Type 0
     PutsObject index old answer new =
-        (tree : Tree) → OccursAt (events_in plan.given) tree index → PutsBytes contents old
-        (form plan.width (object_of number_of_event tree index)) answer new
+        (tree : Tree) → OccursAt (events_in plan.given) tree index
+        → Puts contents old (form plan.width (object_of number_of_event tree index)) answer new
 
     -- the objects of the events at the asked indices, and maybe others, are put, unless they were
     -- put before, and each object that had an offset has one; `old` and `new` are the offsets and

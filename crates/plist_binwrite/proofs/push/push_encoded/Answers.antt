@@ -1,6 +1,5 @@
 use Rattle.std.proofs.Common.{◌++◌, ap, append_assoc, length, ◌∙◌}
 use Rattle.plist_base.specs.declared.marker.CountedKind.TheVariants as kind
-use Rattle.plist_base.specs.Sinks.{buffered}
 use Rattle.plist_base.specs.Utf16.{units_of}
 use Rattle.plist_binwrite.specs.Forms.{length_form, table_form}
 use Rattle.plist_buffer.proofs.TextUnits.{units_empty}
@@ -10,7 +9,7 @@ use Rattle.plist_binwrite.proofs.push.push_encoded.Goals as goal
 pub returns-clause-pushed : goal.returns-clause-pushed
 returns-clause-pushed c = λ done.
     let text = c.args.text.now in
-    let before = buffered c.args.buffer.now in
+    let before = c.args.buffer.now in
     let pushed = c.push_units.ensures.pushed in
     let none = units_empty _ (ap length (c.push_units.ensures.all done)) in
     let all = whole_units pushed none ∙ ap units_of c.chars.ensures.rest in

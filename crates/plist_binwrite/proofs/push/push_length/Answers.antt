@@ -1,6 +1,5 @@
 use Rattle.std.proofs.Common.{◌∙◌, ◌++◌, ap, append_assoc}
 use Rattle.plist_base.specs.Object.{byte_of}
-use Rattle.plist_base.specs.Sinks.{buffered}
 use Rattle.std.specs.Int.{bytes_high_first}
 use Rattle.plist_binwrite.proofs.NumberForms.{length_short, length_told}
 use Rattle.plist_binwrite.proofs.push.push_length.Goals as goal
@@ -18,4 +17,4 @@ returns-clause-pushed c =
     at (c.push_number.ensures.pushed
     ∙ ap (λ l. l ++ bytes_high_first w c.args.count)
     (rw (c.encode-2.ensures, c.follows.ensures) at c.push-2.ensures.pushed)
-    ∙ append_assoc (buffered c.args.buffer.now) _ _)
+    ∙ append_assoc c.args.buffer.now _ _)

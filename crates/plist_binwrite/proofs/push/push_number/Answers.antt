@@ -1,12 +1,11 @@
 use Rattle.std.proofs.Common.{◌∙◌, ◌++◌, ap, take}
-use Rattle.plist_base.specs.Sinks.{buffered}
 use Rattle.std.specs.Int.{bytes_high_first}
 use Rattle.plist_binwrite.proofs.LeastWidths.{front_of_shifted}
 use Rattle.plist_binwrite.proofs.push.push_number.Goals as goal
 
 pub returns-clause-pushed : goal.returns-clause-pushed
 returns-clause-pushed c =
-    let before = buffered c.args.buffer.now in
+    let before = c.args.buffer.now in
     let w = c.args.width in
     c.push_first.ensures.pushed
     ∙ ap (λ l. before ++ take w l) c.to_be_bytes.ensures

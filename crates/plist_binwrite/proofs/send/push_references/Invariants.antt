@@ -1,6 +1,6 @@
 use Rattle.std.proofs.Common.{◌≤◌}
 use Rattle.std.specs.List.{AllByRecursion}
-use Rattle.plist_base.specs.Sinks.{room}
+use Rattle.plist_base.specs.FixedBuffers.{room}
 use Rattle.plist_binwrite.specs.EventClasses.{events_in}
 use Rattle.plist_buffer.specs.EventTable.{HasItem}
 use Rattle.plist_buffer.specs.Children.{indices_left}

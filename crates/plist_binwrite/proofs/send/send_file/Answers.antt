@@ -1,6 +1,6 @@
-use Rattle.std.proofs.Common.{◌≡◌, [], ap, rules, subst, ◌∙◌}
+use Rattle.std.proofs.Common.{◌≡◌, [], rules, subst, ◌∙◌}
 use Rattle.std.proofs.lemmas.Result.{err_from_is_err_and}
-use Rattle.plist_base.specs.Sinks.{buffered, pending}
+use Rattle.plist_base.specs.Sinks.{pending}
 use Rattle.plist_base.specs.Writing.{answer_of}
 use Rattle.plist_binwrite.specs.Classes.{files_by}
 use Rattle.plist_binwrite.specs.EventClasses.{class_in, events_in}
@@ -11,7 +11,7 @@ use Rattle.plist_binwrite.proofs.send.send_file.Goals.{After-new-sink as Begun}
 
 -- nothing is pending in the new sink
 empty : (g : _) (c : Begun g) → pending c.new-sink.result ≡ []
-empty g c = ap buffered c.new-sink.ensures.pending ∙ c.requires.empty
+empty g c = c.new-sink.ensures.pending ∙ c.requires.empty
 
 pub returns : goal.returns
 returns g c =

@@ -3,7 +3,7 @@ use Rattle.std.specs.List.{AllByRecursion}
 use Rattle.std.proofs.lemmas.Bool.{true≢false}
 use Rattle.std.proofs.Math.Nat.{mul-le-mul_right}
 use Rattle.plist_base.proofs.SinkSteps.{puts_pending}
-use Rattle.plist_base.specs.Sinks.{buffered, room}
+use Rattle.plist_base.specs.FixedBuffers.{room}
 use Rattle.plist_buffer.specs.Children.{half_of, indices_left}
 use Rattle.plist_buffer.specs.declared.children.Half.TheVariants.{Keys, Values}
 use Rattle.plist_buffer.proofs.ChildIndices.{are_items}
@@ -59,7 +59,7 @@ pub returns-then-push_references-clause-put : goal.returns-then-push_references-
 returns-then-push_references-clause-put g c = λ done.
     let plan = c.args.plan.now in
     let index = c.args.index in
-    let before = buffered c.args.sink.now.buffer.now in
+    let before = c.args.sink.now.buffer.now in
     let count = length_form c.args.kind (length (half_of (events_in plan.given) Values index)) in
     let keys = references_of plan Keys index in
     let values = references_of plan Values index in

@@ -1,6 +1,6 @@
 use Rattle.std.proofs.Common.{◌≤◌}
 use Rattle.std.specs.Str.Iter.{chars_rest}
-use Rattle.plist_base.specs.Sinks.{room}
+use Rattle.plist_base.specs.FixedBuffers.{room}
 use Rattle.plist_binwrite.specs.inner.Layout.{PushesUnits}
 use Rattle.plist_binwrite.proofs.text.push_units.Given as goal
 

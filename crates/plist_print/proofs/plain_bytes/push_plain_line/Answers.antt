@@ -1,6 +1,5 @@
 use Rattle.std.proofs.Common.{◌≡◌, ◌<◌, ◌++◌, ◌∙◌, ap, arith, codes, sym, true, ℕ}
 use Rattle.std.proofs.lemmas.List.{append_assoc}
-use Rattle.plist_base.specs.Sinks.{buffered}
 use Rattle.plist_print.specs.EscapedLines.{stands_for_itself}
 use Rattle.plist_print.proofs.ScalarLines.{plain_text}
 use Rattle.plist_print.proofs.plain_bytes.push_plain_line.Goals as goal
@@ -13,7 +12,7 @@ pub returns-clause-pushed : goal.returns-clause-pushed
 returns-clause-pushed c passes =
     rw (plain_text _ (c.push_passing.ensures.passed passes))
     (c.push_passing.ensures.pushed passes
-    ∙ ap (λ line. buffered c.args.line.now ++ line)
+    ∙ ap (λ line. c.args.line.now ++ line)
     (sym (append_assoc (codes "String \"" ++ c.args.text.now) (codes "\"") (codes "\n"))))
 
 pub returns-clause-ascii : goal.returns-clause-ascii

@@ -1,5 +1,4 @@
 use Rattle.std.proofs.Common.{◌++◌, ◌∙◌, ap, append-nil}
-use Rattle.plist_base.specs.Sinks.{buffered}
 use Rattle.plist_print.proofs.ScalarLines.{plain_text}
 use Rattle.plist_print.proofs.plain_bytes.push_text.Goals as goal
 
@@ -7,4 +6,4 @@ pub returns-else-not-push_passing-clause-pushed : goal.returns-else-not-push_pas
 returns-else-not-push_passing-clause-pushed c =
     rw (plain_text _ (c.push_passing.ensures.passed c.if-not-push_passing.false))
     (c.push_passing.ensures.pushed c.if-not-push_passing.false
-    ∙ ap (λ bytes. buffered c.args.line.now ++ bytes) (append-nil c.args.text.now))
+    ∙ ap (λ bytes. c.args.line.now ++ bytes) (append-nil c.args.text.now))

@@ -1,5 +1,5 @@
 use Rattle.std.proofs.Common.{◌≤◌, length}
-use Rattle.plist_base.specs.Sinks.{room}
+use Rattle.plist_base.specs.FixedBuffers.{room}
 use Rattle.plist_base.specs.Utf16Strings.{chars_left}
 use Rattle.plist_print.specs.Utf16Lines.{PushesChars}
 use Rattle.plist_print.proofs.utf16.push_chars.Given as goal

@@ -1,23 +1,22 @@
 use Rattle.std.proofs.Common.{◌++◌, ◌∙◌, ap, refl}
-use Rattle.plist_base.specs.Sinks.{buffered}
 use Rattle.plist_print.proofs.Utf16Lines.{escaped_four, escaped_three, escaped_two}
 use Rattle.plist_print.proofs.utf16.push_wide_char.Goals as goal
 
 pub returns-then-code-lt2048-clause-pushed : goal.returns-then-code-lt2048-clause-pushed
 returns-then-code-lt2048-clause-pushed c =
-    c.push_escapes.ensures.pushed ∙ ap (λ l. buffered c.args.line.now ++ l)
+    c.push_escapes.ensures.pushed ∙ ap (λ l. c.args.line.now ++ l)
     (escaped_two c.args.code c.requires.code.0 c.if-code-lt2048.true refl
     c.byte_after_first-last.ensures)
 
 pub returns-then-code-lt65536-clause-pushed : goal.returns-then-code-lt65536-clause-pushed
 returns-then-code-lt65536-clause-pushed c =
-    c.push_escapes-then-code-lt65536.ensures.pushed ∙ ap (λ l. buffered c.args.line.now ++ l)
+    c.push_escapes-then-code-lt65536.ensures.pushed ∙ ap (λ l. c.args.line.now ++ l)
     (escaped_three c.args.code c.if-code-lt2048.false c.if-code-lt65536.true refl
     c.byte_after_first-third.ensures c.byte_after_first-last.ensures)
 
 pub returns-clause-pushed : goal.returns-clause-pushed
 returns-clause-pushed c =
-    c.push_escapes-2.ensures.pushed ∙ ap (λ l. buffered c.args.line.now ++ l)
+    c.push_escapes-2.ensures.pushed ∙ ap (λ l. c.args.line.now ++ l)
     (escaped_four c.args.code c.if-code-lt65536.false refl
     c.byte_after_first-second.ensures c.byte_after_first-third.ensures
     c.byte_after_first-last.ensures)

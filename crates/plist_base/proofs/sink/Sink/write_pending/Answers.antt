@@ -10,7 +10,7 @@ returns-in_err-send-clause-put g c =
     (g.W.Write.contents c.send.new.writer) (pending c.args.self.now) =
     rw c.as_slice-bytes.ensures at c.in_err-send.ensures.prefix in
     puts_broken {a = c.args.self.now} c.from_residual.result c.in_err-send.field-0.0
-    c.from_residual.ensures.1 (record { writer = refl; buffer = refl }) refl
+    c.from_residual.ensures.1 (record { writer = refl; buffer = refl })
     c.in_err-send.ensures.fault front
 
 pub returns-clause-put : goal.returns-clause-put

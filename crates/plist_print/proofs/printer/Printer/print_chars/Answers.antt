@@ -1,6 +1,5 @@
 use Rattle.std.proofs.Common.{◌++◌, [], ap, append-nil, append_assoc, arith, codes, refl, sym, ◌∙◌}
 use Rattle.plist_base.proofs.SinkSteps.{puts_as, puts_front, puts_none, puts_pending, puts_then}
-use Rattle.plist_base.specs.Sinks.{buffered}
 use Rattle.plist_base.specs.Utf16Strings.{chars_left}
 use Rattle.plist_print.specs.EscapedLines.{escaped_chars}
 use Rattle.plist_print.proofs.Utf16Lines.{chars-append, chars_parts, chars_whole}
@@ -46,4 +45,4 @@ returns g c =
     (chars_whole i.done pushed.front i.left pushed.left (c.push_chars.ensures.all c.loop-self-test.false)))
     (puts_then i.put (puts_pending (record { writer = refl; buffer = refl }) refl
     (c.push.ensures.pushed ∙ ap (λ l. l ++ end) pushed.pushed
-    ∙ append_assoc (buffered c.loop-self.self.sink.buffer.now) last end) refl))
+    ∙ append_assoc c.loop-self.self.sink.buffer.now last end) refl))

@@ -1,8 +1,14 @@
-use Rattle.plist_base.proofs.SinkSteps.{puts_front}
+use Rattle.std.proofs.Common.{refl}
+use Rattle.plist_base.proofs.SinkSteps.{puts_front, puts_pending, puts_then}
 use Rattle.plist_base.specs.Events.{ScalarEvent}
 use Rattle.plist_base.specs.Trees.{String}
 use Rattle.plist_print.specs.EscapedLines.{line_of}
 use Rattle.plist_print.proofs.printer.Printer.print_text.Goals as goal
+
+pub returns-in-Continue : goal.returns-in-Continue
+returns-in-Continue g c =
+    puts_then c.in-Continue.ensures.put
+    (puts_pending (record { writer = refl; buffer = refl }) refl c.push_string.ensures refl)
 
 pub returns-in-Break : goal.returns-in-Break
 returns-in-Break g c =
