@@ -217,7 +217,7 @@ fn number_objects(alloc: Global, given: &Classed<'_, '_>) -> Result<Numbering, A
     requires classed { IsClassed given.now }
     ensures { IfOk result (IsNumberingOfEvents given.now) }
 {
-    let by_class = CompactNumbers::zeros(alloc, given.bound_of_items())?;
+    let by_class = CompactNumbers::zeros(alloc, given.bound())?;
     let mut numbering = Numbering {
         by_class,
         count: 0,

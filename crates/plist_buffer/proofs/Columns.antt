@@ -1,21 +1,24 @@
 -- Entries by the lists of their kinds and of their numbers.
-use Rattle.std.proofs.Common.{◌≡◌, ℕ, zero, suc, ◌-◌, ◌<◌, List, [], ◌∷◌, ◌++◌, length, get_or, set, take, None, Some, false, refl, ap, sym, ◌∙◌, arith}
-use Rattle.std.proofs.lemmas.List.{get_or_default}
+use Rattle.std.proofs.Common.{◌≡◌, ◌≢◌, ℕ, zero, suc, ◌+◌, ◌<◌, ◌≤◌, inl, inr, List, [], ◌∷◌, ◌++◌, length, map, get_or, set, take, None, Some, false, true, refl, ap, sym, ◌∙◌, arith, length-append}
+use Rattle.std.proofs.Math.ListN.{get_or-append}
+use Rattle.std.proofs.Math.Nat.{eq-or-lt_of_le}
+use Rattle.std.proofs.Math.Seq.{get_or-append_seam, take-append_seam}
+use Rattle.std.proofs.lemmas.List.{get_or_default, get_or-set_other, length-set, take-append-le}
 use Rattle.plist_buffer.specs.declared.entries.EventEntry.{EventEntry}
 use Rattle.plist_buffer.specs.declared.entries.EventEntry.TheVariants as entry
 use Rattle.plist_buffer.specs.declared.entries.EntryKind.{EntryKind}
 use Rattle.plist_buffer.specs.declared.entries.EntryKind.TheVariants as kind
 use Rattle.plist_buffer.specs.declared.entries.ScalarNumber.{ScalarNumber}
 use Rattle.plist_buffer.specs.declared.entries.ScalarNumber.TheVariants.{Small, Long}
-use Rattle.plist_buffer.specs.inner.Columns.{kind_in, number_in, number_named, index_of_number, scalar_named, entry_of, entries_from, IsEntryNumber}
-use Rattle.plist_buffer.specs.inner.Entries.{ScalarLists, entry_at, is_leaf, event_of_entry}
+use Rattle.plist_buffer.specs.inner.Columns.{AreColumns, ends_before, ends_in, kind_in, number_in, number_named, index_of_number, one_if_end, scalar_named, entry_of, entries_from, IsEntryNumber}
+use Rattle.plist_buffer.specs.inner.Entries.{ScalarLists, closed_at, ended_at, entry_at, is_leaf, is_start, event_of_entry}
 
 -- an entry is made up of its kind and its number
-pub same_entry : (e : EventEntry) → entry_of (kind_in e) (number_in e) ≡ e
-same_entry (entry.Scalar (Small index)) = refl
-same_entry (entry.Scalar (Long index)) = refl
-same_entry entry.End = refl
-same_entry e = refl
+pub same_entry : (ends : ℕ) (e : EventEntry) → entry_of (kind_in e) (number_in ends e) ≡ e
+same_entry ends (entry.Scalar (Small index)) = refl
+same_entry ends (entry.Scalar (Long index)) = refl
+same_entry ends entry.End = refl
+same_entry ends e = refl
 
 pub same_kind : (k : EntryKind) (n : ℕ) → kind_in (entry_of k n) ≡ k
 same_kind kind.End n = refl
@@ -86,15 +89,15 @@ unnamed scalars (entry.Scalar number) is = cc
 unnamed scalars e is = refl
 
 -- appending a kind and a number appends an entry
-pub entries_more : (kinds : List EntryKind) (numbers : List ℕ) (e : EventEntry)
+pub entries_more : (kinds : List EntryKind) (numbers : List ℕ) (ends : ℕ) (e : EventEntry)
     → length kinds ≡ length numbers
-    → entries_from (kinds ++ kind_in e ∷ []) (numbers ++ number_in e ∷ [])
+    → entries_from (kinds ++ kind_in e ∷ []) (numbers ++ number_in ends e ∷ [])
     ≡ entries_from kinds numbers ++ e ∷ []
-entries_more [] [] e same = ap (λ d. d ∷ []) (same_entry e)
-entries_more [] (n ∷ numbers) e same = absurd (omega arith)
-entries_more (k ∷ kinds) [] e same = absurd (omega arith)
-entries_more (k ∷ kinds) (n ∷ numbers) e same =
-    ap (λ l. entry_of k n ∷ l) (entries_more kinds _ e (omega (arith, same)))
+entries_more [] [] ends e same = ap (λ d. d ∷ []) (same_entry ends e)
+entries_more [] (n ∷ numbers) ends e same = absurd (omega arith)
+entries_more (k ∷ kinds) [] ends e same = absurd (omega arith)
+entries_more (k ∷ kinds) (n ∷ numbers) ends e same =
+    ap (λ l. entry_of k n ∷ l) (entries_more kinds _ ends e (omega (arith, same)))
 
 -- setting a number sets the number of an entry
 pub number_set : (kinds : List EntryKind) (numbers : List ℕ) (p n : ℕ)
@@ -109,18 +112,129 @@ number_set (k ∷ kinds) (m ∷ numbers) zero n =
 number_set (k ∷ kinds) (m ∷ numbers) (suc p) n =
     ap (λ l. entry_of k m ∷ l) (number_set kinds numbers p n)
 
--- the first kinds and numbers are those of the first entries
-pub entries_first : (count : ℕ) (kinds : List EntryKind) (numbers : List ℕ)
-    → entries_from (take count kinds) (take count numbers) ≡ take count (entries_from kinds numbers)
-entries_first zero kinds numbers = refl
-entries_first (suc count) [] numbers = refl
-entries_first (suc count) (k ∷ kinds) [] = refl
-entries_first (suc count) (k ∷ kinds) (n ∷ numbers) =
-    ap (λ l. entry_of k n ∷ l) (entries_first count _ _)
+-- setting the number of a start closes it
+closes_entry : (e : EventEntry) (n : ℕ) → is_start e ≡ true → entry_of (kind_in e) n ≡ closed_at e n
+closes_entry (entry.Array old) n starts = refl
+closes_entry (entry.Dictionary old) n starts = refl
+closes_entry (entry.Scalar number) n starts = cc
+closes_entry entry.End n starts = cc
 
-pub popped_entries : (kinds : List EntryKind) (numbers : List ℕ) (count : ℕ) → count ≡ length kinds
-    → length kinds ≡ length numbers → entries_from (take (count - 1) kinds)
-    (take (length numbers - 1) numbers)
-    ≡ take (length (entries_from kinds numbers) - 1) (entries_from kinds numbers)
-popped_entries kinds numbers count is same =
-    rw (is, ← same, long_entries _ _ _) (entries_first _ _ _)
+-- an end is appended, and the number of a start is set
+pub closed_entries : (kinds : List EntryKind) (numbers : List ℕ) (ends start : ℕ)
+    → length kinds ≡ length numbers → start < length kinds
+    → is_start (entry_at (entries_from kinds numbers) start) ≡ true
+    → entries_from (kinds ++ kind.End ∷ []) (set (numbers ++ ends ∷ []) start (length kinds + 1))
+    ≡ ended_at (entries_from kinds numbers) start
+closed_entries kinds numbers ends start same lt starts =
+    let es = entries_from kinds numbers in
+    let long = long_entries kinds numbers same in
+    let there : entry_at (es ++ entry.End ∷ []) start ≡ entry_at es start =
+    get_or-append es (entry.End ∷ []) entry.End start (omega (arith, long, lt)) in
+    number_set (kinds ++ kind.End ∷ []) (numbers ++ ends ∷ []) start (length kinds + 1)
+    ∙ ap (λ l. set l start (entry_of (kind_in (entry_at l start)) (length kinds + 1)))
+    (entries_more kinds numbers ends entry.End same)
+    ∙ ap (set (es ++ entry.End ∷ []) start)
+    (closes_entry (entry_at (es ++ entry.End ∷ []) start) (length kinds + 1) (ap is_start there ∙ starts)
+    ∙ ap (λ n. closed_at (entry_at (es ++ entry.End ∷ []) start) (n + 1)) (sym long))
+
+-- the kind of a start isn't that of an end
+pub not_end : (kinds : List EntryKind) (numbers : List ℕ) → length kinds ≡ length numbers
+    → (start : ℕ) → start < length kinds
+    → is_start (entry_at (entries_from kinds numbers) start) ≡ true
+    → get_or kinds start kind.Small ≢ kind.End
+not_end kinds numbers same start lt starts is =
+    let ends : get_or kinds start kind.End ≡ kind.End =
+    sym (get_or_default kinds start kind.Small kind.End lt) ∙ is in
+    cc (
+      starts,
+      ap is_start (entries_at kinds numbers start same
+          ∙ ap (λ k. entry_of k (get_or numbers start 0)) ends),
+    )
+
+-- ---- ends
+
+-- the kinds of the entries
+pub kinds_of : (kinds : List EntryKind) (numbers : List ℕ) → length kinds ≡ length numbers
+    → map kind_in (entries_from kinds numbers) ≡ kinds
+kinds_of [] numbers same = refl
+kinds_of (k ∷ kinds) [] same = absurd (omega (arith, same))
+kinds_of (k ∷ kinds) (n ∷ numbers) same = λ i.
+    same_kind k n i ∷ kinds_of kinds numbers (omega (arith, same)) i
+
+pub few_ends : (kinds : List EntryKind) → ends_in kinds ≤ length kinds
+few_ends [] = omega arith
+few_ends (kind.End ∷ kinds) = omega (arith, few_ends kinds)
+few_ends (k ∷ kinds) = omega (arith, few_ends kinds)
+
+ends_more : (kinds : List EntryKind) (k : EntryKind)
+    → ends_in (kinds ++ k ∷ []) ≡ ends_in kinds + one_if_end k
+ends_more [] k = omega arith
+ends_more (j ∷ kinds) k = omega (arith, ends_more kinds k)
+
+-- the number of an end is the given one
+number_of_end : (ends : ℕ) (e : EventEntry) → kind_in e ≡ kind.End → number_in ends e ≡ ends
+number_of_end ends entry.End is = refl
+number_of_end ends (entry.Scalar (Small index)) is = cc
+number_of_end ends (entry.Scalar (Long index)) is = cc
+number_of_end ends e is = cc
+
+module _ {kinds : List EntryKind} {numbers : List ℕ} {ends : ℕ} (columns : AreColumns kinds numbers ends)
+  where
+    -- there are at most as many ends as entries
+    pub ends_below : ends ≤ length kinds
+    ends_below = rw columns.counted (few_ends kinds)
+
+    -- the number of an end is the number of ends before it
+    pub end_number : (p : ℕ) → p < length kinds → entry_at (entries_from kinds numbers) p ≡ entry.End
+        → get_or numbers p 0 ≡ ends_before (entries_from kinds numbers) p
+    end_number p lt is =
+        let kind_is : get_or kinds p kind.End ≡ kind.End =
+        sym (same_kind (get_or kinds p kind.End) (get_or numbers p 0))
+        ∙ ap kind_in (sym (entries_at kinds numbers p columns.long) ∙ is) in
+        columns.numbered p lt (get_or_default kinds p kind.Small kind.End lt ∙ kind_is)
+        ∙ ap (λ ks. ends_in (take p ks)) (sym (kinds_of kinds numbers columns.long))
+
+    -- an entry is appended
+    pub columns_more : (e : EventEntry) → AreColumns (kinds ++ kind_in e ∷ [])
+        (numbers ++ number_in ends e ∷ []) (ends + one_if_end (kind_in e))
+    columns_more e = record {
+      long = omega (
+        arith,
+        columns.long,
+        length-append kinds (kind_in e ∷ []),
+        length-append numbers (number_in ends e ∷ []),
+      );
+      counted = ap (λ n. n + one_if_end (kind_in e)) columns.counted ∙ sym (ends_more kinds (kind_in e));
+      numbered = λ p lt is. elim (eq-or-lt_of_le {n = p} {m = length kinds}
+          (omega (arith, lt, length-append kinds (kind_in e ∷ [])))) [
+            | inl last ↦
+                let is_end : kind_in e ≡ kind.End =
+                sym (get_or-append_seam kinds (kind_in e) [] kind.Small)
+                ∙ ap (λ q. get_or (kinds ++ kind_in e ∷ []) q kind.Small) (sym last) ∙ is in
+                ap (λ q. get_or (numbers ++ number_in ends e ∷ []) q 0) (last ∙ columns.long)
+                ∙ get_or-append_seam numbers (number_in ends e) [] 0
+                ∙ number_of_end ends e is_end ∙ columns.counted
+                ∙ ap ends_in (sym (take-append_seam kinds (kind_in e ∷ [])))
+                ∙ ap (λ q. ends_in (take q (kinds ++ kind_in e ∷ []))) (sym last)
+            | inr old ↦
+                get_or-append numbers _ 0 p (omega (arith, columns.long, old))
+                ∙ columns.numbered p old (sym (get_or-append kinds _ kind.Small p old) ∙ is)
+                ∙ ap ends_in (sym (take-append-le p kinds _ (omega (arith, old))))
+          ];
+    }
+
+-- an end is appended, and the number of another entry is set
+pub columns_closed : {kinds : List EntryKind} {numbers : List ℕ} {ends : ℕ} (start n : ℕ)
+    → AreColumns kinds numbers ends → start < length kinds → get_or kinds start kind.Small ≢ kind.End
+    → AreColumns (kinds ++ kind.End ∷ []) (set (numbers ++ ends ∷ []) start n) (ends + 1)
+columns_closed {kinds} {numbers} {ends} start n columns lt other =
+    let more = columns_more columns entry.End in
+    record {
+      long = more.long ∙ sym (length-set (numbers ++ ends ∷ []) start n);
+      counted = more.counted;
+      numbered = λ q within is.
+          get_or-set_other (numbers ++ ends ∷ []) start q n 0
+          (λ e. other (sym (get_or-append kinds (kind.End ∷ []) kind.Small start lt)
+          ∙ ap (λ r. get_or (kinds ++ kind.End ∷ []) r kind.Small) (sym e) ∙ is))
+          ∙ more.numbered q within is;
+    }

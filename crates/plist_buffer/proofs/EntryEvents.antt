@@ -471,3 +471,13 @@ module _ {scalars : ScalarLists} {es : List EventEntry} {unclosed : List ℕ}
 
       pub scalar_is_leaf : is_leaf (event_at (events_of_entries scalars es) index) ≡ true
       scalar_is_leaf = scalar_leaf (indexed scalars (entry_at es index) k is).1
+
+    -- the entry of an end is an end
+    pub end_there : event_at (events_of_entries scalars es) index ≡ EndCollection
+        → entry_at es index ≡ entry.End
+    end_there ends = by (entry_at es index) refl
+      where
+        by : (e : EventEntry) → entry_at es index ≡ e → entry_at es index ≡ entry.End
+        by (entry.Scalar number) is = cc (scalar_leaf is, ap is_leaf ends)
+        by entry.End is = is
+        by e is = cc (there, ap (event_of_entry scalars) is, ends)

@@ -4,6 +4,7 @@ pub mod TreeOccurrences
 pub mod TreeStarts
 pub mod OpenStarts
 pub mod EntryEvents
+pub mod CollectionNumbers
 pub mod KeyStamps
 pub mod TreePositions
 pub mod Lengthless

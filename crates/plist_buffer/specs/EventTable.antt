@@ -1,12 +1,14 @@
 -- The events of a table, and the indices of trees among them.
-use Rattle.std.specs.Prelude.{◌≡◌, ℕ, ◌+◌, ◌<◌, ◌≤◌, Bool, true, false, List, [], ◌∷◌, length, slice_index, slice_index_or, ◌++◌, ◌⊎◌, Some, slice_get}
+use Rattle.std.specs.Prelude.{◌≡◌, ℕ, ◌+◌, ◌-◌, ◌<◌, ◌≤◌, Bool, true, false, List, [], ◌∷◌, length, map, slice_index, slice_index_or, ◌++◌, ◌⊎◌, Some, slice_get}
 use Rattle.plist_base.specs.declared.event.Event.{Event}
 use Rattle.plist_base.specs.Events.{PlainEvent, event_of, EndCollection}
 use Rattle.plist_buffer.specs.declared.event_table.EventTable.{EventTable}
 use Rattle.plist_base.specs.Trees.{Tree, Leaf, Array, Dictionary, Trees, NoTrees, TreeAnd, Members, NoMembers, MemberAnd}
 use Rattle.plist_base.specs.Bracketing.{without_length, lengthless}
 use Rattle.plist_buffer.specs.Occurrences.{event_count}
+use Rattle.plist_buffer.specs.inner.Columns.{ends_before, ends_in, kind_in}
 use Rattle.plist_buffer.specs.inner.Entries.{ScalarLists, all_scalars, lists_of, events_of_entries, event_of_entry}
+use Rattle.plist_buffer.specs.inner.UnclosedStarts.{skip_after}
 use Rattle.plist_buffer.specs.declared.entries.EventEntry.{EventEntry}
 
 -- the event as it is buffered, without the length of a start
@@ -59,6 +61,18 @@ GrowsBy before event after = plain_events after ≡ plain_events before ++ event
 -- the buffered event at an index
 abbrev pub table_event : EventTable → (index : ℕ) → PlainEvent
 table_event held p = event_at (plain_events held) p
+
+-- the number of ends among the buffered events
+abbrev pub count_collections : EventTable → ℕ
+count_collections held = ends_in (map kind_in held.entries)
+
+-- the last event of the tree that begins at an index is an end
+abbrev pub EndsCollection : EventTable → (index : ℕ) → Type 0
+EndsCollection held p = table_event held (skip_after (plain_events held) p - 1) ≡ EndCollection
+
+-- the number of ends before that of the collection that begins at an index
+abbrev pub collection_number : EventTable → (index : ℕ) → ℕ
+collection_number held p = ends_before held.entries (skip_after (plain_events held) p - 1)
 
 -- the events are those of a tree
 abbrev pub IsBracketed : List PlainEvent → Type 0

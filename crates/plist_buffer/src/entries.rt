@@ -1,8 +1,8 @@
 //! The entries of buffered events. Each entry has a kind, which takes one byte, and a number, which
 //! takes four bytes as long as the numbers fit.
 
-ghost use Rattle.std.specs.Prelude.{◌≡◌, ◌-◌, ◌^◌, ◌<◌, ◌++◌, ◌∷◌, [], length, set, take, true, OnOk, OnErr};
-ghost use Rattle.plist_buffer.specs.inner.Columns.{entry_of, kind_in, number_in, number_named, shape_of_kind, IsEntryNumber};
+ghost use Rattle.std.specs.Prelude.{◌≡◌, ◌-◌, ◌^◌, ◌<◌, ◌≤◌, ◌++◌, ◌∷◌, [], length, map, true, OnOk, OnErr};
+ghost use Rattle.plist_buffer.specs.inner.Columns.{ends_before, ends_in, kind_in, number_in, number_named, one_if_end, shape_of_kind, IsEntryNumber};
 ghost use Rattle.plist_buffer.specs.inner.Entries.{index_after_at, ended_at, entry_at, is_start};
 
 use plist_base::{CompactNumbers, EventShape};
@@ -61,15 +61,27 @@ fn kind_in(entry: EventEntry) -> EntryKind
     }
 }
 
-// Returns the number of an entry, which is 0 for an end.
+// Returns the number of an entry, which for an end is the number of ends before it.
 #[inline(always)]
-fn number_in(entry: EventEntry) -> usize
-    ensures { result ≡ number_in entry }
+fn number_in(entry: EventEntry, ends: usize) -> usize
+    ensures { result ≡ number_in ends entry }
 {
     match entry {
         EventEntry::Array(following) | EventEntry::Dictionary(following) => following,
         EventEntry::Scalar(ScalarNumber::Small(index) | ScalarNumber::Long(index)) => index,
-        EventEntry::End => 0,
+        EventEntry::End => ends,
+    }
+}
+
+// Returns 1 for an end, and 0 for any other kind.
+#[inline(always)]
+fn one_if_end(kind: EntryKind) -> usize
+    ensures value { result ≡ one_if_end kind }
+    ensures small { result ≤ 1 }
+{
+    match kind {
+        EntryKind::End => 1,
+        EntryKind::Array | EntryKind::Dictionary | EntryKind::Small | EntryKind::Long => 0,
     }
 }
 
@@ -86,23 +98,26 @@ fn shape_of_kind(kind: EntryKind) -> EventShape
     }
 }
 
-/// A list of entries, stored as a list of kinds and a list of numbers.
+/// A list of entries, stored as a list of kinds and a list of numbers. The number of an end is the
+/// number of ends before it.
 #[derive(Drop)]
 pub struct Entries {
     kinds: Vec<EntryKind>,
     numbers: CompactNumbers,
+    // The number of ends.
+    ends: usize,
 }
 
 impl Model for Entries {
-    ghost use Rattle.std.specs.Prelude.{◌≡◌, List, length};
+    ghost use Rattle.std.specs.Prelude.{List};
     ghost use Rattle.plist_buffer.specs.declared.entries.EventEntry.{EventEntry};
-    ghost use Rattle.plist_buffer.specs.inner.Columns.{entries_from};
+    ghost use Rattle.plist_buffer.specs.inner.Columns.{AreColumns, entries_from};
 
     ghost Value = { List EventEntry };
 
     ghost view = { λ entries. entries_from entries.kinds.items entries.numbers };
 
-    ghost invariant = { λ entries. length entries.kinds.items ≡ length entries.numbers };
+    ghost invariant = { λ entries. AreColumns entries.kinds.items entries.numbers entries.ends };
 }
 
 impl Entries {
@@ -113,6 +128,7 @@ impl Entries {
         Entries {
             kinds: Vec::new(alloc),
             numbers: CompactNumbers::new(alloc),
+            ends: 0,
         }
     }
 
@@ -174,6 +190,22 @@ impl Entries {
         }
     }
 
+    /// Returns the number of ends.
+    pub fn count_ends(&self) -> usize
+        ensures { result ≡ ends_in (map kind_in self.now) }
+    {
+        self.ends
+    }
+
+    /// Returns the number of ends before the entry at an index, which must be an end.
+    pub fn ends_before(&self, index: usize) -> usize
+        requires within { index < length self.now }
+        requires end { entry_at self.now index ≡ EventEntry.End }
+        ensures { result ≡ ends_before self.now index }
+    {
+        self.numbers.get(index)
+    }
+
     /// Appends an entry. If an allocation fails, nothing changes.
     #[inline(always)]
     pub fn push(&mut self, entry: EventEntry) -> Result<(), AllocError>
@@ -181,28 +213,11 @@ impl Entries {
         ensures unchanged { OnErr result (self.new ≡ self.old) }
         ensures small { OnOk result (length self.new < 2 ^ 63) }
     {
+        let kind = kind_in(entry);
         self.kinds.reserve(1)?;
-        self.numbers.push(number_in(entry))?;
-        self.kinds.push_reserved(kind_in(entry));
-        Ok(())
-    }
-
-    // Removes the last entry, if any.
-    fn pop(&mut self)
-        ensures { self.new ≡ take (length self.old - 1) self.old }
-    {
-        self.kinds.pop();
-        self.numbers.pop();
-    }
-
-    // Replaces the number of the entry at an index. If an allocation fails, nothing changes.
-    fn set_number(&mut self, index: usize, number: usize) -> Result<(), AllocError>
-        requires { index < length self.old }
-        ensures set { OnOk result (self.new ≡ set self.old index
-            (entry_of (kind_in (entry_at self.old index)) number)) }
-        ensures unchanged { OnErr result (self.new ≡ self.old) }
-    {
-        self.numbers.set(index, number)?;
+        self.numbers.push(number_in(entry, self.ends))?;
+        self.kinds.push_reserved(kind);
+        self.ends += one_if_end(kind);
         Ok(())
     }
 
@@ -215,11 +230,16 @@ impl Entries {
         ensures unchanged { OnErr result (self.new ≡ self.old) }
         ensures small { OnOk result (length self.new < 2 ^ 63) }
     {
-        self.push(EventEntry::End)?;
-        match self.set_number(start, self.len()) {
-            Ok(()) => Ok(()),
+        self.kinds.reserve(1)?;
+        self.numbers.push(self.ends)?;
+        match self.numbers.set(start, self.kinds.len() + 1) {
+            Ok(()) => {
+                self.kinds.push_reserved(EntryKind::End);
+                self.ends += 1;
+                Ok(())
+            }
             Err(error) => {
-                self.pop();
+                self.numbers.pop();
                 Err(error)
             }
         }
@@ -231,5 +251,6 @@ impl Entries {
     {
         self.kinds.clear();
         self.numbers.clear();
+        self.ends = 0;
     }
 }

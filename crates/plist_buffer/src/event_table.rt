@@ -62,7 +62,7 @@ impl<'e> EventTable<'e> {
     ghost use Rattle.std.specs.Prelude.{[], None, Some, false, IfSome, ◌+◌};
     ghost use Rattle.std.specs.Cow.{cow_slice_items, cow_str_bytes};
     ghost use Rattle.plist_base.specs.Trees.{Data as DataScalar, Integer as IntegerScalar, String as StringScalar};
-    ghost use Rattle.plist_buffer.specs.EventTable.{plain_event, plain_events, scalars_of, lists_in, GrowsBy, HasItem, IsScalarAt, LacksItem, table_event, entry_event};
+    ghost use Rattle.plist_buffer.specs.EventTable.{plain_event, plain_events, scalars_of, lists_in, collection_number, count_collections, EndsCollection, GrowsBy, HasItem, IsScalarAt, LacksItem, table_event, entry_event};
     ghost use Rattle.plist_buffer.specs.inner.Columns.{scalar_named};
     ghost use Rattle.plist_buffer.specs.inner.Entries.{entry_at, event_numbered, is_start, scalar_numbered, IsUnclosed, KeepsScalars};
     ghost use Rattle.plist_buffer.specs.inner.Expected.{expected_inside, innermost};
@@ -150,6 +150,24 @@ impl<'e> EventTable<'e> {
         ensures small { result < 2 ^ 63 }
     {
         self.small.len() + self.long.len()
+    }
+
+    /// Returns the number of ends, which is that of collections if each of them is closed.
+    pub fn count_collections(&self) -> usize
+        ensures count { result ≡ count_collections self.now }
+        ensures small { result < 2 ^ 63 }
+    {
+        self.entries.count_ends()
+    }
+
+    /// Returns the number of the collection that begins at an index, which is the number of
+    /// collections that end before it ends. It must be closed.
+    pub fn collection_number(&self, index: usize) -> usize
+        requires within { index < length (plain_events self.now) }
+        requires closed { EndsCollection self.now index }
+        ensures { result ≡ collection_number self.now index }
+    {
+        self.entries.ends_before(self.index_after(index) - 1)
     }
 
     /// Returns the kind of the event at an index.

@@ -4,16 +4,16 @@
 ghost use Rattle.std.specs.Prelude.{◌≡◌, ◌↔◌, ◌+◌, ◌<◌, ◌++◌, Some, length, map, slice_get, IfOk, IsTrue, OnOk};
 ghost use Rattle.plist_base.specs.Events.{shape_of};
 ghost use Rattle.plist_buffer.specs.Children.{half_of};
-ghost use Rattle.plist_buffer.specs.EventTable.{nth_number, plain_events, table_event};
+ghost use Rattle.plist_buffer.specs.EventTable.{IsBracketed, plain_events, scalars_of, table_event};
 ghost use Rattle.plist_buffer.specs.declared.children.Half.TheVariants.{Keys, Values};
 ghost use Rattle.plist_buffer.specs.inner.Entries.{AreDistinct};
-ghost use Rattle.plist_binwrite.specs.inner.Scalars.{AreIdentities};
+ghost use Rattle.plist_binwrite.specs.EventClasses.{HasEachCollection, listed_class};
 ghost use Rattle.plist_share.specs.inner.Nodes.{SeparatesAll, Extends, node_of, AreClassesFrom, IsClassAt};
 
 use indexmap::IndexSet;
 use plist_base::{CompactNumbers, EventShape};
 use plist_binwrite::EventTable;
-use plist_binwrite::classes::{ClassList, Classed, Classes};
+use plist_binwrite::classes::ClassList;
 use plist_buffer::children::{Children, Half};
 use std::alloc::{AllocError, Global};
 
@@ -50,17 +50,19 @@ fn index_of(
 fn push_half(
     found: &mut Vec<usize>,
     events: &EventTable<'_>,
-    classes: &CompactNumbers,
+    classes: &ClassList,
     index: usize,
     half: Half,
 ) -> Result<(), AllocError>
+    requires whole { IsBracketed (plain_events events.now) }
     requires index { index < length (plain_events events.now) }
-    requires long { length classes.now ≡ length (plain_events events.now) }
+    requires long { HasEachCollection classes.now events.now }
     ensures { OnOk result (found.new.items ≡ found.old.items
-        ++ map (nth_number classes.now) (half_of (plain_events events.now) half index)) }
+        ++ map (listed_class classes.now events.now)
+        (half_of (plain_events events.now) half index)) }
 {
     for child in Children::new(events, index, half) {
-        found.push(classes.get(child))?;
+        found.push(classes.class_at(events, child))?;
     }
     Ok(())
 }
@@ -69,14 +71,17 @@ fn push_half(
 fn classes_within(
     alloc: Global,
     events: &EventTable<'_>,
-    classes: &CompactNumbers,
+    classes: &ClassList,
     index: usize,
 ) -> Result<Vec<usize>, AllocError>
+    requires whole { IsBracketed (plain_events events.now) }
     requires index { index < length (plain_events events.now) }
-    requires long { length classes.now ≡ length (plain_events events.now) }
+    requires long { HasEachCollection classes.now events.now }
     ensures { IfOk result (λ found. found.items
-        ≡ map (nth_number classes.now) (half_of (plain_events events.now) Keys index)
-        ++ map (nth_number classes.now) (half_of (plain_events events.now) Values index)) }
+        ≡ map (listed_class classes.now events.now)
+        (half_of (plain_events events.now) Keys index)
+        ++ map (listed_class classes.now events.now)
+        (half_of (plain_events events.now) Values index)) }
 {
     let mut found = Vec::new(alloc);
     push_half(&mut found, events, classes, index, Half::Keys)?;
@@ -105,19 +110,18 @@ fn class_of_collection(
     index: usize,
     collections: &mut IndexSet<Collection>,
 ) -> Result<usize, AllocError>
+    requires whole { IsBracketed (plain_events events.now) }
     requires index { index < length (plain_events events.now) }
-    requires long { length found.now.by_event ≡ length (plain_events events.now) }
+    requires long { HasEachCollection found.now events.now }
     // Result.
-    ensures class { IfOk result (IsClassAt events.now found.now.by_event found.now.bound
+    ensures class { IfOk result (IsClassAt events.now found.now
         (map node_of collections.new.keys) index) }
-    ensures below { IfOk result (λ class. class < found.now.bound
-        + length (map node_of collections.new.keys)) }
     // State afterwards.
     ensures extends { OnOk result
         (Extends (map node_of collections.old.keys) (map node_of collections.new.keys)) }
     ensures apart { OnOk result (AreDistinct (map node_of collections.new.keys)) }
 {
-    let children = classes_within(alloc, events, &found.by_event, index)?;
+    let children = classes_within(alloc, events, found, index)?;
     let collection = Collection {
         is_dictionary: begins_dictionary(events, index),
         children,
@@ -127,8 +131,8 @@ fn class_of_collection(
     Ok(class)
 }
 
-// Sets the class of the tree that begins at an index, if it is a collection. A scalar already has
-// one.
+// Sets the class of the tree that begins at an index, if it is a collection. The class of a scalar
+// isn't listed.
 fn assign_class(
     alloc: Global,
     events: &EventTable<'_>,
@@ -136,41 +140,45 @@ fn assign_class(
     found: &mut ClassList,
     collections: &mut IndexSet<Collection>,
 ) -> Result<(), AllocError>
+    requires whole { IsBracketed (plain_events events.now) }
     requires index { index < length (plain_events events.now) }
-    requires long { length found.old.by_event ≡ length (plain_events events.now) }
-    requires classes { AreClassesFrom events.now found.old.bound found.old.by_event
-        (map node_of collections.old.keys) (index + 1) }
+    requires long { HasEachCollection found.old events.now }
+    requires classes { AreClassesFrom events.now found.old (map node_of collections.old.keys)
+        (index + 1) }
     requires apart { AreDistinct (map node_of collections.old.keys) }
-    ensures classes { OnOk result (AreClassesFrom events.now found.new.bound found.new.by_event
+    ensures classes { OnOk result (AreClassesFrom events.now found.new
         (map node_of collections.new.keys) index) }
-    ensures long { OnOk result (length found.new.by_event ≡ length (plain_events events.now)) }
+    ensures long { OnOk result (HasEachCollection found.new events.now) }
+    ensures bound { OnOk result (found.new.bound ≡ found.old.bound) }
     ensures apart { OnOk result (AreDistinct (map node_of collections.new.keys)) }
 {
     match events.kind_at(index) {
         EventShape::Scalar | EventShape::EndCollection => Ok(()),
         EventShape::StartArray | EventShape::StartDictionary => {
             let class = class_of_collection(alloc, events, found, index, collections)?;
-            found.by_event.set(index, class)?;
+            found
+                .by_collection
+                .set(events.collection_number(index), class)?;
             Ok(())
         }
     }
 }
 
-// Sets the class of each tree among these events. The walk goes backwards, so that the classes of a
-// collection's children are known before its own class is determined.
+// Sets the class of each collection among these events. The walk goes backwards, so that the
+// classes of a collection's children are known before its own class is determined.
 fn assign_classes(
     alloc: Global,
     events: &EventTable<'_>,
     found: &mut ClassList,
     collections: &mut IndexSet<Collection>,
 ) -> Result<(), AllocError>
-    requires long { length found.old.by_event ≡ length (plain_events events.now) }
-    requires classes { AreClassesFrom events.now found.old.bound found.old.by_event
-        (map node_of collections.old.keys) (length found.old.by_event) }
+    requires whole { IsBracketed (plain_events events.now) }
+    requires long { HasEachCollection found.old events.now }
+    requires bound { found.old.bound ≡ length (scalars_of events.now) }
     requires apart { AreDistinct (map node_of collections.old.keys) }
     ensures { OnOk result (SeparatesAll events.now found.new) }
 {
-    let mut index = found.by_event.len();
+    let mut index = events.len();
     'back: while index > 0 {
         index -= 1;
         assign_class(alloc, events, index, found, collections)?;
@@ -184,32 +192,17 @@ fn assign_classes(
     }
 }
 
-// Returns a class for each event: equal scalars share a class, and any other event has its own.
-fn event_classes(alloc: Global, events: &EventTable<'_>) -> Result<ClassList, AllocError>
-    ensures long { IfOk result (λ r. length r.by_event ≡ length (plain_events events.now)) }
-    ensures classes { IfOk result (λ r. AreIdentities (plain_events events.now)
-        (nth_number r.by_event) r.bound) }
-{
-    let given = Classed {
-        events,
-        classes: &Classes::EqualScalars,
-    };
-    let mut by_event = CompactNumbers::with_capacity(alloc, events.len())?;
-    for index in 0..events.len() {
-        by_event.push(given.class_at(index))?;
-    }
-    Ok(ClassList {
-        by_event,
-        bound: given.bound(),
-    })
-}
-
-/// Returns a class for each event. Two events at which trees begin have the same class if and only
-/// if the trees are equal. It fails if an allocation fails.
+/// Returns the class of each collection among the events of a tree. Two events at which trees begin
+/// have the same class if and only if the trees are equal. It fails if an allocation fails.
 pub fn tree_classes(alloc: Global, events: &EventTable<'_>) -> Result<ClassList, AllocError>
+    requires { IsBracketed (plain_events events.now) }
     ensures { IfOk result (SeparatesAll events.now) }
 {
-    let mut found = event_classes(alloc, events)?;
+    // The class of a scalar is less than the number of different scalars.
+    let mut found = ClassList {
+        by_collection: CompactNumbers::zeros(alloc, events.count_collections())?,
+        bound: events.count_scalars(),
+    };
     let mut collections = IndexSet::new(alloc);
     assign_classes(alloc, events, &mut found, &mut collections)?;
     Ok(found)

@@ -1,5 +1,5 @@
 -- Entries as two lists, one of their kinds and one of their numbers.
-use Rattle.std.specs.Prelude.{◌≡◌, ℕ, ◌+◌, List, [], ◌∷◌, length, Option, None, Some}
+use Rattle.std.specs.Prelude.{◌≡◌, ℕ, ◌+◌, ◌<◌, List, [], ◌∷◌, length, map, slice_index, slice_index_or, take, Option, None, Some}
 use Rattle.std.specs.Option.{option_map}
 use Rattle.plist_buffer.specs.inner.Entries.{entry_at, ScalarLists}
 use Rattle.plist_buffer.specs.declared.entries.EventEntry.{EventEntry}
@@ -19,13 +19,13 @@ kind_in (entry.Scalar (Small index)) = kind.Small
 kind_in (entry.Scalar (Long index)) = kind.Long
 kind_in entry.End = kind.End
 
--- the number of an entry, which is 0 for an end
-abbrev pub number_in : EventEntry → ℕ
-number_in (entry.Array following) = following
-number_in (entry.Dictionary following) = following
-number_in (entry.Scalar (Small index)) = index
-number_in (entry.Scalar (Long index)) = index
-number_in entry.End = 0
+-- the number of an entry, which is `ends` for an end
+abbrev pub number_in : (ends : ℕ) → EventEntry → ℕ
+number_in ends (entry.Array following) = following
+number_in ends (entry.Dictionary following) = following
+number_in ends (entry.Scalar (Small index)) = index
+number_in ends (entry.Scalar (Long index)) = index
+number_in ends entry.End = ends
 
 -- how an event with an entry of this kind affects the open collections
 abbrev pub shape_of_kind : EntryKind → EventShape
@@ -66,3 +66,25 @@ IsEntryNumber entries index number =
 abbrev pub entries_from : List EntryKind → List ℕ → List EventEntry
 entries_from (k ∷ kinds) (n ∷ numbers) = entry_of k n ∷ entries_from kinds numbers
 entries_from kinds numbers = []
+
+-- 1 for an end, and 0 for any other kind
+abbrev pub one_if_end : EntryKind → ℕ
+one_if_end kind.End = 1
+one_if_end other = 0
+
+-- the number of ends among entries of these kinds
+abbrev pub ends_in : List EntryKind → ℕ
+ends_in [] = 0
+ends_in (k ∷ kinds) = one_if_end k + ends_in kinds
+
+-- the number of ends before an index
+abbrev pub ends_before : List EventEntry → (index : ℕ) → ℕ
+ends_before entries index = ends_in (take index (map kind_in entries))
+
+-- there are as many numbers as kinds, and `ends` ends; the number of each end is the number of ends
+-- before it
+pub record AreColumns (kinds : List EntryKind) (numbers : List ℕ) (ends : ℕ) : Type 0 where
+  pub long : length kinds ≡ length numbers
+  pub counted : ends ≡ ends_in kinds
+  pub numbered : (p : ℕ) → p < length kinds → slice_index_or kinds p kind.Small ≡ kind.End
+      → slice_index numbers p ≡ ends_in (take p kinds)

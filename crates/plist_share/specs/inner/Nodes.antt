@@ -1,12 +1,12 @@
 -- Collections, described by the classes of their children.
-use Rattle.std.specs.Prelude.{◌≡◌, ◌↔◌, ℕ, ◌+◌, ◌<◌, ◌≤◌, Bool, true, false, List, ◌++◌, length, map, Option, None, Some, slice_get}
+use Rattle.std.specs.Prelude.{◌≡◌, ◌↔◌, ℕ, ◌+◌, ◌<◌, ◌≤◌, Bool, true, false, List, ◌++◌, length, map, Option, None, Some, slice_get, ⊤}
 use Rattle.plist_base.specs.Events.{PlainEvent}
-use Rattle.plist_base.specs.Trees.{Tree, Leaf, Array, Dictionary}
-use Rattle.plist_buffer.specs.EventTable.{AllBelow, keys_in, nth_number, plain_events, values_in}
+use Rattle.plist_base.specs.Trees.{Scalar, Tree, Leaf, Array, Dictionary}
+use Rattle.plist_buffer.specs.EventTable.{HasItem, keys_in, plain_events, values_in}
 use Rattle.plist_buffer.specs.declared.event_table.EventTable.{EventTable}
 use Rattle.plist_buffer.specs.Occurrences.{OccursAt}
 use Rattle.plist_binwrite.specs.Classes.{AreClasses}
-use Rattle.plist_binwrite.specs.inner.Scalars.{AreIdentities}
+use Rattle.plist_binwrite.specs.EventClasses.{HasEachCollection, listed_class}
 use Rattle.plist_binwrite.specs.declared.classes.ClassList.{ClassList}
 use Rattle.plist_share.specs.declared.classes.Collection.{Collection}
 
@@ -34,43 +34,37 @@ node_at class (Leaf x) p = None
 node_at class (Array items) p = Some (node_by class false (Array items) p)
 node_at class (Dictionary pairs) p = Some (node_by class true (Dictionary pairs) p)
 
--- c is the class of a tree: `own` for a scalar, and for a collection `count` plus the collection's
--- index among those found so far
-abbrev pub IsClass : (count : ℕ) → (nodes : List Node) → (own : ℕ) → Option Node → ℕ → Type 0
-IsClass count nodes own None c = c ≡ own
-IsClass count nodes own (Some node) c =
-    (i : ℕ) × (c ≡ count + i) × (slice_get nodes i ≡ Some node)
+-- the class of a collection is `count` plus the collection's index among those found so far;
+-- nothing is said about a scalar
+abbrev pub IsClass : (count : ℕ) → (nodes : List Node) → Option Node → (class : ℕ) → Type 0
+IsClass count nodes None class = ⊤
+IsClass count nodes (Some node) class =
+    (i : ℕ) × (class ≡ count + i) × (slice_get nodes i ≡ Some node)
 
--- if a collection begins at the index, `class` is its class; nothing is said about a scalar
-abbrev pub IsClassAt : EventTable → (classes : List ℕ) → (count : ℕ) → (nodes : List Node)
-    → (index class : ℕ) → Type 0
-IsClassAt held classes count nodes index class = (t : Tree) → OccursAt (plain_events held) t index
-    → IsClass count nodes class (node_at (nth_number classes) t index) class
+-- if a collection begins at the index, `class` is its class
+abbrev pub IsClassAt : EventTable → ClassList → (nodes : List Node) → (index class : ℕ) → Type 0
+IsClassAt held found nodes index class = (t : Tree) → OccursAt (plain_events held) t index
+    → IsClass found.bound nodes (node_at (listed_class found held) t index) class
 
--- each tree from index `from` on has its class, and the classes before it are those of `scalar`
-pub record HaveTreeClasses (class : ℕ → ℕ) (count : ℕ) (scalar : ℕ → ℕ) (es : List PlainEvent)
-    (nodes : List Node) (from : ℕ) : Type 0 where
-  pub following : (t : Tree) (p : ℕ) → from ≤ p → OccursAt es t p
-      → IsClass count nodes (scalar p) (node_at class t p) (class p)
-  pub before : (p : ℕ) → p < from → class p ≡ scalar p
-  pub below : (p : ℕ) → p < length es → class p < count + length nodes
+-- each collection from index `from` on has its class
+abbrev pub AreClassesFrom : EventTable → ClassList → (nodes : List Node) → (from : ℕ) → Type 0
+AreClassesFrom held found nodes from =
+    (p : ℕ) → from ≤ p → IsClassAt held found nodes p (listed_class found held p)
 
--- each tree from index `from` on has its class, and before it only scalars have theirs
-abbrev pub AreClassesFrom : EventTable → (count : ℕ) → (classes : List ℕ) → (nodes : List Node)
-    → (from : ℕ) → Type 0
-AreClassesFrom held count classes nodes from =
-    (scalar : ℕ → ℕ) × AreIdentities (plain_events held) scalar count
-    × HaveTreeClasses (nth_number classes) count scalar (plain_events held) nodes from
+-- each scalar has a class below the count, and equal ones have the same
+pub record AreScalarClasses (es : List PlainEvent) (class : ℕ → ℕ) (count : ℕ) : Type 0 where
+  pub below : (x : Scalar) (p : ℕ) → OccursAt es (Leaf x) p → class p < count
+  pub same : (x y : Scalar) (p q : ℕ) → OccursAt es (Leaf x) p → OccursAt es (Leaf y) q
+      → (class p ≡ class q) ↔ (x ≡ y)
 
 -- two indices have the same class if and only if the same tree begins at both
 abbrev pub SeparatesTrees : List PlainEvent → (class : ℕ → ℕ) → Type 0
 SeparatesTrees es class =
     (t u : Tree) (p q : ℕ) → OccursAt es t p → OccursAt es u q → (class p ≡ class q) ↔ (t ≡ u)
 
--- each event has a class below the bound, and two have the same class if and only if the same tree
--- begins at both
+-- each tree has a class below the bound, and two have the same class if and only if they are equal
 pub record SeparatesAll (held : EventTable) (found : ClassList) : Type 0 where
-  pub objects : AreClasses (plain_events held) (nth_number found.by_event)
-  pub trees : SeparatesTrees (plain_events held) (nth_number found.by_event)
-  pub long : length found.by_event ≡ length (plain_events held)
-  pub below : AllBelow found.bound found.by_event
+  pub objects : AreClasses (plain_events held) (listed_class found held)
+  pub trees : SeparatesTrees (plain_events held) (listed_class found held)
+  pub long : HasEachCollection found held
+  pub below : (p : ℕ) → HasItem (plain_events held) p → listed_class found held p < found.bound

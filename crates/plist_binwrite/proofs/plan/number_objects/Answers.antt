@@ -1,4 +1,4 @@
-use Rattle.std.proofs.Common.{◌-◌, ◌∙◌, ap, arith, below_more, subst}
+use Rattle.std.proofs.Common.{◌-◌, ◌∙◌, ap, arith, below_more, replicate, subst}
 use Rattle.std.specs.List.{AllByRecursion}
 use Rattle.plist_binwrite.specs.EventClasses.{events_in}
 use Rattle.plist_binwrite.specs.inner.Numbering.{IsNumbered}
@@ -12,8 +12,8 @@ use Rattle.plist_binwrite.proofs.plan.number_objects.Goals as goal
 
 pub number_one-requires-clause-so_far : goal.number_one-requires-clause-so_far
 number_one-requires-clause-so_far c =
-    numbered_none _ c.requires.whole c.requires.classed c.bound_of_items.ensures
-    c.in_ok-by_class.ensures.zeros c.none.ensures
+    numbered_none c.requires.whole c.requires.classed
+    (c.in_ok-by_class.ensures.zeros ∙ ap (λ bound. replicate bound 0) c.bound.ensures) c.none.ensures
 
 pub number_one-requires-clause-item : goal.number_one-requires-clause-item
 number_one-requires-clause-item c =

@@ -1,23 +1,45 @@
-use Rattle.std.proofs.Common.{arith}
+use Rattle.std.proofs.Common.{ℕ, arith, map}
 use Rattle.std.proofs.lemmas.List.{length-map}
-use Rattle.plist_share.specs.inner.Nodes.{Node, node_of}
-use Rattle.plist_share.proofs.ClassTrees.{found_classes, separate_trees}
+use Rattle.plist_base.specs.Trees.{Tree}
+use Rattle.plist_buffer.specs.EventTable.{plain_events}
+use Rattle.plist_buffer.specs.Occurrences.{OccursAt}
+use Rattle.plist_buffer.proofs.TreeStarts.{occurs_in}
+use Rattle.plist_binwrite.specs.EventClasses.{listed_class}
+use Rattle.plist_binwrite.proofs.TreeObjects.{occurs_at}
+use Rattle.plist_share.specs.inner.Nodes.{AreScalarClasses, IsClass, Node, node_at, node_of}
+use Rattle.plist_share.proofs.ClassTrees.{class_below, found_classes, scalar_classes, separate_trees}
 use Rattle.plist_share.proofs.classes.assign_classes.Goals as goal
+
+pub back-init : goal.back-init
+back-init c = record {
+  have = λ p le t s. absurd (omega (arith, le, occurs_in s, c.len-index.ensures));
+  long = c.requires.long;
+  bound = c.requires.bound;
+  within = omega (arith, c.len-index.ensures);
+  apart = c.requires.apart;
+}
 
 pub returns-in-Some : goal.returns-in-Some
 returns-in-Some c =
-    let have = c.back.invariant.have in
-    let long = c.back.invariant.long in
+    let i = c.back.invariant in
+    let es = plain_events c.args.events.now in
+    let class = listed_class c.back.found c.args.events.now in
+    let nodes = map node_of c.back.collections.keys in
+    let all : (t : Tree) (p : ℕ) → OccursAt es t p
+    → IsClass c.back.found.bound nodes (node_at class t p) (class p) =
+    λ t p s. i.have p (omega (arith, c.back-test.false)) t s in
+    let leaves : AreScalarClasses es class c.back.found.bound =
+    rw i.bound (scalar_classes c.args.events.now c.back.found) in
     record {
-      objects = found_classes have.1 have.2 (omega (arith, c.back-test.false));
-      trees = separate_trees have.1 have.2 (omega (arith, c.back-test.false))
-          c.back.invariant.apart;
-      long = long;
-      below = λ i h. omega (
-        arith,
-        have.2.below i (omega (arith, long, h)),
-        length-map {B = Node} c.back.collections.keys node_of,
-        c.in-Some.ensures,
-        c.len.ensures,
-      );
+      objects = found_classes nodes leaves all;
+      trees = separate_trees nodes leaves all i.apart;
+      long = i.long;
+      below = λ p item.
+          let t = occurs_at es c.requires.whole p item in omega (
+            arith,
+            class_below nodes leaves all t.0 p t.1,
+            length-map {B = Node} c.back.collections.keys node_of,
+            c.in-Some.ensures,
+            c.len.ensures,
+          );
     }

@@ -1,5 +1,6 @@
 use Rattle.std.proofs.Common.{rules, ◌≡◌, ◌+◌, ◌++◌, map, Some, ◌∙◌}
-use Rattle.plist_buffer.specs.EventTable.{plain_events, nth_number}
+use Rattle.plist_binwrite.specs.EventClasses.{listed_class}
+use Rattle.plist_buffer.specs.EventTable.{plain_events}
 use Rattle.plist_buffer.proofs.ChildIndices.{keys_are_in, values_are_in}
 use Rattle.plist_share.proofs.ClassTrees.{by_collection}
 use Rattle.plist_share.proofs.classes.class_of_collection.Goals as goal
@@ -7,14 +8,14 @@ use Rattle.plist_share.proofs.classes.class_of_collection.Goals as goal
 pub returns-clause-class : goal.returns-clause-class
 returns-clause-class c t s =
     let es = plain_events c.args.events.now in
-    let class = nth_number c.args.found.now.by_event in
+    let class = listed_class c.args.found.now c.args.events.now in
     let is = c.in_ok-children.ensures ∙ (λ i. map class (keys_are_in es t c.args.index s i)
     ++ map class (values_are_in es t c.args.index s i)) in
-    let class : c.in_ok-class.class ≡ c.args.found.now.bound + c.in_ok-node.node = search rules in
-    by_collection es (nth_number c.args.found.now.by_event) c.args.found.now.bound _
+    let sum : c.in_ok-class.class ≡ c.args.found.now.bound + c.in_ok-node.node = search rules in
+    by_collection es class c.args.found.now.bound _
     c.begins_dictionary.result t c.args.index c.in_ok-class.class s
     c.begins_dictionary.ensures (
       c.in_ok-node.node,
-      class,
+      sum,
       c.in_ok-node.ensures.stored ∙ (λ i. Some (c.begins_dictionary.result, is i)),
     )

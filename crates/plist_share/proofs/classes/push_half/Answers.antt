@@ -1,7 +1,8 @@
 use Rattle.std.proofs.Common.{◌≡◌, ◌++◌, ◌∷◌, ap, map, sym, subst, refl, ◌∙◌, append-nil}
 use Rattle.std.specs.List.{AllByRecursion}
+use Rattle.plist_binwrite.specs.EventClasses.{listed_class}
 use Rattle.plist_buffer.specs.Children.{half_of, indices_left}
-use Rattle.plist_buffer.specs.EventTable.{plain_events, HasItem, nth_number}
+use Rattle.plist_buffer.specs.EventTable.{plain_events, HasItem}
 use Rattle.plist_buffer.proofs.ChildIndices.{are_items}
 use Rattle.plist_share.proofs.classes.push_half.Goals as goal
 use Rattle.plist_share.proofs.classes.push_half.Goals.{After-into_iter-child-iterator as Begun, In-Some as Next}
@@ -24,7 +25,7 @@ loop-child-init c = record {
 
 pub returns : goal.returns
 returns c =
-    let class = nth_number c.args.classes.now in
+    let class = listed_class c.args.classes.now c.args.events.now in
     sym (append-nil c.loop-child.found.items)
     ∙ ap (λ l. c.loop-child.found.items ++ map class l) (sym c.in-None.ensures.steps.0)
     ∙ c.loop-child.invariant.pushed

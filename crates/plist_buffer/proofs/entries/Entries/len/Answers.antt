@@ -9,6 +9,6 @@ returns c =
       arith,
       c.len.ensures,
       s.kinds.ok.0,
-      long_entries s.kinds.items s.numbers c.self.invariant,
+      long_entries s.kinds.items s.numbers c.self.invariant.long,
       ap length c.self.view_is,
     )

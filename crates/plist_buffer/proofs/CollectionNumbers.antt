@@ -1,0 +1,198 @@
+-- The numbers of collections: each closed collection has one of its own.
+use Rattle.std.proofs.Common.{◌≡◌, ◌≢◌, ◌==◌, ℕ, zero, suc, ◌+◌, ◌-◌, ◌<◌, ◌≤◌, if◌then◌else◌, List, [], ◌∷◌, length, get_or, map, take, Option, None, Some, inl, inr, refl, ap, sym, ◌∙◌, subst, arith, length-append, append_assoc}
+use Rattle.std.proofs.lemmas.Bool.{ne_eqb}
+use Rattle.std.proofs.lemmas.Bool.Decides.{eqb_tells}
+use Rattle.std.proofs.Math.ListN.{get_or-map}
+use Rattle.std.proofs.lemmas.List.{get_or_default, length-map, take_all}
+use Rattle.plist_base.specs.Bracketing.{lengthless_items, lengthless_pairs}
+use Rattle.plist_base.specs.Events.{PlainEvent, EndCollection, ScalarEvent, StartArray, StartDictionary}
+use Rattle.plist_base.specs.Trees.{Tree, Leaf, Array, Dictionary, Trees, Members}
+use Rattle.plist_buffer.specs.EventTable.{EndsCollection, collection_number, count_collections, event_at, lists_in, plain_events}
+use Rattle.plist_buffer.specs.Occurrences.{event_count, OccursAt}
+use Rattle.plist_buffer.specs.declared.entries.EntryKind.{EntryKind}
+use Rattle.plist_buffer.specs.declared.entries.EntryKind.TheVariants as kind
+use Rattle.plist_buffer.specs.declared.event_table.EventTable.{EventTable}
+use Rattle.plist_buffer.specs.declared.entries.EventEntry.TheVariants as entry
+use Rattle.plist_buffer.specs.inner.Columns.{ends_in, kind_in, one_if_end}
+use Rattle.plist_buffer.specs.inner.UnclosedStarts.{skip_after, skip_after_event, skip_from, unclosed_after_event}
+use Rattle.plist_buffer.proofs.OpenStarts.{skip_ends, skip_forward}
+use Rattle.plist_buffer.proofs.EntryEvents.{end_there, long_shown, lt}
+use Rattle.plist_buffer.proofs.TreeOccurrences.{past}
+use Rattle.plist_buffer.proofs.TreeStarts.{first_event, occurs_in}
+
+-- ---- the start that an event closes
+
+-- the innermost of open starts
+abbrev innermost : List ℕ → Option ℕ
+innermost [] = None
+innermost (q ∷ outer) = Some q
+
+-- the innermost start that is open before the event at index r, if the first event is at `index`
+abbrev open_at : List PlainEvent → (index r : ℕ) → (unclosed : List ℕ) → Option ℕ
+open_at [] index r unclosed = None
+open_at (e ∷ es) index r unclosed =
+    if r == index then innermost unclosed else open_at es (index + 1) r (unclosed_after_event e index unclosed)
+
+open_past : (es : List PlainEvent) (index r : ℕ) (unclosed : List ℕ) → r < index
+    → open_at es index r unclosed ≡ None
+open_past [] index r unclosed lt = refl
+open_past (e ∷ es) index r unclosed lt =
+    rw (ne_eqb r index (λ e. omega arith))
+    (open_past es (index + 1) r (unclosed_after_event e index unclosed) (omega arith))
+
+-- an event after which it is known where the tree at q ends closes that tree
+changed : (e : PlainEvent) (index : ℕ) (unclosed : List ℕ) (q given : ℕ)
+    → skip_after_event e index unclosed q given ≢ given
+    → (innermost unclosed ≡ Some q) × (skip_after_event e index unclosed q given ≡ index + 1)
+changed EndCollection index [] q given other = absurd (other refl)
+changed EndCollection index (i ∷ outer) q given other = elim (eqb_tells q i) [
+  | inl e ↦ (ap Some (sym e.1), ap (λ b. if b then index + 1 else given) e.0)
+  | inr n ↦ absurd (other (ap (λ b. if b then index + 1 else given) n.0))
+]
+changed (ScalarEvent x) index unclosed q given other = absurd (other refl)
+changed e index unclosed q given other = absurd (other refl)
+
+-- if the tree that begins at q ends after the event at r, q is the innermost open start before it
+closes : (es : List PlainEvent) (index r q given : ℕ) (unclosed : List ℕ)
+    → skip_from es index unclosed q given ≡ suc r → given ≢ suc r
+    → open_at es index r unclosed ≡ Some q
+closes [] index r q given unclosed is other = absurd (other is)
+closes (e ∷ es) index r q given unclosed is other =
+    let next = skip_after_event e index unclosed q given in
+    let unclosed_next = unclosed_after_event e index unclosed in
+    elim (eqb_tells r index) [
+      | inl same ↦ rw same.0 (elim (eqb_tells next (suc r)) [
+        | inl now ↦ (changed e index unclosed q given (λ k. other (sym k ∙ now.1))).0
+        | inr later ↦ cc (
+          closes es (index + 1) r q next unclosed_next is later.1,
+          open_past es (index + 1) r unclosed_next (omega (arith, same.1)),
+        )
+      ])
+      | inr apart ↦ rw apart.0 (closes es (index + 1) r q next unclosed_next is (λ now.
+          apart.1 (omega (
+            arith,
+            now,
+            (changed e index unclosed q given (λ k. other (sym k ∙ now))).1,
+          ))))
+    ]
+
+-- two trees that end at the same index, and have more than one event, begin at the same index
+ends_once : (es : List PlainEvent) (p q r : ℕ) → skip_after es p ≡ suc r → p + 1 ≢ suc r
+    → skip_after es q ≡ suc r → q + 1 ≢ suc r → p ≡ q
+ends_once es p q r a b c d =
+    let one = closes es 0 r p (p + 1) [] a b in
+    let two = closes es 0 r q (q + 1) [] c d in cc
+
+-- ---- the number of ends before an end
+
+ends_rise : (kinds : List EntryKind) (a b : ℕ) → get_or kinds a kind.Small ≡ kind.End → a < b
+    → b ≤ length kinds → ends_in (take a kinds) < ends_in (take b kinds)
+ends_rise [] a b is lt le = absurd (omega (arith, lt, le))
+ends_rise (k ∷ kinds) a zero is lt le = absurd (omega (arith, lt))
+ends_rise (k ∷ kinds) zero (suc b) is lt le = omega (arith, ap one_if_end is)
+ends_rise (k ∷ kinds) (suc a) (suc b) is lt le =
+    omega (arith, ends_rise kinds a b is (omega (arith, lt)) (omega (arith, le)))
+
+-- ---- the collections of a table
+
+-- the tree is a collection that begins at an index
+pub record IsCollectionAt (es : List PlainEvent) (t : Tree) (p : ℕ) : Type 0 where
+  pub occurs : OccursAt es t p
+  pub large : 1 < event_count t
+
+pub array_at : {es : List PlainEvent} {ts : Trees} {p : ℕ} → OccursAt es (Array ts) p
+    → IsCollectionAt es (Array ts) p
+array_at {ts = ts} s = record {
+  occurs = s;
+  large = omega (arith, length-append (lengthless_items ts) (EndCollection ∷ []));
+}
+
+pub dictionary_at : {es : List PlainEvent} {ms : Members} {p : ℕ} → OccursAt es (Dictionary ms) p
+    → IsCollectionAt es (Dictionary ms) p
+dictionary_at {ms = ms} s = record {
+  occurs = s;
+  large = omega (arith, length-append (lengthless_pairs ms) (EndCollection ∷ []));
+}
+
+-- a collection's last event is an end
+last_event : (es : List PlainEvent) (t : Tree) (p : ℕ) → IsCollectionAt es t p
+    → event_at es (skip_after es p - 1) ≡ EndCollection
+last_event es (Leaf x) p s = absurd (omega (arith, s.large))
+last_event es (Array ts) p s =
+    let inside = StartArray None ∷ lengthless_items ts in
+    let at : skip_after es p - 1 ≡ p + length inside = omega (
+      arith,
+      skip_ends es (Array ts) p s.occurs,
+      length-append (lengthless_items ts) (EndCollection ∷ []),
+    ) in
+    ap (event_at es) at
+    ∙ first_event es (p + length inside) EndCollection s.occurs.rest
+    (past inside (EndCollection ∷ s.occurs.rest) es p
+    (s.occurs.is ∙ append_assoc inside (EndCollection ∷ []) s.occurs.rest))
+last_event es (Dictionary ms) p s =
+    let inside = StartDictionary None ∷ lengthless_pairs ms in
+    let at : skip_after es p - 1 ≡ p + length inside = omega (
+      arith,
+      skip_ends es (Dictionary ms) p s.occurs,
+      length-append (lengthless_pairs ms) (EndCollection ∷ []),
+    ) in
+    ap (event_at es) at
+    ∙ first_event es (p + length inside) EndCollection s.occurs.rest
+    (past inside (EndCollection ∷ s.occurs.rest) es p
+    (s.occurs.is ∙ append_assoc inside (EndCollection ∷ []) s.occurs.rest))
+
+module _ (held : EventTable) where
+  abbrev es : List PlainEvent
+  es = plain_events held
+
+  abbrev kinds : List EntryKind
+  kinds = map kind_in held.entries
+
+  -- a collection is closed
+  pub collection_ends : (t : Tree) (p : ℕ) → IsCollectionAt es t p → EndsCollection held p
+  collection_ends t p s = last_event es t p s
+
+  -- the last entry of a collection is an end
+  last_kind : (t : Tree) (p : ℕ) → IsCollectionAt es t p
+      → (get_or kinds (skip_after es p - 1) kind.Small ≡ kind.End) × (skip_after es p ≤ length kinds)
+  last_kind t p s =
+      let forward = skip_forward es p (occurs_in s.occurs) in
+      let within : skip_after es p - 1 < length es = omega (arith, forward.0, forward.1) in
+      let at = end_there held.kept within (collection_ends t p s) in
+      let long = long_shown (lists_in held) held.entries in (
+        get_or_default kinds (skip_after es p - 1) kind.Small kind.End
+            (omega (arith, lt held.kept within, length-map held.entries kind_in))
+            ∙ get_or-map kind_in held.entries (skip_after es p - 1) entry.End ∙ ap kind_in at,
+        omega (arith, forward.1, long, length-map held.entries kind_in),
+      )
+
+  -- its number is less than that of the collections
+  pub number_below : (t : Tree) (p : ℕ) → IsCollectionAt es t p
+      → collection_number held p < count_collections held
+  number_below t p s =
+      let last = last_kind t p s in
+      let forward = skip_forward es p (occurs_in s.occurs) in
+      subst (λ ks. collection_number held p < ends_in ks) (take_all (length kinds) kinds (omega arith))
+      (ends_rise kinds (skip_after es p - 1) (length kinds) last.0
+      (omega (arith, last.1, forward.0)) (omega arith))
+
+  -- two collections have different numbers
+  pub numbers_apart : (t u : Tree) (p q : ℕ) → IsCollectionAt es t p → IsCollectionAt es u q
+      → collection_number held p ≡ collection_number held q → p ≡ q
+  numbers_apart t u p q s r same =
+      let a = last_kind t p s in
+      let b = last_kind u q r in
+      let forward_p = skip_forward es p (occurs_in s.occurs) in
+      let forward_q = skip_forward es q (occurs_in r.occurs) in
+      let before : skip_after es p - 1 < skip_after es q - 1
+      → collection_number held p < collection_number held q = λ h. ends_rise kinds (skip_after es p - 1) (skip_after es q - 1) a.0 h
+      (omega (arith, b.1)) in
+      let after : skip_after es q - 1 < skip_after es p - 1
+      → collection_number held q < collection_number held p = λ h. ends_rise kinds (skip_after es q - 1) (skip_after es p - 1) b.0 h
+      (omega (arith, a.1)) in
+      let ends : skip_after es q ≡ suc (skip_after es p - 1) =
+      grind (arith, before, after, same, forward_p.0, forward_q.0) in
+      ends_once es p q (skip_after es p - 1) (omega (arith, forward_p.0))
+      (λ h. omega (arith, h, skip_ends es t p s.occurs, s.large))
+      ends
+      (λ h. omega (arith, h, ends, skip_ends es u q r.occurs, r.large))
