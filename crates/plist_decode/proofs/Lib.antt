@@ -12,3 +12,4 @@ pub mod UnknownBytes
 pub mod PackedScalars
 pub mod Fronts
 mod FormatsOfInputs
+pub mod Utf16Writing

@@ -7,4 +7,5 @@ pub mod CountedContent
 pub mod Front
 pub mod Packed
 pub mod StepFaults
+pub mod Utf16Writing
 pub mod inner

@@ -1,19 +1,67 @@
 //! Decodes strings in UTF-16.
 
-ghost use Rattle.std.specs.Prelude.{◌≡◌, ◌+◌, ◌*◌, ◌/◌, ◌++◌, ◌<◌, ◌≤◌, length, take, encode_utf8, string_bytes, IfOk, MatchOption};
+ghost use Rattle.std.specs.Prelude.{◌≡◌, ◌+◌, ◌*◌, ◌/◌, ◌%◌, ◌++◌, ◌<◌, ◌≤◌, length, take, encode_utf8, string_bytes, IfOk, IfSome, MatchOption, None};
 ghost use Rattle.std.specs.Char.{len_utf8};
+ghost use Rattle.std.specs.Str.{encode_utf8_all};
 ghost use Rattle.plist_base.specs.Faults.{InvalidUtf16String};
 ghost use Rattle.plist_base.specs.Trees.{String};
 ghost use Rattle.plist_base.specs.Object.{Faulty, Scalar, wide_text};
-ghost use Rattle.plist_base.specs.Utf16Strings.{string_of_utf16};
+ghost use Rattle.plist_base.specs.Utf16Strings.{chars_left, string_of_utf16};
+ghost use Rattle.plist_decode.specs.Utf16Writing.{WritesChars};
 
-use plist_base::Utf16Str;
 use plist_base::utf16::char_at;
+use plist_base::{Utf16Chars, Utf16Str};
 use std::alloc::{AllocError, Global};
 
-// Writes a character in UTF-8 after the first `size` bytes, and returns where it ends. The contract
-// of `encode_utf8` says nothing of the bytes that it writes to, only of the string that it returns,
-// so that string is copied.
+// Writes bytes after the first `size` bytes, and returns where they end.
+#[inline(always)]
+fn write_bytes(text: &mut [u8], size: usize, bytes: &[u8]) -> usize
+    requires { size + length bytes.now ≤ length text.old }
+    ensures size { result ≡ size + length bytes.now }
+    ensures written { take result text.new ≡ take size text.old ++ bytes.now }
+    ensures length { length text.new ≡ length text.old }
+{
+    let end = size + bytes.len();
+    text[size..end].copy_from_slice(bytes);
+    end
+}
+
+// Returns the byte in UTF-8 that contains the lowest six bits of a number. It isn't the first byte
+// of a character.
+#[inline(always)]
+fn byte_after_first(bits: u32) -> u8
+    ensures { result ≡ 128 + bits % 64 }
+{
+    (0x80 + bits % 64) as u8
+}
+
+// Writes a character that isn't ASCII in UTF-8 after the first `size` bytes, and returns where it
+// ends.
+#[inline(always)]
+fn write_wide_char(text: &mut [u8], size: usize, code: u32) -> usize
+    requires code { (0x80 ≤ code) × (code < 0x11_0000) }
+    requires room { size + len_utf8 code ≤ length text.old }
+    ensures size { result ≡ size + len_utf8 code }
+    ensures written { take result text.new ≡ take size text.old ++ encode_utf8 code }
+    ensures length { length text.new ≡ length text.old }
+{
+    let last = byte_after_first(code);
+    if code < 0x800 {
+        return write_bytes(text, size, &[(0xc0 + code / 64) as u8, last]);
+    }
+    let third = byte_after_first(code / 64);
+    if code < 0x1_0000 {
+        return write_bytes(text, size, &[(0xe0 + code / 4096) as u8, third, last]);
+    }
+    let second = byte_after_first(code / 4096);
+    write_bytes(
+        text,
+        size,
+        &[(0xf0 + code / 0x4_0000) as u8, second, third, last],
+    )
+}
+
+// Writes a character in UTF-8 after the first `size` bytes, and returns where it ends.
 #[inline(always)]
 fn write_char(text: &mut [u8], size: usize, c: char) -> usize
     requires { size + len_utf8 c ≤ length text.old }
@@ -21,15 +69,12 @@ fn write_char(text: &mut [u8], size: usize, c: char) -> usize
     ensures written { take result text.new ≡ take size text.old ++ encode_utf8 c }
     ensures length { length text.new ≡ length text.old }
 {
-    if c.is_ascii() {
-        text[size] = c as u8;
+    let code = c as u32;
+    if code < 0x80 {
+        text[size] = code as u8;
         return size + 1;
     }
-    let mut four = [0; 4];
-    let encoded = c.encode_utf8(&mut four);
-    let end = size + encoded.len();
-    text[size..end].copy_from_slice(encoded.as_bytes());
-    end
+    write_wide_char(text, size, code)
 }
 
 /// Writes a string in UTF-16 to `text` in UTF-8, and returns it, or `None` if a surrogate is
@@ -50,11 +95,65 @@ pub fn utf16_text_in<'t>(bytes: &[u8], text: &'t mut [u8]) -> Option<&'t str>
     Some(unsafe { str::from_utf8_unchecked(&text[..size]) })
 }
 
+// Writes the next characters in UTF-8 after the first `size` bytes, and returns where they end, or
+// `None` if no character remains: the next characters up to the first one that isn't ASCII.
+#[inline(always)]
+fn write_to_wide(text: &mut [u8], size: usize, chars: &mut Utf16Chars<'_>) -> Option<usize>
+    requires { size + length (encode_utf8_all (chars_left chars.old)) ≡ length text.old }
+    ensures all { result ≡ None
+        → text.new ≡ take size text.old ++ encode_utf8_all (chars_left chars.old) }
+    ensures some { IfSome result (λ end.
+        WritesChars (size, text.old, chars_left chars.old) (end, text.new, chars_left chars.new)) }
+    ensures fewer { IfSome result (λ _.
+        length (chars_left chars.new) < length (chars_left chars.old)) }
+{
+    let mut end = size;
+    while let Some(c) = chars.next() {
+        end = write_char(text, end, c);
+        if !c.is_ascii() {
+            return Some(end);
+        }
+    }
+    None
+}
+
+// Writes some of the next characters in UTF-8 after the first `size` bytes, and returns where they
+// end, or `None` if all are written. Writes the next eight if all of them are ASCII.
+#[inline(always)]
+fn write_next(text: &mut [u8], size: usize, chars: &mut Utf16Chars<'_>) -> Option<usize>
+    requires { size + length (encode_utf8_all (chars_left chars.old)) ≡ length text.old }
+    ensures all { result ≡ None
+        → text.new ≡ take size text.old ++ encode_utf8_all (chars_left chars.old) }
+    ensures some { IfSome result (λ end.
+        WritesChars (size, text.old, chars_left chars.old) (end, text.new, chars_left chars.new)) }
+    ensures fewer { IfSome result (λ _.
+        length (chars_left chars.new) < length (chars_left chars.old)) }
+{
+    if let Some(block) = chars.next_eight_ascii() {
+        return Some(write_bytes(text, size, &block));
+    }
+    write_to_wide(text, size, chars)
+}
+
+// Writes the characters of an iterator in UTF-8. It isn't inlined, and the loop has an iterator of
+// its own, so that its variables stay in registers.
+#[inline(never)]
+fn write_chars(text: &mut [u8], chars: Utf16Chars<'_>)
+    requires { length text.old ≡ length (encode_utf8_all (chars_left chars)) }
+    ensures { text.new ≡ encode_utf8_all (chars_left chars.entry) }
+{
+    let mut left = chars;
+    let mut size = 0;
+    while let Some(end) = write_next(text, size, &mut left) {
+        size = end;
+    }
+}
+
 /// Returns a string in UTF-8, or fails if memory for it can't be allocated.
 pub fn to_utf8(alloc: Global, text: Utf16Str<'_>) -> Result<String, AllocError>
     ensures { IfOk result (λ decoded. string_bytes decoded ≡ string_of_utf16 text.entry) }
 {
-    let mut decoded = String::with_capacity(alloc, text.len_utf8())?;
-    decoded.extend(text.chars())?;
-    Ok(decoded)
+    let mut decoded = vec![in alloc; 0u8; text.len_utf8()]?;
+    write_chars(&mut decoded, text.chars());
+    Ok(unsafe { String::from_utf8_unchecked(decoded) })
 }
