@@ -39,7 +39,8 @@ none_of_two a b none = (
   omega (arith, or_add_and a b, and_le_l a b, and_le_r a b),
 )
 
-turned : (f : ℕ → ℕ → ℕ) (n number : ℕ) (bytes : List ℕ) → length bytes ≡ n
+-- a function of one number and each byte, with its arguments the other way round
+pub turned : (f : ℕ → ℕ → ℕ) (n number : ℕ) (bytes : List ℕ) → length bytes ≡ n
     → zip2 f (replicate n number) bytes ≡ zip2 (λ a b. f b a) bytes (replicate n number)
 turned f zero number [] long = refl
 turned f zero number (byte ∷ bytes) long = absurd (omega arith)

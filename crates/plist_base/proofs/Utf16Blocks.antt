@@ -1,5 +1,5 @@
 -- Characters of a string in UTF-16 that are ASCII, eight at a time.
-use Rattle.std.proofs.Common.{◌≡◌, ℕ, ◌+◌, ◌-◌, ◌*◌, ◌<◌, ◌≤◌, inl, suc, false, not, List, [], ◌∷◌, ◌++◌, length, get_or, drop, take, map, Option, Some, refl, sym, ap, ◌∙◌, arith, drop-cons, zero-add, is_some}
+use Rattle.std.proofs.Common.{◌≡◌, ℕ, ◌+◌, ◌-◌, ◌*◌, ◌<◌, ◌≤◌, inl, zero, suc, false, not, List, [], ◌∷◌, ◌++◌, length, get_or, drop, take, map, Option, Some, refl, sym, subst, ap, ◌∙◌, arith, drop-cons, zero-add, is_some}
 use Rattle.std.specs.List.{list_any, range_with_len}
 use Rattle.std.specs.Option.{unwrap_or}
 use Rattle.std.specs.Char.Utf16.{has_unpaired_surrogate, utf16_chars, utf16_lossy_chars}
@@ -10,6 +10,8 @@ use lib.Lanes.{pick_l}
 use Rattle.plist_base.specs.ByteTests.{EachByte}
 use Rattle.plist_base.specs.Container.{number_of, numbers_spelled}
 use Rattle.plist_base.specs.Utf16.{IsAsciiBlock, unit_at}
+use Rattle.plist_base.specs.inner.PairedUnits.{IsAfterPaired}
+use Rattle.plist_base.proofs.Utf16Forms.{IsBytes}
 use Rattle.plist_base.proofs.Utf16Units.{next_lone}
 
 -- every second byte of eight units
@@ -29,6 +31,19 @@ evens = 0 ∷ 2 ∷ 4 ∷ 6 ∷ 8 ∷ 10 ∷ 12 ∷ 14 ∷ []
 -- the indices of their second bytes
 abbrev odds : List ℕ
 odds = 1 ∷ 3 ∷ 5 ∷ 7 ∷ 9 ∷ 11 ∷ 13 ∷ 15 ∷ []
+
+-- the first bytes of eight units
+abbrev pub first_bytes : (units : List ℕ) → List ℕ
+first_bytes units = pick_l 0 (take 16 units ++ take 16 units) evens
+
+-- they lie at the even indices
+pub at_evens : (units : List ℕ) → 16 ≤ length units → (k : ℕ) → k < 8
+    → get_or (first_bytes units) k 0 ≡ get_or units (2 * k) 0
+at_evens units long k below =
+    let all = take 16 units in
+    every_second units long 0 (omega arith) (first_bytes units)
+    (pick_l_left 0 all all 16 evens (length-take-le 16 units long) tt) k below
+    ∙ ap (λ i. get_or units i 0) {x = 2 * k + 0} {y = 2 * k} (omega arith)
 
 -- eight units whose first bytes are zero, and whose second bytes are ASCII
 pub block_of : (units first second : List ℕ) → 16 ≤ length units
@@ -129,3 +144,53 @@ pub block_paired : (units after block : List ℕ)
     → has_unpaired_surrogate units ≡ false → has_unpaired_surrogate after ≡ false
 block_paired units after block is paired =
     sym (ap (λ l. list_any (λ o. not (is_some o)) l) is ∙ paired_more block (utf16_chars after)) ∙ paired
+
+-- the bytes of a unit
+pub unit_is : (bytes : List ℕ) (at : ℕ) → at * 2 + 2 ≤ length bytes
+    → unit_at bytes at ≡ 256 * get_or bytes (at * 2) 0 + get_or bytes (suc (at * 2)) 0
+unit_is bytes at le =
+    ap (λ l. number_of (take 2 l)) (drop-cons bytes (at * 2) 0 (omega (arith, le))
+    ∙ ap (λ l. get_or bytes (at * 2) 0 ∷ l) (drop-cons bytes (suc (at * 2)) 0 (omega (arith, le))))
+    ∙ omega arith
+
+module _ (bytes : List ℕ) (small : IsBytes bytes) where
+  -- units whose first bytes are below those of surrogates
+  low_units : (n at : ℕ) → (at + n) * 2 ≤ length bytes
+      → ((k : ℕ) → k < n → get_or bytes ((at + k) * 2) 0 < 0xd8)
+      → has_unpaired_surrogate (drop at (numbers_spelled 2 bytes))
+      ≡ has_unpaired_surrogate (drop (at + n) (numbers_spelled 2 bytes))
+  low_units zero at le first =
+      ap (λ k. has_unpaired_surrogate (drop k (numbers_spelled 2 bytes))) {x = at} {y = at + 0} (omega arith)
+  low_units (suc n) at le first =
+      let same : (k : ℕ) → at + 1 + k ≡ at + suc k = λ k. omega arith in
+      let here : get_or bytes ((at + 0) * 2) 0 ≡ get_or bytes (at * 2) 0 =
+      ap (λ k. get_or bytes (k * 2) 0) {x = at + 0} {y = at} (omega arith) in
+      let low : unit_at bytes at < 0xd800 = omega (
+        arith,
+        unit_is bytes at (omega (arith, le)),
+        here,
+        first 0 (omega arith),
+        small (suc (at * 2)),
+      ) in
+      let next = next_lone bytes at (omega (arith, le)) (omega (arith, low)) (inl low) in
+      ap (λ l. list_any (λ o. not (is_some o)) l) next.chars
+      ∙ low_units n (at + 1) (omega (arith, le))
+      (λ k below. subst (λ i. get_or bytes (i * 2) 0 < 0xd8) (sym (same k)) (first (suc k) (omega (arith, below))))
+      ∙ ap (λ k. has_unpaired_surrogate (drop k (numbers_spelled 2 bytes))) (same n)
+
+  -- the index after eight units whose first bytes are below those of surrogates
+  pub after_block : (at : ℕ) → at * 2 + 16 ≤ length bytes
+      → ((k : ℕ) → k < 8 → get_or (take (length bytes - 2 * at) (drop (2 * at) bytes)) (2 * k) 0 < 0xd8)
+      → IsAfterPaired bytes at (at + 8)
+  after_block at le first =
+      let n = length bytes - 2 * at in
+      record {
+        after = omega arith;
+        within = omega (arith, le);
+        same = low_units 8 at (omega (arith, le)) (λ k below.
+            let there : get_or bytes ((at + k) * 2) 0 ≡ get_or (take n (drop (2 * at) bytes)) (2 * k) 0 =
+            ap (λ i. get_or bytes i 0) {x = (at + k) * 2} {y = 2 * at + 2 * k} (omega arith)
+            ∙ sym (get_or-take n (drop (2 * at) bytes) (2 * k) 0 (omega (arith, le, below))
+            ∙ get_or-drop (2 * at) bytes (2 * k) 0) in
+            omega (arith, there, first k below));
+      }

@@ -4,3 +4,4 @@ pub mod Hashing
 pub mod Names
 pub mod Windows
 pub mod UnitShares
+pub mod PairedUnits

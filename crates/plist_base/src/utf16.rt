@@ -1,6 +1,7 @@
 //! Strings in UTF-16.
 
-ghost use Rattle.std.specs.Prelude.{◌≡◌, ◌+◌, ◌*◌, ◌/◌, ◌<◌, ◌≤◌, false, true, drop, length, None, IfSome, MatchOption};
+ghost use Rattle.std.specs.Prelude.{◌≡◌, ℕ, ◌+◌, ◌*◌, ◌/◌, ◌<◌, ◌≤◌, nat_le, false, true, drop, length, slice_index, take, None, IfSome, MatchOption};
+ghost use Rattle.std.specs.List.{count_by, sum_by};
 ghost use Rattle.std.proofs.Props.{props};
 ghost use Rattle.std.specs.Char.Utf16.{has_unpaired_surrogate};
 ghost use Rattle.plist_base.specs.ByteTests.{EachByte};
@@ -9,6 +10,7 @@ ghost use Rattle.plist_base.specs.Faults.{InvalidUtf16String};
 ghost use Rattle.plist_base.specs.Object.{Faulty, Scalar, wide_text};
 ghost use Rattle.plist_base.specs.Trees.{String};
 ghost use Rattle.plist_base.specs.Utf16.{ArePaired, IsAsciiBlock, IsNextChar, IsUnpaired, IsUtf16, unit_at};
+ghost use Rattle.plist_base.specs.inner.PairedUnits.{IsAfterPaired};
 ghost use Rattle.plist_base.specs.inner.UnitShares.{utf8_share};
 
 use crate::byte_test::{ByteTest, all_pass};
@@ -83,6 +85,30 @@ pub fn char_at(bytes: &[u8], at: usize) -> Option<(char, usize)>
     Some((unsafe { char::from_u32_unchecked(unit) }, at + 1))
 }
 
+// Returns whether none of the first eight units is a surrogate, or a character after these.
+#[inline(always)]
+fn are_below_surrogates(units: &[u8]) -> bool
+    requires { 16 ≤ length units.now }
+    ensures { result ≡ true → (k : ℕ) → k < 8 → slice_index units.now (2 * k) < 0xd8 }
+{
+    let first = u8x16::from_slice(units).swizzle::<8>([0, 2, 4, 6, 8, 10, 12, 14]);
+    first.simd_ge(u8x8::splat(0xd8)).to_bitmask() == 0
+}
+
+// Returns the index after the next eight units if none of them is a surrogate, or else the index
+// after the next character, or `None` if its unit is an unpaired surrogate.
+#[inline(always)]
+fn after_paired(bytes: &[u8], at: usize) -> Option<usize>
+    requires { 2 * at + 2 ≤ length bytes.now }
+    ensures { MatchOption result (IsUnpaired bytes.now at) (IsAfterPaired bytes.now at) }
+{
+    if bytes.len() / 2 - at >= 8 && are_below_surrogates(&bytes[2 * at..]) {
+        return Some(at + 8);
+    }
+    let (_, next) = char_at(bytes, at)?;
+    Some(next)
+}
+
 // Returns whether each surrogate is paired.
 #[inline(never)]
 fn all_paired(bytes: &[u8]) -> bool
@@ -92,8 +118,8 @@ fn all_paired(bytes: &[u8]) -> bool
     let count = bytes.len() / 2;
     let mut at = 0;
     while at < count {
-        match char_at(bytes, at) {
-            Some((_, next)) => at = next,
+        match after_paired(bytes, at) {
+            Some(next) => at = next,
             None => return false,
         }
     }
@@ -114,6 +140,50 @@ fn utf8_share(unit: u32) -> usize
         return 2;
     }
     3
+}
+
+// Returns how many of eight units are at least this number.
+#[inline(always)]
+fn count_from(units: u16x8, least: u16) -> u32
+    ensures { result ≡ count_by (λ unit. nat_le least unit) units }
+{
+    units.simd_ge(u16x8::splat(least)).to_bitmask().count_ones()
+}
+
+// Returns how many bytes eight units add to their string in UTF-8.
+#[inline(always)]
+fn eight_shares(units: u16x8) -> usize
+    ensures value { result ≡ sum_by utf8_share units }
+    ensures small { result ≤ 24 }
+{
+    let wide = count_from(units, 0x80) + count_from(units, 0x800);
+    let surrogates = count_from(units, 0xd800) - count_from(units, 0xe000);
+    (8 + wide - surrogates) as usize
+}
+
+// Returns eight units.
+#[inline(always)]
+fn eight_units(bytes: &[u8], at: usize) -> u16x8
+    requires { 2 * at + 16 ≤ length bytes.now }
+    ensures { result ≡ take 8 (drop at (numbers_spelled 2 bytes.now)) }
+{
+    let pairs = u8x16::from_slice(&bytes[2 * at..]);
+    let turned = pairs.swizzle::<16>([1, 0, 3, 2, 5, 4, 7, 6, 9, 8, 11, 10, 13, 12, 15, 14]);
+    u16x8::from_le_bytes(turned)
+}
+
+// Returns how many bytes all blocks of eight units add to their string in UTF-8.
+#[inline(always)]
+fn block_shares(bytes: &[u8]) -> usize
+    ensures value { result ≡ sum_by utf8_share
+        (take (8 * (length bytes.now / 16)) (numbers_spelled 2 bytes.now)) }
+    ensures small { result ≤ 24 * (length bytes.now / 16) }
+{
+    let mut size = 0;
+    for block in 0..bytes.len() / 16 {
+        size += eight_shares(eight_units(bytes, 8 * block));
+    }
+    size
 }
 
 /// A string in UTF-16: its units, each in two bytes in big-endian order. Each surrogate is paired.
@@ -163,8 +233,8 @@ impl<'a> Utf16Str<'a> {
     pub fn len_utf8(self) -> usize
         ensures { result ≡ length (string_of_utf16 self.entry) }
     {
-        let mut size = 0;
-        for at in 0..self.bytes.len() / 2 {
+        let mut size = block_shares(self.bytes);
+        for at in 8 * (self.bytes.len() / 16)..self.bytes.len() / 2 {
             size += utf8_share(unit_at(self.bytes, at));
         }
         size

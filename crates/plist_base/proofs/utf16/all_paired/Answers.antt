@@ -1,4 +1,4 @@
-use Rattle.std.proofs.Common.{arith, sym}
+use Rattle.std.proofs.Common.{◌∙◌, arith, sym}
 use Rattle.std.proofs.str.Utf16.{utf16_chars-drop_all}
 use Rattle.plist_base.specs.Container.{numbers_spelled}
 use Rattle.plist_base.proofs.Utf16Units.{units_length}
@@ -9,7 +9,7 @@ loop-at-preserved c =
     let found = c.in-Some.ensures in
     record {
       within = found.within;
-      unpaired = rw found.chars at c.loop-at.invariant.unpaired;
+      unpaired = sym found.same ∙ c.loop-at.invariant.unpaired;
     }
 
 pub returns-clause-yes : goal.returns-clause-yes

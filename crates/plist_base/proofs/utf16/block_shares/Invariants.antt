@@ -1,0 +1,11 @@
+use Rattle.std.proofs.Common.{◌≡◌, ◌*◌, ◌≤◌, take}
+use Rattle.std.specs.List.{sum_by}
+use Rattle.plist_base.specs.Container.{numbers_spelled}
+use Rattle.plist_base.specs.inner.UnitShares.{utf8_share}
+use Rattle.plist_base.proofs.utf16.block_shares.Given as goal
+
+abbrev pub invariant-loop-block : goal.invariant-loop-block
+invariant-loop-block l = record {
+  size : l.size ≡ sum_by utf8_share (take (8 * l.block) (numbers_spelled 2 l.bytes));
+  small : l.size ≤ 24 * l.block;
+}
