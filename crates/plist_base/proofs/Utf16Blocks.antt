@@ -66,14 +66,20 @@ block_of units first second long p q zeros ascii =
       ascii = ascii;
     }
 
+-- the bytes of a unit
+pub unit_is : (bytes : List ℕ) (at : ℕ) → at * 2 + 2 ≤ length bytes
+    → unit_at bytes at ≡ 256 * get_or bytes (at * 2) 0 + get_or bytes (suc (at * 2)) 0
+unit_is bytes at le =
+    ap (λ l. number_of (take 2 l)) (drop-cons bytes (at * 2) 0 (omega (arith, le))
+    ∙ ap (λ l. get_or bytes (at * 2) 0 ∷ l)
+    (drop-cons bytes (suc (at * 2)) 0 (omega (arith, le))))
+    ∙ omega arith
+
 module _ (bytes : List ℕ) where
   -- a unit whose first byte is zero
   small_unit : (at : ℕ) → at * 2 + 2 ≤ length bytes → get_or bytes (at * 2) 0 ≡ 0
       → unit_at bytes at ≡ get_or bytes (suc (at * 2)) 0
-  small_unit at le first =
-      ap (λ l. number_of (take 2 l)) (drop-cons bytes (at * 2) 0 (omega (arith, le))
-      ∙ ap (λ l. get_or bytes (at * 2) 0 ∷ l) (drop-cons bytes (suc (at * 2)) 0 (omega (arith, le))))
-      ∙ omega (arith, first)
+  small_unit at le first = omega (arith, unit_is bytes at le, first)
 
   -- units whose first bytes are zero, and whose second bytes are these, which are ASCII
   ascii_chars : (at : ℕ) (block : List ℕ) → (at + length block) * 2 ≤ length bytes
@@ -145,14 +151,6 @@ pub block_paired : (units after block : List ℕ)
 block_paired units after block is paired =
     sym (ap (λ l. list_any (λ o. not (is_some o)) l) is ∙ paired_more block (utf16_chars after)) ∙ paired
 
--- the bytes of a unit
-pub unit_is : (bytes : List ℕ) (at : ℕ) → at * 2 + 2 ≤ length bytes
-    → unit_at bytes at ≡ 256 * get_or bytes (at * 2) 0 + get_or bytes (suc (at * 2)) 0
-unit_is bytes at le =
-    ap (λ l. number_of (take 2 l)) (drop-cons bytes (at * 2) 0 (omega (arith, le))
-    ∙ ap (λ l. get_or bytes (at * 2) 0 ∷ l) (drop-cons bytes (suc (at * 2)) 0 (omega (arith, le))))
-    ∙ omega arith
-
 module _ (bytes : List ℕ) (small : IsBytes bytes) where
   -- units whose first bytes are below those of surrogates
   low_units : (n at : ℕ) → (at + n) * 2 ≤ length bytes
@@ -160,7 +158,8 @@ module _ (bytes : List ℕ) (small : IsBytes bytes) where
       → has_unpaired_surrogate (drop at (numbers_spelled 2 bytes))
       ≡ has_unpaired_surrogate (drop (at + n) (numbers_spelled 2 bytes))
   low_units zero at le first =
-      ap (λ k. has_unpaired_surrogate (drop k (numbers_spelled 2 bytes))) {x = at} {y = at + 0} (omega arith)
+      ap (λ k. has_unpaired_surrogate (drop k (numbers_spelled 2 bytes))) {x = at} {y = at + 0}
+      (omega arith)
   low_units (suc n) at le first =
       let same : (k : ℕ) → at + 1 + k ≡ at + suc k = λ k. omega arith in
       let here : get_or bytes ((at + 0) * 2) 0 ≡ get_or bytes (at * 2) 0 =
@@ -175,12 +174,14 @@ module _ (bytes : List ℕ) (small : IsBytes bytes) where
       let next = next_lone bytes at (omega (arith, le)) (omega (arith, low)) (inl low) in
       ap (λ l. list_any (λ o. not (is_some o)) l) next.chars
       ∙ low_units n (at + 1) (omega (arith, le))
-      (λ k below. subst (λ i. get_or bytes (i * 2) 0 < 0xd8) (sym (same k)) (first (suc k) (omega (arith, below))))
+      (λ k below. subst (λ i. get_or bytes (i * 2) 0 < 0xd8) (sym (same k))
+      (first (suc k) (omega (arith, below))))
       ∙ ap (λ k. has_unpaired_surrogate (drop k (numbers_spelled 2 bytes))) (same n)
 
   -- the index after eight units whose first bytes are below those of surrogates
   pub after_block : (at : ℕ) → at * 2 + 16 ≤ length bytes
-      → ((k : ℕ) → k < 8 → get_or (take (length bytes - 2 * at) (drop (2 * at) bytes)) (2 * k) 0 < 0xd8)
+      → ((k : ℕ) → k < 8
+      → get_or (take (length bytes - 2 * at) (drop (2 * at) bytes)) (2 * k) 0 < 0xd8)
       → IsAfterPaired bytes at (at + 8)
   after_block at le first =
       let n = length bytes - 2 * at in
@@ -188,7 +189,8 @@ module _ (bytes : List ℕ) (small : IsBytes bytes) where
         after = omega arith;
         within = omega (arith, le);
         same = low_units 8 at (omega (arith, le)) (λ k below.
-            let there : get_or bytes ((at + k) * 2) 0 ≡ get_or (take n (drop (2 * at) bytes)) (2 * k) 0 =
+            let there : get_or bytes ((at + k) * 2) 0
+            ≡ get_or (take n (drop (2 * at) bytes)) (2 * k) 0 =
             ap (λ i. get_or bytes i 0) {x = (at + k) * 2} {y = 2 * at + 2 * k} (omega arith)
             ∙ sym (get_or-take n (drop (2 * at) bytes) (2 * k) 0 (omega (arith, le, below))
             ∙ get_or-drop (2 * at) bytes (2 * k) 0) in

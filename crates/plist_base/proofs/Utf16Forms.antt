@@ -396,6 +396,12 @@ form_bytes (u ∷ us) zero = omega arith
 form_bytes (u ∷ us) (suc zero) = omega arith
 form_bytes (u ∷ us) (suc (suc i)) = form_bytes us i
 
+-- a string in UTF-16 is one in UTF-8
+pub utf8_of_valid : (bytes : List ℕ) → IsUtf16 bytes → IsUtf8 (utf8_of_utf16 bytes)
+utf8_of_valid bytes valid =
+    utf8_valid bytes valid.whole
+    (subst IsBytes (sym valid.form) (form_bytes (units_of (utf8_of_utf16 bytes)))) valid.paired
+
 -- the units count the bytes of their string in UTF-8
 pub shares_all : (bytes : List ℕ) (at : ℕ) → IsUtf16 bytes → length bytes / 2 ≤ at
     → sum_by utf8_share (take at (numbers_spelled 2 bytes)) ≡ length (utf8_of_utf16 bytes)

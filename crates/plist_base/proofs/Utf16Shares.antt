@@ -52,7 +52,8 @@ shares_from (u ∷ us) = omega (
 
 -- the bits of the mask of a comparison are counted
 pub ones_from : (least n : ℕ) (us : List ℕ) → n ≤ 64 → length us ≡ n
-    → count_ones (mask_l (map (top 15) (zip2 (λ a b. cond (leb a b) 65535 0) (replicate n least) us)) % 2 ^ 64)
+    → count_ones (mask_l (map (top 15)
+    (zip2 (λ a b. cond (leb a b) 65535 0) (replicate n least) us)) % 2 ^ 64)
     ≡ from least us
 ones_from least n us few long =
     ap (λ lanes. count_ones (mask_l (map (top 15) lanes) % 2 ^ 64))
@@ -102,17 +103,20 @@ units_of_bytes bytes small at le =
     let all = chunk (2 * at) 16 bytes in
     let units = numbers_spelled 2 bytes in
     let long : length all ≡ 16 = length-chunk (2 * at) 16 bytes le in
-    let of_all : pick_l 0 (all ++ all) turns ≡ pick_l 0 all turns = pick_l_left 0 all all 16 turns long tt in
+    let of_all : pick_l 0 (all ++ all) turns ≡ pick_l 0 all turns =
+    pick_l_left 0 all all 16 turns long tt in
     let many : length (take 8 (drop at units)) ≡ 8 =
-    length-take-le 8 (drop at units) (omega (arith, length-drop at units, units_length bytes, le)) in
+    length-take-le 8 (drop at units)
+    (omega (arith, length-drop at units, units_length bytes, le)) in
     let byte : (i : ℕ) → i < 16 → get_or all i 0 ≡ get_or bytes (2 * at + i) 0 =
     λ i below. get_or-take 16 (drop (2 * at) bytes) i 0 below ∙ get_or-drop (2 * at) bytes i 0 in
     ap (λ xs. digits_l 65536 8 (number_l 256 xs)) of_all
-    ∙ same_number_lists (digits_l 65536 8 (number_l 256 (pick_l 0 all turns))) (take 8 (drop at units))
-    (sym many) (λ k below.
+    ∙ same_number_lists (digits_l 65536 8 (number_l 256 (pick_l 0 all turns)))
+    (take 8 (drop at units)) (sym many) (λ k below.
     let less : k < 8 = below in
     get_or_wider 256 2 65536 8 (pick_l 0 all turns) k refl
-    (small_picks all (small_take 16 (drop (2 * at) bytes) (small_drop (2 * at) bytes small)) turns) less
+    (small_picks all (small_take 16 (drop (2 * at) bytes) (small_drop (2 * at) bytes small)) turns)
+    less
     ∙ pair_at all k less
     ∙ (λ i. 256 * byte (2 * k) (omega (arith, less)) i + byte (suc (2 * k)) (omega (arith, less)) i)
     ∙ (λ i. 256 * get_or bytes (even k i) 0 + get_or bytes (odd k i) 0)

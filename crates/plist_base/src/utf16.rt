@@ -85,7 +85,7 @@ pub fn char_at(bytes: &[u8], at: usize) -> Option<(char, usize)>
     Some((unsafe { char::from_u32_unchecked(unit) }, at + 1))
 }
 
-// Returns whether none of the first eight units is a surrogate, or a character after these.
+// Returns whether the first bytes of eight units are less than those of all surrogates.
 #[inline(always)]
 fn are_below_surrogates(units: &[u8]) -> bool
     requires { 16 ≤ length units.now }
@@ -95,8 +95,8 @@ fn are_below_surrogates(units: &[u8]) -> bool
     first.simd_ge(u8x8::splat(0xd8)).to_bitmask() == 0
 }
 
-// Returns the index after the next eight units if none of them is a surrogate, or else the index
-// after the next character, or `None` if its unit is an unpaired surrogate.
+// Returns the index after the next eight units if all of them are less than the surrogates, or else
+// the index after the next character, or `None` if that begins with an unpaired surrogate.
 #[inline(always)]
 fn after_paired(bytes: &[u8], at: usize) -> Option<usize>
     requires { 2 * at + 2 ≤ length bytes.now }
@@ -161,7 +161,7 @@ fn eight_shares(units: u16x8) -> usize
     (8 + wide - surrogates) as usize
 }
 
-// Returns eight units.
+// Returns the eight units from an index on.
 #[inline(always)]
 fn eight_units(bytes: &[u8], at: usize) -> u16x8
     requires { 2 * at + 16 ≤ length bytes.now }
@@ -172,7 +172,7 @@ fn eight_units(bytes: &[u8], at: usize) -> u16x8
     u16x8::from_le_bytes(turned)
 }
 
-// Returns how many bytes all blocks of eight units add to their string in UTF-8.
+// Returns how many bytes all whole blocks of eight units add to their string in UTF-8.
 #[inline(always)]
 fn block_shares(bytes: &[u8]) -> usize
     ensures value { result ≡ sum_by utf8_share

@@ -1,16 +1,13 @@
 -- Characters that are written to memory in UTF-8.
-use Rattle.std.proofs.Common.{◌≡◌, ℕ, zero, suc, ◌+◌, ◌/◌, ◌%◌, ◌<◌, ◌≤◌, List, [], ◌∷◌, ◌++◌, length, take, flat_map, ap, sym, subst, ◌∙◌, arith, append-nil, append_assoc, IsUtf8}
+use Rattle.std.proofs.Common.{◌≡◌, ℕ, ◌+◌, ◌/◌, ◌%◌, ◌<◌, ◌≤◌, List, [], ◌∷◌, ◌++◌, length, take, ap, sym, ◌∙◌, arith, append-nil, append_assoc}
 use Rattle.std.specs.Char.{encode_utf8, len_utf8}
 use Rattle.std.specs.Str.{encode_utf8_all}
 use Rattle.std.proofs.lemmas.Bool.{le-ltb, lt-ltb}
 use Rattle.std.proofs.lemmas.List.{length-append, take_all}
 use Rattle.std.proofs.lemmas.Str.{encodes-IsAscii, encodes-append, length-encode}
 use Rattle.std.proofs.Math.Seq.{take-append_seam}
-use Rattle.std.specs.Int.{bytes_high_first}
 use Rattle.plist_base.specs.ByteTests.{EachByte}
-use Rattle.plist_base.specs.Utf16.{IsUtf16, units_of, utf8_of_utf16}
 use Rattle.plist_base.proofs.ByteBlocks.{ascii_from_each}
-use Rattle.plist_base.proofs.Utf16Forms.{IsBytes, utf8_valid}
 use Rattle.plist_decode.specs.Utf16Writing.{WritesChars}
 
 -- ---- the bytes of a character
@@ -136,7 +133,8 @@ writes_then p q = record {
 pub writes_all : {old new : ℕ × List ℕ × List ℕ} → WritesChars old new → new.2 ≡ []
     → new.1 ≡ take old.0 old.1 ++ encode_utf8_all old.2
 writes_all {new = new} p none =
-    let whole : length new.1 ≤ new.0 = omega (arith, p.room, ap (λ l. length (encode_utf8_all l)) none) in
+    let whole : length new.1 ≤ new.0 =
+    omega (arith, p.room, ap (λ l. length (encode_utf8_all l)) none) in
     sym (take_all new.0 new.1 whole) ∙ sym (append-nil (take new.0 new.1))
     ∙ ap (λ l. take new.0 new.1 ++ encode_utf8_all l) (sym none) ∙ p.written
 
@@ -145,15 +143,3 @@ pub whole_text : {size : ℕ} (new rest text : List ℕ) → new ≡ text → si
     → take size (new ++ rest) ≡ text
 whole_text new rest text is long =
     ap (λ n. take n (new ++ rest)) (long ∙ ap length (sym is)) ∙ take-append_seam new rest ∙ is
-
-form_bytes : (us : List ℕ) → IsBytes (flat_map (bytes_high_first 2) us)
-form_bytes [] i = omega arith
-form_bytes (u ∷ us) zero = omega arith
-form_bytes (u ∷ us) (suc zero) = omega arith
-form_bytes (u ∷ us) (suc (suc i)) = form_bytes us i
-
--- a string in UTF-16 has a form in UTF-8
-pub utf8_of_valid : (bytes : List ℕ) → IsUtf16 bytes → IsUtf8 (utf8_of_utf16 bytes)
-utf8_of_valid bytes valid =
-    utf8_valid bytes valid.whole
-    (subst IsBytes (sym valid.form) (form_bytes (units_of (utf8_of_utf16 bytes)))) valid.paired

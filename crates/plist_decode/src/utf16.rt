@@ -12,6 +12,7 @@ ghost use Rattle.plist_decode.specs.Utf16Writing.{WritesChars};
 use plist_base::utf16::char_at;
 use plist_base::{Utf16Chars, Utf16Str};
 use std::alloc::{AllocError, Global};
+use std::simd::prelude::*;
 
 // Writes bytes after the first `size` bytes, and returns where they end.
 #[inline(always)]
@@ -24,6 +25,19 @@ fn write_bytes(text: &mut [u8], size: usize, bytes: &[u8]) -> usize
     let end = size + bytes.len();
     text[size..end].copy_from_slice(bytes);
     end
+}
+
+// Writes eight bytes after the first `size` bytes, and returns where they end. They are a vector
+// here since that is stored by one instruction.
+#[inline(always)]
+fn write_block(text: &mut [u8], size: usize, block: [u8; 8]) -> usize
+    requires { size + length block ≤ length text.old }
+    ensures size { result ≡ size + length block }
+    ensures written { take result text.new ≡ take size text.old ++ block }
+    ensures length { length text.new ≡ length text.old }
+{
+    u8x8::from_array(block).copy_to_slice(&mut text[size..]);
+    size + 8
 }
 
 // Returns the byte in UTF-8 that contains the lowest six bits of a number. It isn't the first byte
@@ -95,8 +109,8 @@ pub fn utf16_text_in<'t>(bytes: &[u8], text: &'t mut [u8]) -> Option<&'t str>
     Some(unsafe { str::from_utf8_unchecked(&text[..size]) })
 }
 
-// Writes the next characters in UTF-8 after the first `size` bytes, and returns where they end, or
-// `None` if no character remains: the next characters up to the first one that isn't ASCII.
+// Writes the next characters in UTF-8 after the first `size` bytes, up to the first one that isn't
+// ASCII, and returns where they end. If all characters are ASCII, writes all and returns `None`.
 #[inline(always)]
 fn write_to_wide(text: &mut [u8], size: usize, chars: &mut Utf16Chars<'_>) -> Option<usize>
     requires { size + length (encode_utf8_all (chars_left chars.old)) ≡ length text.old }
@@ -117,8 +131,9 @@ fn write_to_wide(text: &mut [u8], size: usize, chars: &mut Utf16Chars<'_>) -> Op
     None
 }
 
-// Writes some of the next characters in UTF-8 after the first `size` bytes, and returns where they
-// end, or `None` if all are written. Writes the next eight if all of them are ASCII.
+// Writes the next eight characters after the first `size` bytes if all of them are ASCII, or else
+// those up to the first one that isn't ASCII, and returns where they end. So eight units are tested
+// again only after such a character. If there is none, writes all characters and returns `None`.
 #[inline(always)]
 fn write_next(text: &mut [u8], size: usize, chars: &mut Utf16Chars<'_>) -> Option<usize>
     requires { size + length (encode_utf8_all (chars_left chars.old)) ≡ length text.old }
@@ -130,7 +145,7 @@ fn write_next(text: &mut [u8], size: usize, chars: &mut Utf16Chars<'_>) -> Optio
         length (chars_left chars.new) < length (chars_left chars.old)) }
 {
     if let Some(block) = chars.next_eight_ascii() {
-        return Some(write_bytes(text, size, &block));
+        return Some(write_block(text, size, block));
     }
     write_to_wide(text, size, chars)
 }

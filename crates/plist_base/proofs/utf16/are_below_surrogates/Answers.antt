@@ -6,5 +6,5 @@ use Rattle.plist_base.proofs.utf16.are_below_surrogates.Goals as goal
 pub returns : goal.returns
 returns c = λ none k below.
     let units = c.args.units.now in
-    let low = leb-false _ _ (none_right leb 8 0xd8 (first_bytes units) (omega arith) refl none k below) in
-    omega (arith, at_evens units c.requires k below, low)
+    let none_left = none_right leb 8 0xd8 (first_bytes units) (omega arith) refl none k below in
+    omega (arith, at_evens units c.requires k below, leb-false _ _ none_left)

@@ -1,6 +1,7 @@
 use Rattle.std.proofs.Common.{◌∙◌, ap, encode_utf8_all, subst, sym, IsUtf8}
 use Rattle.plist_base.specs.Utf16Strings.{string_of_utf16}
-use Rattle.plist_decode.proofs.Utf16Writing.{utf8_of_valid, whole_text}
+use Rattle.plist_base.proofs.Utf16Forms.{utf8_of_valid}
+use Rattle.plist_decode.proofs.Utf16Writing.{whole_text}
 use Rattle.plist_decode.proofs.utf16.to_utf8.Goals as goal
 
 pub from_utf8_unchecked-requires : goal.from_utf8_unchecked-requires

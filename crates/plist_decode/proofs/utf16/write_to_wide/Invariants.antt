@@ -5,6 +5,7 @@ use Rattle.plist_decode.proofs.utf16.write_to_wide.Given as goal
 
 abbrev pub invariant-loop-c : goal.invariant-loop-c
 invariant-loop-c l = record {
-  written : WritesChars (l.size, l.initial.text, chars_left l.initial.chars) (l.end, l.text, chars_left l.chars);
+  written : WritesChars (l.size, l.initial.text, chars_left l.initial.chars)
+      (l.end, l.text, chars_left l.chars);
   length : length l.text ≡ length l.initial.text;
 }
