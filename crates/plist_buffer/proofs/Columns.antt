@@ -11,7 +11,7 @@ use Rattle.plist_buffer.specs.declared.entries.EntryKind.TheVariants as kind
 use Rattle.plist_buffer.specs.declared.entries.ScalarNumber.{ScalarNumber}
 use Rattle.plist_buffer.specs.declared.entries.ScalarNumber.TheVariants.{Small, Long}
 use Rattle.plist_buffer.specs.inner.Columns.{AreColumns, ends_before, ends_in, kind_in, number_in, number_named, index_of_number, one_if_end, scalar_named, entry_of, entries_from, IsEntryNumber}
-use Rattle.plist_buffer.specs.inner.Entries.{ScalarLists, closed_at, ended_at, entry_at, is_leaf, is_start, event_of_entry}
+use Rattle.plist_buffer.specs.inner.Entries.{ScalarLists, closed_at, ended_at, entry_at, index_after_at, index_after_entry, is_leaf, is_start, event_of_entry}
 
 -- an entry is made up of its kind and its number
 pub same_entry : (ends : ℕ) (e : EventEntry) → entry_of (kind_in e) (number_in ends e) ≡ e
@@ -150,6 +150,23 @@ not_end kinds numbers same start lt starts is =
       ap is_start (entries_at kinds numbers start same
           ∙ ap (λ k. entry_of k (get_or numbers start 0)) ends),
     )
+
+-- the number of a start is the index after its collection
+numbered_start : (k : EntryKind) (n p : ℕ) → is_start (entry_of k n) ≡ true
+    → n ≡ index_after_entry p (entry_of k n)
+numbered_start kind.Array n p is = refl
+numbered_start kind.Dictionary n p is = refl
+numbered_start kind.Small n p is = cc
+numbered_start kind.Long n p is = cc
+numbered_start kind.End n p is = cc
+
+pub start_number : (kinds : List EntryKind) (numbers : List ℕ) → length kinds ≡ length numbers
+    → (p : ℕ) → is_start (entry_at (entries_from kinds numbers) p) ≡ true
+    → get_or numbers p 0 ≡ index_after_at (entries_from kinds numbers) p
+start_number kinds numbers same p starts =
+    let there = entries_at kinds numbers p same in
+    numbered_start (get_or kinds p kind.End) (get_or numbers p 0) p (sym (ap is_start there) ∙ starts)
+    ∙ ap (index_after_entry p) (sym there)
 
 -- ---- ends
 

@@ -1,5 +1,5 @@
 -- The events that the entries of a table represent, and how each call maintains their invariants.
-use Rattle.std.proofs.Common.{◌≡◌, eqb, ◌⊎◌, inl, inr, ℕ, zero, suc, ◌+◌, ◌^◌, ◌<◌, Bool, true, false, if◌then◌else◌, ◌≤◌, Option, None, Some, Result, Ok, Err, OnOk, OnErr, List, [], ◌∷◌, ◌++◌, length, set, slice_get, reverse, refl, ap, sym, ◌∙◌, subst, arith}
+use Rattle.std.proofs.Common.{◌≡◌, eqb, ◌⊎◌, inl, inr, ℕ, zero, suc, ◌+◌, ◌-◌, ◌^◌, ◌<◌, Bool, true, false, if◌then◌else◌, ◌≤◌, Option, None, Some, Result, Ok, Err, OnOk, OnErr, List, [], ◌∷◌, ◌++◌, length, set, slice_get, reverse, refl, ap, sym, ◌∙◌, subst, arith}
 use Rattle.std.proofs.Math.ListN.{get_or-append}
 use Rattle.std.proofs.Math.Seq.{get_or-append_seam, map-set_same}
 use Rattle.std.proofs.lemmas.Bool.{eq-eqb, ne_eqb}
@@ -15,7 +15,7 @@ use Rattle.plist_base.specs.Events.{PlainEvent, EndCollection, ScalarEvent}
 use Rattle.plist_base.specs.Trees.{Scalar}
 use Rattle.plist_buffer.specs.declared.entries.EventEntry.{EventEntry}
 use Rattle.plist_buffer.specs.declared.entries.EventEntry.TheVariants as entry
-use Rattle.plist_buffer.specs.EventTable.{event_at}
+use Rattle.plist_buffer.specs.EventTable.{event_at, is_end}
 use Rattle.plist_buffer.specs.declared.entries.ScalarNumber.{ScalarNumber}
 use Rattle.plist_buffer.specs.declared.entries.ScalarNumber.TheVariants.{Small, Long}
 use Rattle.plist_buffer.specs.inner.Columns.{scalar_named, index_of_number}
@@ -481,3 +481,23 @@ module _ {scalars : ScalarLists} {es : List EventEntry} {unclosed : List ℕ}
         by (entry.Scalar number) is = cc (scalar_leaf is, ap is_leaf ends)
         by entry.End is = is
         by e is = cc (there, ap (event_of_entry scalars) is, ends)
+
+    -- the entry at which a closed collection begins is a start
+    pub start_there : is_end (event_at (events_of_entries scalars es) index) ≡ false
+        → event_at (events_of_entries scalars es) (skip_after (events_of_entries scalars es) index - 1)
+        ≡ EndCollection
+        → is_start (entry_at es index) ≡ true
+    start_there begins ends = by (entry_at es index) refl
+      where
+        next : index_after_at es index ≡ index + 1
+            → event_at (events_of_entries scalars es) index ≡ EndCollection
+        next is =
+            let at : skip_after (events_of_entries scalars es) index - 1 ≡ index =
+            omega (arith, sym (kept.entries_are.skips index lt), is) in
+            ap (event_at (events_of_entries scalars es)) (sym at) ∙ ends
+
+        by : (e : EventEntry) → entry_at es index ≡ e → is_start (entry_at es index) ≡ true
+        by (entry.Scalar number) is =
+            cc (scalar_leaf is, ap is_leaf (next (ap (index_after_entry index) is)))
+        by entry.End is = cc (begins, ap is_end (next (ap (index_after_entry index) is)))
+        by e is = ap is_start is

@@ -197,13 +197,19 @@ impl Entries {
         self.ends
     }
 
-    /// Returns the number of ends before the entry at an index, which must be an end.
-    pub fn ends_before(&self, index: usize) -> usize
+    /// Returns the number of ends before the end of the collection whose start is at an index. The
+    /// collection must be closed.
+    #[inline(always)]
+    pub fn collection_number(&self, index: usize) -> usize
         requires within { index < length self.now }
-        requires end { entry_at self.now index ≡ EventEntry.End }
-        ensures { result ≡ ends_before self.now index }
+        requires start { is_start (entry_at self.now index) ≡ true }
+        requires after { (1 ≤ index_after_at self.now index)
+            × (index_after_at self.now index ≤ length self.now) }
+        requires end { entry_at self.now (index_after_at self.now index - 1) ≡ EventEntry.End }
+        ensures { result ≡ ends_before self.now (index_after_at self.now index - 1) }
     {
-        self.numbers.get(index)
+        let after = self.numbers.get(index);
+        self.numbers.get(after - 1)
     }
 
     /// Appends an entry. If an allocation fails, nothing changes.

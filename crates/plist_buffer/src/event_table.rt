@@ -162,12 +162,13 @@ impl<'e> EventTable<'e> {
 
     /// Returns the number of the collection that begins at an index, which is the number of
     /// collections that end before it ends. It must be closed.
+    #[inline(always)]
     pub fn collection_number(&self, index: usize) -> usize
-        requires within { index < length (plain_events self.now) }
+        requires start { HasItem (plain_events self.now) index }
         requires closed { EndsCollection self.now index }
         ensures { result ≡ collection_number self.now index }
     {
-        self.entries.ends_before(self.index_after(index) - 1)
+        self.entries.collection_number(index)
     }
 
     /// Returns the kind of the event at an index.

@@ -1,28 +1,38 @@
-use Rattle.std.proofs.Common.{◌<◌, ◌-◌, length, arith}
-use Rattle.plist_buffer.specs.EventTable.{plain_events}
-use Rattle.plist_buffer.proofs.EntryEvents.{end_there, lt}
+use Rattle.std.proofs.Common.{◌<◌, ◌-◌, length, arith, ap, ◌∙◌}
+use Rattle.plist_buffer.specs.inner.Columns.{ends_before}
+use Rattle.plist_buffer.specs.EventTable.{lists_in, plain_events}
+use Rattle.plist_buffer.specs.inner.UnclosedStarts.{skip_after}
+use Rattle.plist_buffer.proofs.EntryEvents.{end_there, long_shown, lt, start_there}
 use Rattle.plist_buffer.proofs.OpenStarts.{skip_forward}
 use Rattle.plist_buffer.proofs.event_table.EventTable.collection_number.Goals as goal
-use Rattle.plist_buffer.proofs.event_table.EventTable.collection_number.Goals.{After-index_after}
 
-pub overflow_sub-index_after : goal.overflow_sub-index_after
-overflow_sub-index_after c =
-    omega (
-      arith,
-      c.index_after.ensures,
-      (skip_forward (plain_events c.args.self.now) c.args.index c.requires.within).0,
-    )
+pub collection_number-requires-clause-within : goal.collection_number-requires-clause-within
+collection_number-requires-clause-within c = lt c.args.self.now.kept c.requires.start.0
 
-within : (c : After-index_after) → c.index_after.result - 1 < length (plain_events c.args.self.now)
-within c =
-    let forward = skip_forward (plain_events c.args.self.now) c.args.index c.requires.within in
-    omega (arith, c.index_after.ensures, forward.0, forward.1)
+pub collection_number-requires-clause-start : goal.collection_number-requires-clause-start
+collection_number-requires-clause-start c =
+    start_there c.args.self.now.kept c.requires.start.0 c.requires.start.1 c.requires.closed
 
-pub ends_before-requires-clause-within : goal.ends_before-requires-clause-within
-ends_before-requires-clause-within c =
-    lt c.args.self.now.kept (within (goal.at.ends_before-requires-clause-within c).After-index_after)
+pub collection_number-requires-clause-after : goal.collection_number-requires-clause-after
+collection_number-requires-clause-after c =
+    let held = c.args.self.now in
+    let forward = skip_forward (plain_events held) c.args.index c.requires.start.0 in
+    let is = held.kept.entries_are.skips c.args.index (lt held.kept c.requires.start.0) in
+    let long = long_shown (lists_in held) held.entries in
+    (omega (arith, is, forward.0), omega (arith, is, forward.1, long))
 
-pub ends_before-requires-clause-end : goal.ends_before-requires-clause-end
-ends_before-requires-clause-end c =
-    end_there c.args.self.now.kept (within (goal.at.ends_before-requires-clause-end c).After-index_after)
-    (rw c.index_after.ensures c.requires.closed)
+pub collection_number-requires-clause-end : goal.collection_number-requires-clause-end
+collection_number-requires-clause-end c =
+    let held = c.args.self.now in
+    let forward = skip_forward (plain_events held) c.args.index c.requires.start.0 in
+    let last : skip_after (plain_events held) c.args.index - 1 < length (plain_events held) =
+    omega (arith, forward.0, forward.1) in
+    rw (held.kept.entries_are.skips c.args.index (lt held.kept c.requires.start.0))
+    (end_there held.kept last c.requires.closed)
+
+pub returns : goal.returns
+returns c =
+    let held = c.args.self.now in
+    c.collection_number.ensures
+    ∙ ap (λ after. ends_before held.entries (after - 1))
+    (held.kept.entries_are.skips c.args.index (lt held.kept c.requires.start.0))
