@@ -4,7 +4,7 @@
 ghost use Rattle.std.specs.Prelude.{◌≡◌};
 
 use plist_base::{
-    Allowance, Error, Event, EventVisitor, Integer, LimitCounter, OwnedEvent, RealBits, Uid,
+    Allowance, Date, Error, Event, EventVisitor, Integer, LimitCounter, OwnedEvent, RealBits, Uid,
     Utf16Str,
 };
 use std::alloc::Global;
@@ -19,8 +19,9 @@ use std::ops::ControlFlow;
 /// for each type of visitor that they are called with. A `BinaryReader` hands the first event of a
 /// file, and each scalar that is found in the cache, to a `Relay`. It hands all other events to its
 /// visitor directly. So the code for these has only one caller, and becomes part of the loop over
-/// the events. This saves a tenth of the instructions for each event. Starts, ends and dates are
-/// passed on by `event`: methods of their own save no instruction.
+/// the events. This saves a tenth of the instructions for each event. Each event is passed on by
+/// the method that it was handed to: if starts, ends and dates were passed on by `event`, a reader
+/// that hands all its events to a `Relay` would take 3 % more instructions for settings.
 #[derive(Drop)]
 pub struct Relay<'v, V> {
     visitor: &'v mut V,
@@ -46,6 +47,26 @@ impl<'v, V: EventVisitor> EventVisitor for Relay<'v, V> {
     }
 
     #[inline(always)]
+    fn start_array(&mut self, length: Option<u64>) -> ControlFlow<()> {
+        self.visitor.start_array(length)
+    }
+
+    #[inline(always)]
+    fn start_dictionary(&mut self, length: Option<u64>) -> ControlFlow<()> {
+        self.visitor.start_dictionary(length)
+    }
+
+    #[inline(always)]
+    fn end_collection(&mut self) -> ControlFlow<()> {
+        self.visitor.end_collection()
+    }
+
+    #[inline(always)]
+    fn ascii_string(&mut self, bytes: &[u8]) -> Option<ControlFlow<()>> {
+        self.visitor.ascii_string(bytes)
+    }
+
+    #[inline(always)]
     fn boolean(&mut self, value: bool) -> ControlFlow<()> {
         self.visitor.boolean(value)
     }
@@ -53,6 +74,11 @@ impl<'v, V: EventVisitor> EventVisitor for Relay<'v, V> {
     #[inline(always)]
     fn data(&mut self, bytes: CowSlice<'_, u8>) -> ControlFlow<()> {
         self.visitor.data(bytes)
+    }
+
+    #[inline(always)]
+    fn date(&mut self, date: Date) -> ControlFlow<()> {
+        self.visitor.date(date)
     }
 
     #[inline(always)]

@@ -13,14 +13,10 @@ use Rattle.plist_base.specs.Trees.{Tree, Leaf, Array, Dictionary}
 use Rattle.plist_base.proofs.Lengths.{alike_last, alike_with, continue_alike, whole_alike}
 use Rattle.plist_buffer.proofs.Grammar.{complete_of_whole}
 use Rattle.plist_base.specs.Writing.{Answer}
-use Rattle.plist_base.specs.Unfolding.{items_of_file}
 use Rattle.plist_buffer.specs.RepeatedKeys.{HasKeysOnce}
 use Rattle.plist_buffer.specs.EventBuffers.{TestsWhole}
 use Rattle.plist_binwrite.specs.SendingAs.{SendsAs}
 use Rattle.plist_binwrite.specs.Files.{least_files}
-use Rattle.plist_decode.specs.declared.format.Format.TheVariants as format
-use Rattle.plist_decode.specs.Formats.{format_of}
-use Rattle.plist_reader.proofs.BinaryItems.{binary-input}
 use Rattle.plist_reader.specs.Reader.{items_of_input}
 use Rattle.plist.specs.Building.{Unfinished, NotBegun, IsNested, events_so_far}
 use Rattle.plist.specs.ValueOfItems.{AreItemsOfTree, IsValueOf}
@@ -158,17 +154,6 @@ module _ (all before : List Item) (held : List PlainEvent) (took : TookOf all be
       let e : others ≡ events = s.2 ∙ ap (λ l. events ++ l) (no-events s.0 s.1) ∙ append-nil events
       in
       (tree, sym like ∙ ap (map without_length) (sym e) ∙ whole)
-
--- ---- the format
-
--- the items of a binary file are those of the input
-pub binary_items : (known inner : Option (List ℕ)) (coming : List ℕ → List Item) → inner ≡ known
-    → IfSome known (λ bytes. format.Binary ≡ format_of bytes)
-    → IfSome known (λ bytes. coming bytes ≡ items_of_file bytes)
-    → option_map coming inner ≡ option_map items_of_input known
-binary_items None inner coming e is h = ap (option_map coming) e
-binary_items (Some bytes) inner coming e is h =
-    ap (option_map coming) e ∙ ap Some (h ∙ binary-input bytes is)
 
 -- ---- what is written
 

@@ -15,17 +15,13 @@ use Rattle.plist_base.proofs.Refusals.{MatchFault-at}
 use Rattle.plist_base.proofs.Visits.{kept_all}
 use Rattle.plist_buffer.specs.EventBuffers.{TestsWhole}
 use Rattle.plist.specs.ValueOfItems.{IsReadIfKnown}
-use Rattle.plist_base.specs.declared.source.Source.{Ghosts}
-use Rattle.plist_binread.specs.BinaryReader.{Steps, binary_source}
-use Rattle.plist_reader.specs.Reader.{BinaryReaderOf}
 use Rattle.plist_commands.specs.Converting.{BuffersRun, CollectsItems}
-use Rattle.plist_print.specs.Printing.{items_left}
 use Rattle.plist_commands.specs.declared.collector.Collector.{Collector}
 use Rattle.plist_commands.specs.declared.collector.StopReason.{StopReason}
 use Rattle.plist_commands.specs.declared.collector.StopReason.TheVariants.{Failed, Misplaced, Paused}
 use Rattle.plist_commands.specs.CollectorSteps.{AnswersVisit, HasPaused, HoldsMore, IsEmpty, MatchStop, MayPause, CollectsEvent, collected, is_complete}
 use Rattle.plist_print.specs.Printing.{CountsReads}
-use Rattle.plist_print.proofs.SourceItems.{Comes, binary_comes}
+use Rattle.plist_print.proofs.SourceItems.{Comes}
 use Rattle.plist_print.proofs.PendingBytes.{fault_counts, memory_own, own_counts}
 use Rattle.plist_commands.proofs.BufferedRuns.{HasHeld, held_faulted, held_more, held_none, held_refused, held_stopped, held_whole}
 use Rattle.plist_commands.proofs.BufferedItems.{HasTaken, came_next, goes_on, held_at_end, taken_none, tells_next, tells_none, took_event, took_fault, whole_at_end}
@@ -244,6 +240,29 @@ module _ {I : Type 0} (gives : I → PlainItem → I → Type 0) (coming : I →
           ∙ (held_all first old (Ok Stopped) new visit held).1 ∙ none)
       never (inr none) event taken paused = true≢false (sym (rw paused at none))
 
+  -- the collector didn't pause after the first event
+  pub concludes_once : (old mid : I) (before taken : Collector) (first : Result Visited Error)
+      (answer : Result Bool Error) → is_open old → IsEmpty before
+      → Visits gives CollectsEvent (old, before) first (mid, taken) → HasPaused false taken first
+      → AnswersVisit first taken answer → Concludes gives coming failures old answer (mid, taken)
+  concludes_once old mid before taken first answer open_first empty visit paused is =
+      concludes old (old, before) (mid, taken) first answer
+      (held_first (old, before) open_first empty) visit (inr paused) is
+
+  -- the collector paused after the first event, and the visit was continued
+  pub concludes_twice : (old mid new : I) (before taken expecting last : Collector)
+      (first others : Result Visited Error) (answer : Result Bool Error) → is_open old
+      → IsEmpty before → Visits gives CollectsEvent (old, before) first (mid, taken)
+      → HasPaused true taken first → collected expecting ≡ collected taken
+      → is_complete expecting ≡ is_complete taken → expecting.pauses ≡ false
+      → Visits gives CollectsEvent (mid, expecting) others (new, last)
+      → AnswersVisit others last answer → Concludes gives coming failures old answer (new, last)
+  concludes_twice old mid new before taken expecting last first others answer open_first empty visit
+      paused events whole pauses rest is =
+      concludes old (mid, expecting) (new, last) others answer
+      (held_same old mid taken expecting (held_paused old (old, before) (mid, taken) first
+      (held_first (old, before) open_first empty) visit paused) events whole) rest (inl pauses) is
+
 -- the event is buffered, and the collector may pause after it
 pub may_pause : (old mid new : Collector) (event : PlainEvent) (flow : Flow)
     → mid.pauses ≡ old.pauses
@@ -252,59 +271,3 @@ pub may_pause : (old mid new : Collector) (event : PlainEvent) (flow : Flow)
 may_pause old mid new event (Continue more) pauses holds same = rw same (pauses, holds)
 may_pause old mid new event (Break stop) pauses holds (may, paused, same) =
     rw (paused, same) (sym pauses ∙ may, holds)
-
--- ---- a binary reader, from which the collector takes one event before it pauses
-
-module _ {S : Type 0} {g : Ghosts S} (old : BinaryReaderOf S g) (before : Collector) (first : Result Visited Error)
-    (mid : BinaryReaderOf S g) (taken : Collector)
-    (empty : IsEmpty before)
-    (visit : Visits Steps CollectsEvent (old, before) first (mid, taken)) where
-  -- what is true after a visit of a binary reader
-  abbrev pub BinaryConcludes : Result Bool Error → BinaryReaderOf S g × Collector → Type 0
-  BinaryConcludes answer new =
-      Concludes Steps (items_left g.known)
-      (λ reader. g.failures (binary_source reader)) old answer new
-
-  abbrev BinaryHeld : BinaryReaderOf S g × Collector → Type 0
-  BinaryHeld now =
-      Held Steps (items_left g.known) binary_comes
-      (λ reader. g.failures (binary_source reader)) (λ _. Unit {0})
-      (λ old item new _ step. (step.gives.failures, tt)) old now
-
-  begun : BinaryHeld (old, before)
-  begun =
-      held_first Steps (items_left g.known) binary_comes
-      (λ reader. g.failures (binary_source reader)) (λ _. Unit {0})
-      (λ old item new _ step. (step.gives.failures, tt)) (old, before) tt empty
-
-  -- the collector didn't pause
-  pub binary_once : (answer : Result Bool Error) → HasPaused false taken first
-      → AnswersVisit first taken answer → BinaryConcludes answer (mid, taken)
-  binary_once answer paused is =
-      concludes Steps (items_left g.known) binary_comes
-      (λ reader. g.failures (binary_source reader)) (λ _. Unit {0})
-      (λ old item new _ step. (step.gives.failures, tt)) old (old, before) (mid, taken) first answer
-      begun visit (inr paused) is
-
-  -- the collector paused, and the visit was continued
-  pub binary_twice : (expecting : Collector) (others : Result Visited Error)
-      (new : BinaryReaderOf S g) (last : Collector) (answer : Result Bool Error)
-      → HasPaused true taken first → collected expecting ≡ collected taken
-      → is_complete expecting ≡ is_complete taken → expecting.pauses ≡ false
-      → Visits Steps CollectsEvent (mid, expecting) others (new, last)
-      → AnswersVisit others last answer → BinaryConcludes answer (new, last)
-  binary_twice expecting others new last answer paused events whole pauses rest is =
-      concludes Steps (items_left g.known) binary_comes
-      (λ reader. g.failures (binary_source reader)) (λ _. Unit {0})
-      (λ old item new _ step. (step.gives.failures, tt)) old (mid, expecting) (new, last) others
-      answer held rest (inl pauses) is
-    where
-      held : BinaryHeld (mid, expecting)
-      held =
-          held_same Steps (items_left g.known) binary_comes
-          (λ reader. g.failures (binary_source reader)) (λ _. Unit {0})
-          (λ old item new _ step. (step.gives.failures, tt)) old mid taken expecting
-          (held_paused Steps (items_left g.known) binary_comes
-          (λ reader. g.failures (binary_source reader)) (λ _. Unit {0})
-          (λ old item new _ step. (step.gives.failures, tt)) old (old, before) (mid, taken) first
-          begun visit paused) events whole

@@ -1,20 +1,17 @@
 -- What is written for a source's property list if no value is made of it, and what is buffered for
 -- that, whatever the source returns.
-use Rattle.std.specs.Prelude.{◌≡◌, ◌⊎◌, ℕ, Bool, true, false, List, map, Option, None, Some, Result, Ok, Err, IfErr, IfOk, IfSome, IsErrAnd, MatchResult}
+use Rattle.std.specs.Prelude.{◌≡◌, ◌⊎◌, ℕ, Bool, true, false, List, map, Option, None, Some, Result, Ok, Err, IfErr, IfOk, IfSome, MatchResult}
 use Rattle.std.specs.Option.{option_map, option_map_or}
 use Rattle.plist_base.specs.Bracketing.{bracketing, without_length, AreAlike, AreTreeEvents}
 use Rattle.plist_base.specs.declared.error.Error.{Error}
 use Rattle.plist_base.specs.declared.source.Source.{Ghosts}
 use Rattle.plist_base.specs.Events.{PlainEvent, Item}
-use Rattle.plist_base.specs.Faults.{IsIo, OutOfMemory, error_kind_of, fault_without_offset, fault_of, kind_of, offset_of}
-use Rattle.plist_base.specs.Sources.{Rises}
+use Rattle.plist_base.specs.Faults.{OutOfMemory, fault_without_offset, fault_of, offset_of}
 use Rattle.plist_base.specs.Trees.{Tree}
 use Rattle.plist_base.specs.Visits.{YieldsAll, YieldsPlain, PlainItem}
 use Rattle.plist_base.specs.Writing.{Answer}
-use Rattle.plist_decode.specs.FaultOffsets.{HasOffset}
-use Rattle.plist_binread.specs.BinaryReader.{Steps, is_new, binary_source}
 use Rattle.plist_reader.specs.declared.reader.Reader.{Reader}
-use Rattle.plist_reader.specs.Reader.{reader_source, Gives, BinaryReaderOf, IsNewReader, items_of_input}
+use Rattle.plist_reader.specs.Reader.{reader_source, Gives, IsNewReader, items_of_input}
 use Rattle.plist_print.specs.Printing.{CountsReads}
 use Rattle.plist.specs.ValueOfItems.{AreItemsOfTree, IsReadIfKnown}
 use Rattle.plist.specs.LastWins.{last_wins}
@@ -95,34 +92,14 @@ abbrev pub failures_in : {S : Type 0} {g : Ghosts S} → (failures : S → ℕ) 
 failures_in failures reader = option_map_or failures (reader_source reader) 0
 
 module _ {S : Type 0} (known : S → Option (List ℕ)) (failed : S → ℕ) where
-  -- the events of a new reader of this binary source were buffered, and its failed reads were
-  -- counted
-  abbrev pub HoldsBinary : (source : S) → Result Bool Error → (held : List PlainEvent) → Type 0
-  HoldsBinary source answer held =
-      (reader : BinaryReaderOf S (record { known = known; failures = failed }))
-      × (left : BinaryReaderOf S (record { known = known; failures = failed }))
-      × (binary_source reader ≡ source) × (is_new reader ≡ true)
-      × BuffersRun Steps reader answer left held
-      × CountsReads answer (failed (binary_source reader)) (failed (binary_source left))
-
-  -- the events of a new reader of this source, of any format, were buffered
-  abbrev pub HoldsOther : (source : S) → Result Bool Error → (held : List PlainEvent) → Type 0
-  HoldsOther source answer held =
+  -- the events of a new reader of this source were buffered, and its failed reads were counted
+  abbrev pub ReadsSource : (source : S) → Result Bool Error → (held : List PlainEvent) → Type 0
+  ReadsSource source answer held =
       (reader : Reader S (record { known = known; failures = failed }))
       × (left : Reader S (record { known = known; failures = failed }))
       × IsNewReader reader source
       × BuffersRun (YieldsPlain (Gives known failed)) reader answer left held
       × CountsReads answer (failures_in failed reader) (failures_in failed left)
-
-  -- A read failed while the format was determined; or no read failed, and a reader of the source
-  -- was used.
-  abbrev pub ReadsSource : (source : S) → Result Bool Error → (held : List PlainEvent) → Type 0
-  ReadsSource source answer held =
-      (front : S) × (known front ≡ known source)
-      × (IsErrAnd answer (λ error. IsIo (kind_of (error_kind_of error))
-      × HasOffset (offset_of error) × Rises (failed source) (failed front))
-      ⊎ ((failed front ≡ failed source)
-      × (HoldsBinary front answer held ⊎ HoldsOther front answer held)))
 
 -- The result of a conversion, given that of buffering the events. If the events are those of a
 -- whole property list, a file of them was written, or a value is needed, or writing failed. If they

@@ -1,15 +1,14 @@
 //! Writes a property list in the binary format.
 
-ghost use Rattle.std.specs.Prelude.{◌≡◌, ℕ, List, Option, IfErr, IfSome, None};
+ghost use Rattle.std.specs.Prelude.{◌≡◌, ℕ, List, Option, IfErr, None};
 ghost use Rattle.std.specs.Option.{option_map};
 ghost use Rattle.plist_base.specs.Bracketing.{AreTreeEvents};
 ghost use Rattle.plist_base.specs.Faults.{offset_of};
 ghost use Rattle.plist_binwrite.specs.Files.{least_files};
 ghost use Rattle.plist_binwrite.specs.SendingAs.{SendsAs};
 ghost use Rattle.plist_buffer.specs.EventBuffers.{buffered_events};
-ghost use Rattle.plist_decode.specs.Formats.{format_of};
 ghost use Rattle.plist_reader.specs.Reader.{items_of_input};
-ghost use Rattle.plist_commands.specs.Converting.{CollectsSource, Converts, ConvertsSource, HoldsBinary, HoldsOther, HoldsTree, IfOkIs, ReadsSource};
+ghost use Rattle.plist_commands.specs.Converting.{CollectsSource, Converts, ConvertsSource, HoldsTree, IfOkIs, ReadsSource};
 ghost use Rattle.plist_commands.specs.CollectorSteps.{IsEmpty, collected};
 ghost use Rattle.plist_commands.specs.declared.convert.FastPath.TheVariants.{Sent};
 
@@ -17,11 +16,10 @@ use crate::collector::Collector;
 use crate::open::open_source;
 use plist::{LazyFile, Value};
 use plist_base::{Error, EventSource, Source};
-use plist_binread::BinaryReader;
 use plist_binwrite::write_file;
 use plist_buffer::event_buffer::EventBuffer;
 use plist_buffer::repeated_keys::repeats_key;
-use plist_reader::{Format, Reader, format_of};
+use plist_reader::Reader;
 use std::alloc::Global;
 use std::io::Write;
 use std::rt::Files;
@@ -35,51 +33,13 @@ pub enum FastPath {
     NotApplicable,
 }
 
-// Buffers the events of a binary source. The collector pauses after the first event, since the
-// reader then knows the number of objects in the file. There can't be more different scalars than
-// objects.
-#[inline(never)]
-fn collect_binary<S: Source>(
-    alloc: Global,
-    source: S,
-    collector: &mut Collector,
-) -> Result<bool, Error>
-    requires empty { IsEmpty collector.old }
-    requires binary { IfSome (S.known source) (λ bytes. Format.Binary ≡ format_of bytes) }
-    ensures { CollectsSource S.known source (HoldsBinary S.known S.failures source) result
-        (collected collector.new) }
-{
-    let mut reader = BinaryReader::new(alloc, source);
-    collector.pauses = true;
-    let first = reader.visit(collector);
-    if !collector.has_paused(&first) {
-        return collector.answer(first);
-    }
-    collector.expect_scalars(reader.objects_in_file());
-    let others = reader.visit(collector);
-    collector.answer(others)
-}
-
-// Buffers the events of a source of any format. It isn't inlined, since moving the reader uses much
-// of the call stack.
-#[inline(never)]
-fn collect_other<S: Source>(
-    alloc: Global,
-    source: S,
-    collector: &mut Collector,
-) -> Result<bool, Error>
-    requires empty { IsEmpty collector.old }
-    ensures { CollectsSource S.known source (HoldsOther S.known S.failures source) result
-        (collected collector.new) }
-{
-    let mut reader = Reader::new(alloc, source);
-    collector.pauses = false;
-    let visited = reader.visit(collector);
-    collector.answer(visited)
-}
-
 // Buffers the events of a source, and returns whether they are those of a tree. The source is
 // dropped.
+//
+// The collector pauses after the first event, since the reader of a binary file then knows the
+// number of its objects. There can't be more different scalars than objects. The function isn't
+// inlined, since moving the reader uses much of the call stack.
+#[inline(never)]
 fn collect_source<S: Source>(
     alloc: Global,
     source: S,
@@ -89,11 +49,15 @@ fn collect_source<S: Source>(
     ensures { CollectsSource S.known source (ReadsSource S.known S.failures source) result
         (collected collector.new) }
 {
-    let mut source = source;
-    match format_of(&mut source)? {
-        Format::Binary => collect_binary(alloc, source, collector),
-        Format::Xml(_) | Format::Ascii => collect_other(alloc, source, collector),
+    let mut reader = Reader::new(alloc, source);
+    collector.pauses = true;
+    let first = reader.visit(collector);
+    if !collector.has_paused(&first) {
+        return collector.answer(first);
     }
+    collector.expect_scalars(reader.objects_in_file());
+    let others = reader.visit(collector);
+    collector.answer(others)
 }
 
 // Writes the events of a tree as a file, if no dictionary has a key twice.

@@ -123,6 +123,12 @@ is_limited_in (state.Binary reader) = binary.has_limits reader
 is_limited_in (state.Limited reader) = true
 is_limited_in other = false
 
+-- the number of objects in the binary file, or 0 if this number hasn't been read or the state is
+-- that of another format
+abbrev pub objects_in_state : {R : Type 0} {g : Ghosts R} → State R g → ℕ
+objects_in_state (state.Binary reader) = binary.objects_in_file reader
+objects_in_state other = 0
+
 module _ {R : Type 0} {g : Ghosts R} where
   -- the remaining items of a reader, if the source's bytes are known
   abbrev pub reader_items : (known : R → Option (List ℕ)) → Reader R g → Option (List Item)
@@ -135,6 +141,10 @@ module _ {R : Type 0} {g : Ghosts R} where
   -- whether a reader has limits
   abbrev pub reader_is_limited : Reader R g → Bool
   reader_is_limited reader = is_limited_in reader.state
+
+  -- the number of objects in the binary file that a reader reads, or 0
+  abbrev pub reader_objects : Reader R g → ℕ
+  reader_objects reader = objects_in_state reader.state
 
 -- One of the readers can yield this fault. It has an offset, except for `OutOfMemory`, and for the
 -- fault of a limit, which is possible only under limits.

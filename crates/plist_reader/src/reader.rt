@@ -146,7 +146,7 @@ impl<R: Source> Reader<R> {
     ghost use Rattle.std.specs.Prelude.{◌≡◌, Option, true, false};
     ghost use Rattle.std.specs.Option.{option_map};
     ghost use Rattle.plist_base.specs.Limits.{limited_items};
-    ghost use Rattle.plist_reader.specs.Reader.{Gives, IsNewReader, IsUnread, items_of_dialect, items_of_input, reader_is_limited, reader_items, reader_source, steps_in_state};
+    ghost use Rattle.plist_reader.specs.Reader.{Gives, IsNewReader, IsUnread, items_of_dialect, items_of_input, reader_is_limited, reader_items, reader_objects, reader_source, steps_in_state};
 
     /// Creates a reader over a source. Nothing is read before the first item is requested. ASCII is
     /// read in the lax dialect, in which an LF doesn't end a bare string.
@@ -188,6 +188,23 @@ impl<R: Source> Reader<R> {
         Reader {
             alloc,
             state: State::Unread(source, Some(limits), Dialect::Lax),
+        }
+    }
+
+    /// Returns how many objects a binary file has, even after the reader has ended.
+    ///
+    /// This number is read when the first item is requested. Before that, and if no valid head can
+    /// be read or memory for it runs out, the result is 0. It is also 0 for ASCII and XML.
+    pub fn objects_in_file(&self) -> usize
+        ensures { result ≡ reader_objects self.now }
+    {
+        match &self.state {
+            State::Binary(reader) => reader.objects_in_file(),
+            State::Unread(_, _, _)
+            | State::Ascii(_)
+            | State::Limited(_)
+            | State::Refused(_)
+            | State::Moved => 0,
         }
     }
 
