@@ -1,22 +1,14 @@
 -- The objects that events have, and the classes of events.
-use Rattle.std.proofs.Common.{◌≡◌, ◌⊎◌, ◌↔◌, inl, inr, ℕ, ◌+◌, ◌<◌, Bool, true, false, eqb, List, [], ◌∷◌, length, Option, None, Some, refl, ap, ◌∙◌, arith, length-append}
-use Rattle.std.specs.Prelude.{slice_get}
-use Rattle.std.specs.Option.{unwrap_or}
+use Rattle.std.proofs.Common.{◌≡◌, ◌↔◌, inr, ℕ, ◌+◌, ◌<◌, Bool, false, eqb, List, length, refl, ap, arith}
 use Rattle.std.proofs.lemmas.Bool.Decides.{eqb_tells}
-use Rattle.std.proofs.lemmas.Option.{slice_get_within}
-use Rattle.plist_base.specs.Bracketing.{lengthless_items, lengthless_pairs}
-use Rattle.plist_base.specs.Events.{EndCollection, ScalarEvent, PlainEvent}
+use Rattle.plist_base.specs.Events.{PlainEvent}
 use Rattle.plist_base.specs.Scalars.{scalar_eq}
-use Rattle.plist_base.specs.Trees.{Scalar, Tree, Leaf, Array, Dictionary}
+use Rattle.plist_base.specs.Trees.{Tree, Leaf, Array, Dictionary}
 use Rattle.plist_buffer.specs.Occurrences.{OccursAt}
-use Rattle.plist_buffer.proofs.TreeStarts.{occurs_in, stands_single, starts_array, starts_dictionary}
-use Rattle.plist_binwrite.specs.EventClasses.{class_by, scalar_class}
-use Rattle.plist_buffer.specs.EventTable.{HasItem, IsBracketed, collection_number, count_collections, event_at, lists_in, plain_events, scalars_of}
+use Rattle.plist_binwrite.specs.EventClasses.{scalar_class}
+use Rattle.plist_buffer.specs.EventTable.{count_collections, plain_events, scalars_of}
 use Rattle.plist_buffer.specs.declared.event_table.EventTable.{EventTable}
-use Rattle.plist_buffer.specs.inner.Columns.{scalar_named}
-use Rattle.plist_buffer.specs.inner.Entries.{entry_at, is_leaf}
 use Rattle.plist_binwrite.specs.inner.Scalars.{Identity, identity_of, shared, alone, AreIdentities}
-use Rattle.plist_buffer.proofs.EntryEvents.{no_scalar, scalar_stored, scalar_is_leaf}
 use Rattle.plist_buffer.proofs.CollectionNumbers.{IsCollectionAt, array_at, dictionary_at, number_below, numbers_apart}
 use Rattle.plist_binwrite.proofs.ScalarClasses.{collection_class, leaf_below, leaves_same}
 use Rattle.plist_buffer.proofs.SameScalars.{Tells, scalars_tell, tells_made}

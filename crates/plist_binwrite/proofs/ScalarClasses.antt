@@ -1,10 +1,9 @@
 -- The classes of scalars, which are their indices among the different scalars, and of collections.
-use Rattle.std.proofs.Common.{◌≡◌, ◌⊎◌, ◌↔◌, inl, inr, ℕ, ◌<◌, true, false, List, [], ◌∷◌, length, Option, None, Some, refl, ap, sym, ◌∙◌, arith, length-append}
+use Rattle.std.proofs.Common.{◌≡◌, ◌⊎◌, ◌↔◌, inl, inr, ℕ, ◌<◌, true, false, List, length, Option, None, Some, refl, ap, sym, ◌∙◌, arith}
 use Rattle.std.specs.Prelude.{slice_get}
 use Rattle.std.specs.Option.{unwrap_or}
 use Rattle.std.proofs.lemmas.Option.{slice_get_within}
-use Rattle.plist_base.specs.Bracketing.{lengthless_items, lengthless_pairs}
-use Rattle.plist_base.specs.Events.{EndCollection, ScalarEvent, PlainEvent}
+use Rattle.plist_base.specs.Events.{ScalarEvent, PlainEvent}
 use Rattle.plist_base.specs.Trees.{Scalar, Tree, Leaf, Array, Dictionary}
 use Rattle.plist_buffer.specs.Occurrences.{OccursAt}
 use Rattle.plist_buffer.proofs.TreeStarts.{occurs_in, stands_single, starts_array, starts_dictionary}

@@ -1,5 +1,5 @@
 -- The numbers of collections: each closed collection has one of its own.
-use Rattle.std.proofs.Common.{◌≡◌, ◌≢◌, ◌==◌, ℕ, zero, suc, ◌+◌, ◌-◌, ◌<◌, ◌≤◌, if◌then◌else◌, List, [], ◌∷◌, length, get_or, map, take, Option, None, Some, inl, inr, refl, ap, sym, ◌∙◌, subst, arith, length-append, append_assoc}
+use Rattle.std.proofs.Common.{◌≡◌, ◌≢◌, ◌==◌, ℕ, zero, suc, ◌+◌, ◌-◌, ◌<◌, ◌≤◌, if◌then◌else◌, List, [], ◌∷◌, ◌++◌, length, drop, get_or, map, take, Option, None, Some, inl, inr, refl, ap, sym, ◌∙◌, subst, arith, length-append, append_assoc}
 use Rattle.std.proofs.lemmas.Bool.{ne_eqb}
 use Rattle.std.proofs.lemmas.Bool.Decides.{eqb_tells}
 use Rattle.std.proofs.Math.ListN.{get_or-map}
@@ -114,32 +114,29 @@ dictionary_at {ms = ms} s = record {
   large = omega (arith, length-append (lengthless_pairs ms) (EndCollection ∷ []));
 }
 
+-- the event before the index after a collection is its end
+end_before : (es : List PlainEvent) (p : ℕ) (start : PlainEvent) (inside rest : List PlainEvent)
+    → drop p es ≡ (start ∷ (inside ++ EndCollection ∷ [])) ++ rest
+    → skip_after es p ≡ p + length (start ∷ (inside ++ EndCollection ∷ []))
+    → event_at es (skip_after es p - 1) ≡ EndCollection
+end_before es p start inside rest is after =
+    let at : skip_after es p - 1 ≡ p + length (start ∷ inside) =
+    omega (arith, after, length-append inside (EndCollection ∷ [])) in
+    ap (event_at es) at
+    ∙ first_event es (p + length (start ∷ inside)) EndCollection rest
+    (past (start ∷ inside) (EndCollection ∷ rest) es p
+    (is ∙ append_assoc (start ∷ inside) (EndCollection ∷ []) rest))
+
 -- a collection's last event is an end
 last_event : (es : List PlainEvent) (t : Tree) (p : ℕ) → IsCollectionAt es t p
     → event_at es (skip_after es p - 1) ≡ EndCollection
 last_event es (Leaf x) p s = absurd (omega (arith, s.large))
 last_event es (Array ts) p s =
-    let inside = StartArray None ∷ lengthless_items ts in
-    let at : skip_after es p - 1 ≡ p + length inside = omega (
-      arith,
-      skip_ends es (Array ts) p s.occurs,
-      length-append (lengthless_items ts) (EndCollection ∷ []),
-    ) in
-    ap (event_at es) at
-    ∙ first_event es (p + length inside) EndCollection s.occurs.rest
-    (past inside (EndCollection ∷ s.occurs.rest) es p
-    (s.occurs.is ∙ append_assoc inside (EndCollection ∷ []) s.occurs.rest))
+    end_before es p (StartArray None) (lengthless_items ts) s.occurs.rest s.occurs.is
+    (skip_ends es (Array ts) p s.occurs)
 last_event es (Dictionary ms) p s =
-    let inside = StartDictionary None ∷ lengthless_pairs ms in
-    let at : skip_after es p - 1 ≡ p + length inside = omega (
-      arith,
-      skip_ends es (Dictionary ms) p s.occurs,
-      length-append (lengthless_pairs ms) (EndCollection ∷ []),
-    ) in
-    ap (event_at es) at
-    ∙ first_event es (p + length inside) EndCollection s.occurs.rest
-    (past inside (EndCollection ∷ s.occurs.rest) es p
-    (s.occurs.is ∙ append_assoc inside (EndCollection ∷ []) s.occurs.rest))
+    end_before es p (StartDictionary None) (lengthless_pairs ms) s.occurs.rest s.occurs.is
+    (skip_ends es (Dictionary ms) p s.occurs)
 
 module _ (held : EventTable) where
   abbrev es : List PlainEvent

@@ -199,7 +199,6 @@ impl Entries {
 
     /// Returns the number of ends before the end of the collection whose start is at an index. The
     /// collection must be closed.
-    #[inline(always)]
     pub fn collection_number(&self, index: usize) -> usize
         requires within { index < length self.now }
         requires start { is_start (entry_at self.now index) ≡ true }

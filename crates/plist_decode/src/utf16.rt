@@ -40,10 +40,10 @@ fn write_block(text: &mut [u8], size: usize, block: [u8; 8]) -> usize
     size + 8
 }
 
-// Returns the byte in UTF-8 that contains the lowest six bits of a number. It isn't the first byte
-// of a character.
+/// Returns the byte in UTF-8 that contains the lowest six bits of a number. It isn't the first byte
+/// of a character.
 #[inline(always)]
-fn byte_after_first(bits: u32) -> u8
+pub fn byte_after_first(bits: u32) -> u8
     ensures { result ≡ 128 + bits % 64 }
 {
     (0x80 + bits % 64) as u8

@@ -1,8 +1,7 @@
 -- The characters of a string in UTF-16 that are printed one after another.
-use Rattle.std.proofs.Common.{◌≡◌, ℕ, ◌+◌, ◌/◌, ◌%◌, ◌<◌, ◌≤◌, List, [], ◌∷◌, ◌++◌, ap, sym, ◌∙◌, arith, append-nil, append_assoc}
+use Rattle.std.proofs.Common.{◌≡◌, ℕ, ◌<◌, List, [], ◌∷◌, ◌++◌, ap, sym, ◌∙◌, append-nil, append_assoc}
 use Rattle.std.specs.Char.{encode_utf8}
 use Rattle.std.specs.Str.{encode_utf8_all}
-use Rattle.std.proofs.lemmas.Bool.{le-ltb, lt-ltb}
 use Rattle.std.proofs.lemmas.Grind.{flat_map-append}
 use Rattle.std.proofs.lemmas.Str.{encodes-IsAscii, encodes-append}
 use Rattle.plist_base.specs.declared.fixed_buffer.FixedBuffer.{FixedBuffer}
@@ -10,42 +9,6 @@ use Rattle.plist_base.specs.ByteTests.{EachByte}
 use Rattle.plist_base.proofs.ByteBlocks.{ascii_from_each}
 use Rattle.plist_print.specs.EscapedLines.{escaped_byte, escaped_chars, escaped_text}
 use Rattle.plist_print.specs.Utf16Lines.{PushesChars}
-
--- ---- the bytes of a character
-
--- a byte that isn't the first one of a character
-abbrev after : (bits : ℕ) → ℕ
-after bits = 128 + bits % 64
-
--- a character of two bytes
-pub escaped_two : (c : ℕ) {a b : ℕ} → 0x80 ≤ c → c < 0x800 → a ≡ 192 + c / 64 → b ≡ after c
-    → escaped_text (a ∷ b ∷ []) ≡ escaped_text (encode_utf8 c)
-unfolding encode_utf8
-escaped_two c from below p q =
-    rw (le-ltb c 0x80 from, lt-ltb c 0x800 below) (λ i. escaped_text (p i ∷ q i ∷ []))
-
--- a character of three bytes
-pub escaped_three : (c : ℕ) {a b d : ℕ} → 0x800 ≤ c → c < 0x1_0000 → a ≡ 224 + c / 4096
-    → b ≡ after (c / 64) → d ≡ after c
-    → escaped_text (a ∷ b ∷ d ∷ []) ≡ escaped_text (encode_utf8 c)
-unfolding encode_utf8
-escaped_three c from below p q r =
-    rw (le-ltb c 0x80 (omega (arith, from)), le-ltb c 0x800 from, lt-ltb c 0x1_0000 below)
-    (λ i. escaped_text (p i ∷ q i ∷ r i ∷ []))
-
--- a character of four bytes
-pub escaped_four : (c : ℕ) {a b d e : ℕ} → 0x1_0000 ≤ c → a ≡ 240 + c / 262144
-    → b ≡ after (c / 4096) → d ≡ after (c / 64) → e ≡ after c
-    → escaped_text (a ∷ b ∷ d ∷ e ∷ []) ≡ escaped_text (encode_utf8 c)
-unfolding encode_utf8
-escaped_four c from p q r s =
-    rw (
-      le-ltb c 0x80 (omega (arith, from)),
-      le-ltb c 0x800 (omega (arith, from)),
-      le-ltb c 0x1_0000 from,
-    ) (λ i. escaped_text (p i ∷ q i ∷ r i ∷ s i ∷ []))
-
--- ---- characters one after another
 
 -- the printed form of characters and more of them
 pub chars-append : (xs ys : List ℕ) → escaped_chars xs ++ escaped_chars ys ≡ escaped_chars (xs ++ ys)

@@ -1,6 +1,6 @@
 //! The printed form of a string in UTF-16, which is that of its bytes in UTF-8.
 
-ghost use Rattle.std.specs.Prelude.{◌≡◌, ◌++◌, ◌+◌, ◌*◌, ◌%◌, ◌<◌, ◌≤◌, [], encode_utf8, false, length, true};
+ghost use Rattle.std.specs.Prelude.{◌≡◌, ◌++◌, ◌+◌, ◌*◌, ◌<◌, ◌≤◌, [], encode_utf8, false, length, true};
 ghost use Rattle.plist_base.specs.ByteTests.{EachByte};
 ghost use Rattle.plist_base.specs.FixedBuffers.{room};
 ghost use Rattle.plist_base.specs.Utf16Strings.{chars_left};
@@ -9,6 +9,7 @@ ghost use Rattle.plist_print.specs.Utf16Lines.{PushesChars};
 
 use crate::plain_bytes::{push_byte, push_escape, push_text};
 use plist_base::{FixedBuffer, Utf16Chars};
+use plist_decode::utf16::byte_after_first;
 
 // Pushes the escapes of bytes that aren't ASCII.
 #[inline(always)]
@@ -21,15 +22,6 @@ fn push_escapes(line: &mut FixedBuffer, bytes: &[u8])
     for &byte in bytes {
         push_escape(line, byte);
     }
-}
-
-// Returns the byte in UTF-8 that contains the lowest six bits of a number. It isn't the first byte
-// of a character.
-#[inline(always)]
-fn byte_after_first(bits: u32) -> u8
-    ensures { result ≡ 128 + bits % 64 }
-{
-    (0x80 + bits % 64) as u8
 }
 
 // Pushes the escapes of the bytes in UTF-8 of a character that isn't ASCII.
