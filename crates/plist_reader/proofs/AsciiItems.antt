@@ -253,12 +253,13 @@ module _ {R : Type 0} {g : Ghosts R} (known : R → Option (List ℕ)) (failed :
       → StateGives {R = R} {g = g} known failed (state.Unread source None dialect) item
       (state.Ascii new)
   begun-ascii source dialect sequence old new item from inside at none is bytes place chosen h =
+      let kept : buffered_source (ascii.device_of old) ≡ source = ap buffered_source inside ∙ from in
       chosen-gives {g = g} known failed source None dialect (state.Ascii old) (state.Ascii new) item
       (fresh-text known dialect source sequence old from at none is bytes place chosen) refl
       (subst (λ n. CountsIo item n (failed (buffered_source (ascii.device_of new))))
       (ap (λ (s : BufferedSource R). failed (buffered_source s)) inside ∙ ap failed from)
       (counted-failures _ _ item h.failures))
-      (old, place, chosen, refl, h) (ascii-gives old new item h)
+      (old, (ap known kept, ap failed kept), place, chosen, refl, h) (ascii-gives old new item h)
 
   pub begun-limited : (source : R) (limits : Limits) (dialect : Dialect) (sequence : BufferedSource R) (fresh : AsciiReaderOf R)
       (old new : LimitedItems (AsciiReaderOf R) LimitCounter) (item : Given) → items_admitted old ≡ limited_items limits
@@ -274,6 +275,9 @@ module _ {R : Type 0} {g : Ghosts R} (known : R → Option (List ℕ)) (failed :
   begun-limited source limits dialect sequence fresh old new item come is-fresh from inside at none
       is bytes place chosen h =
       let gives = limited-gives old new item h in
+      let kept : buffered_source (ascii.device_of (iterator_of old)) ≡ source =
+      ap (λ (r : AsciiReaderOf R). buffered_source (ascii.device_of r)) is-fresh
+      ∙ ap buffered_source inside ∙ from in
       chosen-gives {g = g} known failed source (Some limits) dialect (state.Limited old) (state.Limited new) item
       ((λ i. option_map (come i) (ascii.ascii_items_to_come (stream_bytes_left known) (is-fresh i)))
       ∙ ap (option_map (limited_items limits))
@@ -282,4 +286,4 @@ module _ {R : Type 0} {g : Ghosts R} (known : R → Option (List ℕ)) (failed :
       (subst (λ n. CountsIo item n (failed (buffered_source (ascii.device_of (iterator_of new)))))
       (ap (λ (r : AsciiReaderOf R). failed (buffered_source (ascii.device_of r))) is-fresh
       ∙ ap (λ (s : BufferedSource R). failed (buffered_source s)) inside ∙ ap failed from) gives.failures)
-      (old, ap ascii.place_of is-fresh ∙ place, ap ascii.dialect_of is-fresh ∙ chosen, refl, h) gives
+      (old, (ap known kept, ap failed kept), ap ascii.place_of is-fresh ∙ place, ap ascii.dialect_of is-fresh ∙ chosen, refl, h) gives

@@ -116,4 +116,4 @@ module _ {R : Type 0} {g : Ghosts R} where
       limited
       (subst (λ n. CountsIo item n (g.failures (binary.binary_source new)))
       (ap g.failures at) h.failures)
-      (old, fresh, limited, h) (binary-gives old new item h)
+      (old, (ap g.known at, ap g.failures at), fresh, limited, h) (binary-gives old new item h)

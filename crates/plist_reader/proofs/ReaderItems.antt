@@ -123,7 +123,7 @@ module _ {R : Type 0} {g : Ghosts R} (known : R → Option (List ℕ)) (failed :
       → state_items known old ≡ option_map (input_within dialect limits) (known source)
       → is_limited_in old ≡ is_some limits
       → HoldsSource failed (Some source) item (source_in new)
-      → BeginsInside known failed limits dialect item new → StateGives known failed old item new
+      → BeginsInside known failed (source, limits, dialect) item new → StateGives known failed old item new
       → StateGives known failed (state.Unread source limits dialect) item new
   chosen-gives source limits dialect old new item same limited count inside h = record {
     items = subst (λ o. FirstIfKnown o item (state_items known new)) same h.items;
@@ -135,6 +135,20 @@ module _ {R : Type 0} {g : Ghosts R} (known : R → Option (List ℕ)) (failed :
     inside = inside;
   }
 
+  -- a reader of a source is one of each source with the same bytes and the same count of failures
+  begun-other : (source other : R) (limits : Option Limits) (dialect : Dialect) (new : State R g) (item : Given)
+      → known other ≡ known source → failed other ≡ failed source
+      → BeginsInside known failed (other, limits, dialect) item new
+      → BeginsInside known failed (source, limits, dialect) item new
+  begun-other source other limits dialect (state.Binary new) item e f h =
+      (h.0, (h.1.0 ∙ e, h.1.1 ∙ f), h.2, h.3, h.4)
+  begun-other source other limits dialect (state.Ascii new) item e f h =
+      (h.0, (h.1.0 ∙ e, h.1.1 ∙ f), h.2, h.3, h.4, h.5)
+  begun-other source other limits dialect (state.Limited new) item e f h =
+      (h.0, (h.1.0 ∙ e, h.1.1 ∙ f), h.2, h.3, h.4, h.5)
+  begun-other source other limits dialect (state.Refused refused) item e f h = h
+  begun-other source other limits dialect new item e f h = absurd h
+
   -- a source with the same bytes and the same count of failures yields the same
   pub other-source : (source other : R) (limits : Option Limits) (dialect : Dialect) (new : State R g) (item : Given)
       → known other ≡ known source → failed other ≡ failed source
@@ -142,7 +156,8 @@ module _ {R : Type 0} {g : Ghosts R} (known : R → Option (List ℕ)) (failed :
       → StateGives known failed (state.Unread source limits dialect) item new
   other-source source other limits dialect new item e f h =
       chosen-gives source limits dialect (state.Unread other limits dialect) new item
-      (ap (option_map (input_within dialect limits)) e) refl (is-kept (source_in new) h.failures) h.inside h
+      (ap (option_map (input_within dialect limits)) e) refl (is-kept (source_in new) h.failures)
+      (begun-other source other limits dialect new item e f h.inside) h
     where
       is-kept : (kept : Option R) → HoldsSource failed (Some other) item kept
           → HoldsSource failed (Some source) item kept

@@ -161,26 +161,37 @@ AsciiGives known failed =
     ascii.GivesAscii (stream_bytes_left known)
     (λ bytes. Some (failed (buffered_source bytes)))
 
+-- a source has the bytes and the count of failures of the source `before`
+abbrev pub IsAsBefore : {R : Type 0} (known : R → Option (List ℕ)) (failed : R → ℕ)
+    → (before source : R) → Type 0
+IsAsBefore known failed before source = (known source ≡ known before) × (failed source ≡ failed before)
+
 module _ {R : Type 0} {g : Ghosts R} (known : R → Option (List ℕ)) (failed : R → ℕ) where
-  -- the first item is that of a new reader, or a fault because no reader was chosen
-  abbrev pub BeginsInside : Option Limits → Dialect → Option (Result Event Error) → State R g → Type 0
-  BeginsInside limits dialect item (state.Binary new) = (fresh : BinaryReaderOf R g)
-      × (binary.is_new fresh ≡ true) × (binary.has_limits fresh ≡ is_some limits)
+  -- The first item of a source, under limits if there are any, and in a dialect, is that of a new
+  -- reader of the source, or a fault because no reader was chosen.
+  abbrev pub BeginsInside : (begun : R × Option Limits × Dialect) → Option (Result Event Error) → State R g
+      → Type 0
+  BeginsInside begun item (state.Binary new) = (fresh : BinaryReaderOf R g)
+      × IsAsBefore known failed begun.0 (binary.binary_source fresh)
+      × (binary.is_new fresh ≡ true) × (binary.has_limits fresh ≡ is_some begun.1)
       × binary.GivesBinary fresh item new
-  BeginsInside limits dialect item (state.Ascii new) = (fresh : AsciiReaderOf R)
-      × (ascii.place_of fresh ≡ 0) × (ascii.dialect_of fresh ≡ dialect) × (limits ≡ None)
+  BeginsInside begun item (state.Ascii new) = (fresh : AsciiReaderOf R)
+      × IsAsBefore known failed begun.0 (buffered_source (ascii.device_of fresh))
+      × (ascii.place_of fresh ≡ 0) × (ascii.dialect_of fresh ≡ begun.2) × (begun.1 ≡ None)
       × AsciiGives known failed fresh item new
-  BeginsInside limits dialect item (state.Limited new) = (fresh : LimitedItems (AsciiReaderOf R) LimitCounter)
+  BeginsInside begun item (state.Limited new) = (fresh : LimitedItems (AsciiReaderOf R) LimitCounter)
+      × IsAsBefore known failed begun.0 (buffered_source (ascii.device_of (iterator_of fresh)))
       × (ascii.place_of (iterator_of fresh) ≡ 0)
-      × (ascii.dialect_of (iterator_of fresh) ≡ dialect) × (is_some limits ≡ true)
+      × (ascii.dialect_of (iterator_of fresh) ≡ begun.2) × (is_some begun.1 ≡ true)
       × GivesLimited (AsciiGives known failed) fresh item new
-  BeginsInside limits dialect item (state.Refused source) = IsSomeAnd item (λ answer.
+  BeginsInside begun item (state.Refused source) = IsSomeAnd item (λ answer.
       IsErrAnd answer (λ e. let kind = (fault_of e).kind in (kind ≡ XmlUnsupported) ⊎ IsIo kind))
-  BeginsInside limits dialect item new = ⊥
+  BeginsInside begun item new = ⊥
 
   -- the chosen reader yields the item, and stays chosen
   abbrev pub GivesInside : State R g → Option (Result Event Error) → State R g → Type 0
-  GivesInside (state.Unread source limits dialect) item new = BeginsInside limits dialect item new
+  GivesInside (state.Unread source limits dialect) item new =
+      BeginsInside (source, limits, dialect) item new
   GivesInside (state.Binary old) item (state.Binary new) = binary.GivesBinary old item new
   GivesInside (state.Ascii old) item (state.Ascii new) = AsciiGives known failed old item new
   GivesInside (state.Limited old) item (state.Limited new) =
