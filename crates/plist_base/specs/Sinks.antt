@@ -21,7 +21,8 @@ pub record HasPut {W : Type 0} (sink : Sink W) (size : ℕ) : Type 0 where
   pub counted : IsSizeOrNone sink.sent sent
   pub whole : size ≡ sent + length (pending sink)
 
--- a call puts bytes with this result: `sent` is written; `rest` is pending unless a write failed
+-- a call puts bytes with this result: `sent` is written, and `rest` is pending; after an error the
+-- pending bytes and the count are unspecified
 pub record Puts {W : Type 0} (contents : W → Option (List ℕ)) (old : Sink W) (bytes : List ℕ)
     (answer : Answer) (new : Sink W) : Type 0 where
   pub same : IsSameSink old new

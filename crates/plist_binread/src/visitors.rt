@@ -19,9 +19,10 @@ use std::ops::ControlFlow;
 /// for each type of visitor that they are called with. A `BinaryReader` hands the first event of a
 /// file, and each scalar that is found in the cache, to a `Relay`. It hands all other events to its
 /// visitor directly. So the code for these has only one caller, and becomes part of the loop over
-/// the events. This saves a tenth of the instructions for each event. Each event is passed on by
-/// the method that it was handed to: if starts, ends and dates were passed on by `event`, a reader
-/// that hands all its events to a `Relay` would take 3 % more instructions for settings.
+/// the events. This saves a tenth of the instructions for each event. Each method passes its event
+/// on by the method of the same name. Without those for starts, ends and dates, a `Reader`, which
+/// hands all events of a binary file but the first to a `Relay`, takes 3 % more instructions for
+/// settings.
 #[derive(Drop)]
 pub struct Relay<'v, V> {
     visitor: &'v mut V,

@@ -161,8 +161,9 @@ impl<'e> EventTable<'e> {
     }
 
     /// Returns the number of the collection that begins at an index, which is the number of
-    /// collections that end before it ends. It must be closed. It isn't forced inline, since most
-    /// events are scalars: when it was, `convert` took 4 % more instructions for settings.
+    /// collections that end before it ends. The collection must be closed.
+    // It isn't forced inline, since most events are scalars: when it was, `convert` took 4 % more
+    // instructions for settings.
     pub fn collection_number(&self, index: usize) -> usize
         requires start { HasItem (plain_events self.now) index }
         requires closed { EndsCollection self.now index }

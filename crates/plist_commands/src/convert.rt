@@ -37,8 +37,9 @@ pub enum FastPath {
 // dropped.
 //
 // The collector pauses after the first event, since the reader of a binary file then knows the
-// number of its objects. There can't be more different scalars than objects. The function isn't
-// inlined, since moving the reader uses much of the call stack.
+// number of its objects, and there can't be more different scalars than objects. For ASCII the
+// number is 0, which is no hint. The function isn't inlined, since moving the reader uses much of
+// the call stack.
 #[inline(never)]
 fn collect_source<S: Source>(
     alloc: Global,

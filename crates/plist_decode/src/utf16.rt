@@ -27,8 +27,8 @@ fn write_bytes(text: &mut [u8], size: usize, bytes: &[u8]) -> usize
     end
 }
 
-// Writes eight bytes after the first `size` bytes, and returns where they end. They are a vector
-// here since that is stored by one instruction.
+// Writes eight bytes after the first `size` bytes, and returns where they end. The bytes are stored
+// as a vector, which takes one instruction.
 #[inline(always)]
 fn write_block(text: &mut [u8], size: usize, block: [u8; 8]) -> usize
     requires { size + length block ≤ length text.old }
@@ -151,7 +151,7 @@ fn write_next(text: &mut [u8], size: usize, chars: &mut Utf16Chars<'_>) -> Optio
 }
 
 // Writes the characters of an iterator in UTF-8. It isn't inlined, and the loop has an iterator of
-// its own, so that its variables stay in registers.
+// its own, so that the loop's variables stay in registers.
 #[inline(never)]
 fn write_chars(text: &mut [u8], chars: Utf16Chars<'_>)
     requires { length text.old ≡ length (encode_utf8_all (chars_left chars)) }

@@ -45,7 +45,7 @@ module _ (given : Classed) (numbering : Numbering) where
   IsNumbered index = 0 < stored_number index
 
   -- each class has the number of one object, or no number yet, and the sizes are those of all
-  -- objects; `first` has an index of each object, and its tree; the ends need no class
+  -- objects; `first` has an index of each object, and its tree; ends have no class
   pub record IsNumberedSoFar : Type 0 where
     pub whole : IsBracketed (events_in given)
     pub classed : IsClassed given
