@@ -1,7 +1,8 @@
-//! Proved callers of the reader: what it yields after its end, that an I/O error has an offset, and
-//! that a short input has a format.
+//! Proved callers of the reader: what it yields after its end, that an I/O error has an offset, how
+//! many objects it reports, and that a short input has a format.
 
-ghost use Rattle.std.specs.Prelude.{◌≡◌, false, true};
+ghost use Rattle.std.specs.Prelude.{◌≡◌, ◌≤◌, false, true};
+ghost use Rattle.plist_binread.specs.Remaining.{objects_in_head};
 
 use plist_base::{ErrorKind, Source};
 use plist_reader::{Reader, format_of};
@@ -35,6 +36,18 @@ pub fn has_its_place<R: Source>(reader: &mut Reader<R>) -> bool
         Some(Ok(_event)) => true,
         None => true,
     }
+}
+
+/// Returns how many objects a reader reports before its first call and after it. The first number
+/// is 0, and the second is at most the number in the head of a binary file.
+pub fn count_in_either(alloc: Global, bytes: &[u8]) -> (usize, usize)
+    ensures before { result.0 ≡ 0 }
+    ensures after { result.1 ≤ objects_in_head bytes.now }
+{
+    let mut reader = Reader::new(alloc, bytes);
+    let before = reader.objects_in_file();
+    drop(reader.next());
+    (before, reader.objects_in_file())
 }
 
 /// Returns whether an item follows the error for XML, or that for a collection that contains

@@ -33,6 +33,10 @@ pub fn binary_items<R: Source>(alloc: Global, source: R) -> Option<Result<OwnedE
     reader.next()
 }
 
+pub fn counted_objects<R: Source>(binary: &BinaryReader<R>, either: &Reader<R>) -> (usize, usize) {
+    (binary.objects_in_file(), either.objects_in_file())
+}
+
 pub fn limit_calls(limits: Limits) -> (u64, u64) {
     is_copy(limits);
     is_eq(&limits);
