@@ -22,7 +22,7 @@ use Rattle.plist_binwrite.specs.EventClasses.{events_in}
 use Rattle.plist_binwrite.specs.declared.plan.FilePlan.{FilePlan}
 use Rattle.plist_binwrite.specs.inner.Layout.{ArePut, HasStoredOffset, IsFilePlan, LacksObject, PutsFile, PutsObject, PutsObjects, number_of_event}
 use Rattle.plist_buffer.specs.EventTable.{HasItem}
-use Rattle.plist_binwrite.proofs.TreeObjects.{occurs_at}
+use Rattle.plist_buffer.proofs.CollectionNumbers.{occurs_at}
 use Rattle.plist_binwrite.proofs.ObjectOffsets.{all_zero, continued, laid_below, laid_more, laid_one, length-magic, next_layout, placed, still_placed}
 use Rattle.plist_binwrite.proofs.PlannedFiles.{file_made}
 

@@ -8,23 +8,12 @@ use Rattle.plist_base.specs.Trees.{Scalar, Tree, Leaf, Array, Dictionary}
 use Rattle.plist_buffer.specs.Occurrences.{OccursAt}
 use Rattle.plist_buffer.proofs.TreeStarts.{occurs_in, stands_single, starts_array, starts_dictionary}
 use Rattle.plist_binwrite.specs.EventClasses.{class_by}
-use Rattle.plist_buffer.specs.EventTable.{HasItem, IsBracketed, collection_number, event_at, lists_in, plain_events, scalars_of}
+use Rattle.plist_buffer.specs.EventTable.{collection_number, event_at, lists_in, plain_events, scalars_of}
 use Rattle.plist_buffer.specs.declared.event_table.EventTable.{EventTable}
 use Rattle.plist_buffer.specs.inner.Columns.{scalar_named}
 use Rattle.plist_buffer.specs.inner.Entries.{entry_at, is_leaf}
 use Rattle.plist_buffer.proofs.EntryEvents.{no_scalar, scalar_stored, scalar_is_leaf}
-use Rattle.plist_buffer.proofs.CollectionNumbers.{IsCollectionAt, array_at, dictionary_at}
-use Rattle.plist_binwrite.proofs.TreeObjects.{occurs_at}
-
--- a collection begins at the index of an event that isn't a scalar, if a tree does
-pub collection_at : (es : List PlainEvent) → IsBracketed es → (p : ℕ) → HasItem es p
-    → is_leaf (event_at es p) ≡ false → (t : Tree) × IsCollectionAt es t p
-collection_at es whole p item other = by (occurs_at es whole p item).0 (occurs_at es whole p item).1
-  where
-    by : (t : Tree) → OccursAt es t p → (u : Tree) × IsCollectionAt es u p
-    by (Leaf x) s = cc (other, ap is_leaf (stands_single s))
-    by (Array ts) s = (Array ts, array_at s)
-    by (Dictionary ms) s = (Dictionary ms, dictionary_at s)
+use Rattle.plist_buffer.proofs.CollectionNumbers.{IsCollectionAt}
 
 module _ (held : EventTable) (of_collection : ℕ → ℕ) where
   abbrev es : List PlainEvent

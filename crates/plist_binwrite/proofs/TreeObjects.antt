@@ -12,7 +12,7 @@ use Rattle.plist_base.specs.Utf16.{units_of}
 use Rattle.plist_buffer.specs.AsciiTexts.{is_ascii_text}
 use Rattle.plist_binwrite.specs.Forms.{length_form, scalar_form, form, key_numbers, value_numbers, IsWritable, IsWritableScalar, AllFit}
 use Rattle.std.specs.Int.{bytes_high_first}
-use Rattle.plist_buffer.specs.EventTable.{HasItem, LacksItem, is_end, event_at, item_indices, key_indices, value_indices, IsBracketed}
+use Rattle.plist_buffer.specs.EventTable.{HasItem, LacksItem, is_end, event_at, item_indices, key_indices, value_indices}
 use Rattle.plist_binwrite.specs.Sizes.{object_size}
 use Rattle.plist_binwrite.specs.inner.Numbering.{IsCapped}
 use Rattle.plist_buffer.specs.Children.{half_of}
@@ -21,13 +21,11 @@ use Rattle.plist_binwrite.specs.EventClasses.{events_in}
 use Rattle.plist_binwrite.specs.declared.plan.FilePlan.{FilePlan}
 use Rattle.plist_binwrite.specs.inner.Layout.{collection_form, number_of_event}
 use Rattle.plist_buffer.specs.inner.Entries.{is_leaf}
-use Rattle.plist_buffer.proofs.TreeOccurrences.{occurs_whole, occurs_items, occurs_pairs, occurs_item, occurs_next, occurs_key, occurs_value, occurs_next_pair}
+use Rattle.plist_buffer.proofs.TreeOccurrences.{occurs_items, occurs_pairs, occurs_item, occurs_next, occurs_key, occurs_value, occurs_next_pair}
 use Rattle.plist_buffer.proofs.TreeStarts.{stands_single, starts_array, starts_dictionary, no_start, begins, occurs_in}
 use Rattle.plist_buffer.proofs.ChildIndices.{few_children, keys_are_in, values_are_in}
-use Rattle.plist_buffer.proofs.TreePositions.{Stands, positions_stand, positions_all}
 use Rattle.plist_binwrite.proofs.Reading.{length-keys_of, length-values_of}
 use Rattle.plist_binwrite.proofs.ReadingNumbers.{length-table}
-use Rattle.plist_buffer.proofs.Uniques.{all_from}
 use Rattle.plist_binwrite.proofs.Unfold.{references, pairs, length-references, length-pairs}
 
 -- ---- the children of a tree
@@ -202,14 +200,6 @@ wide_length text wide =
     let head = length-append (length_form kind.WideText (length (units_of text)))
     (flat_map (bytes_high_first 2) (units_of text)) in
     rw (wide) (omega (arith, head, length-table 2 (units_of text)))
-
--- in a tree's events, each event that isn't an end begins a tree
-pub occurs_at : (es : List PlainEvent) → IsBracketed es → (p : ℕ) → HasItem es p
-    → (u : Tree) × OccursAt es u p
-occurs_at es (t, e) p item =
-    positions_all es (λ q. (u : Tree) × OccursAt es u q) t e
-    (all_from (λ one. (u : Tree) × OccursAt es u _) (Stands es) (λ one s. (one.1, s)) _
-    (positions_stand es t 0 (occurs_whole e))) p item.0 item.1
 
 -- an index at which a tree begins isn't one at which none does
 pub items_apart : (es : List PlainEvent) {p k : ℕ} → HasItem es p → LacksItem es k → p ≡ k → ⊥

@@ -1,5 +1,5 @@
 -- The numbers of collections: each closed collection has one of its own.
-use Rattle.std.proofs.Common.{◌≡◌, ◌≢◌, ◌==◌, ℕ, zero, suc, ◌+◌, ◌-◌, ◌<◌, ◌≤◌, if◌then◌else◌, List, [], ◌∷◌, ◌++◌, length, drop, get_or, map, take, Option, None, Some, inl, inr, refl, ap, sym, ◌∙◌, subst, arith, length-append, append_assoc}
+use Rattle.std.proofs.Common.{◌≡◌, ◌≢◌, ◌==◌, ℕ, zero, suc, ◌+◌, ◌-◌, ◌<◌, ◌≤◌, if◌then◌else◌, List, [], ◌∷◌, ◌++◌, false, length, drop, get_or, map, take, Option, None, Some, inl, inr, refl, ap, sym, ◌∙◌, subst, arith, length-append, append_assoc}
 use Rattle.std.proofs.lemmas.Bool.{ne_eqb}
 use Rattle.std.proofs.lemmas.Bool.Decides.{eqb_tells}
 use Rattle.std.proofs.Math.ListN.{get_or-map}
@@ -7,7 +7,7 @@ use Rattle.std.proofs.lemmas.List.{get_or_default, length-map, take_all}
 use Rattle.plist_base.specs.Bracketing.{lengthless_items, lengthless_pairs}
 use Rattle.plist_base.specs.Events.{PlainEvent, EndCollection, ScalarEvent, StartArray, StartDictionary}
 use Rattle.plist_base.specs.Trees.{Tree, Leaf, Array, Dictionary, Trees, Members}
-use Rattle.plist_buffer.specs.EventTable.{EndsCollection, collection_number, count_collections, event_at, lists_in, plain_events}
+use Rattle.plist_buffer.specs.EventTable.{EndsCollection, HasItem, IsBracketed, collection_number, count_collections, event_at, lists_in, plain_events}
 use Rattle.plist_buffer.specs.Occurrences.{event_count, OccursAt}
 use Rattle.plist_buffer.specs.declared.entries.EntryKind.{EntryKind}
 use Rattle.plist_buffer.specs.declared.entries.EntryKind.TheVariants as kind
@@ -17,8 +17,11 @@ use Rattle.plist_buffer.specs.inner.Columns.{ends_in, kind_in, one_if_end}
 use Rattle.plist_buffer.specs.inner.UnclosedStarts.{skip_after, skip_after_event, skip_from, unclosed_after_event}
 use Rattle.plist_buffer.proofs.OpenStarts.{skip_ends, skip_forward}
 use Rattle.plist_buffer.proofs.EntryEvents.{end_there, long_shown, lt}
-use Rattle.plist_buffer.proofs.TreeOccurrences.{past}
-use Rattle.plist_buffer.proofs.TreeStarts.{first_event, occurs_in}
+use Rattle.plist_buffer.specs.inner.Entries.{is_leaf}
+use Rattle.plist_buffer.proofs.TreeOccurrences.{occurs_whole, past}
+use Rattle.plist_buffer.proofs.TreePositions.{Stands, positions_all, positions_stand}
+use Rattle.plist_buffer.proofs.TreeStarts.{first_event, occurs_in, stands_single}
+use Rattle.plist_buffer.proofs.Uniques.{all_from}
 
 -- ---- the start that an event closes
 
@@ -113,6 +116,24 @@ dictionary_at {ms = ms} s = record {
   occurs = s;
   large = omega (arith, length-append (lengthless_pairs ms) (EndCollection ∷ []));
 }
+
+-- in a tree's events, each event that isn't an end begins a tree
+pub occurs_at : (es : List PlainEvent) → IsBracketed es → (p : ℕ) → HasItem es p
+    → (u : Tree) × OccursAt es u p
+occurs_at es (t, e) p item =
+    positions_all es (λ q. (u : Tree) × OccursAt es u q) t e
+    (all_from (λ one. (u : Tree) × OccursAt es u _) (Stands es) (λ one s. (one.1, s)) _
+    (positions_stand es t 0 (occurs_whole e))) p item.0 item.1
+
+-- a collection begins at the index of an event that isn't a scalar, if a tree does
+pub collection_at : (es : List PlainEvent) → IsBracketed es → (p : ℕ) → HasItem es p
+    → is_leaf (event_at es p) ≡ false → (t : Tree) × IsCollectionAt es t p
+collection_at es whole p item other = by (occurs_at es whole p item).0 (occurs_at es whole p item).1
+  where
+    by : (t : Tree) → OccursAt es t p → (u : Tree) × IsCollectionAt es u p
+    by (Leaf x) s = cc (other, ap is_leaf (stands_single s))
+    by (Array ts) s = (Array ts, array_at s)
+    by (Dictionary ms) s = (Dictionary ms, dictionary_at s)
 
 -- the event before the index after a collection is its end
 end_before : (es : List PlainEvent) (p : ℕ) (start : PlainEvent) (inside rest : List PlainEvent)

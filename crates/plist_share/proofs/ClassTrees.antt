@@ -18,9 +18,9 @@ use Rattle.plist_base.specs.declared.event.EventShape.{EventShape}
 use Rattle.plist_base.specs.declared.event.EventShape.TheVariants as shape
 use Rattle.plist_buffer.specs.declared.event_table.EventTable.{EventTable}
 use Rattle.plist_buffer.specs.inner.Entries.{AreDistinct, is_leaf}
-use Rattle.plist_buffer.proofs.CollectionNumbers.{IsCollectionAt, array_at, dictionary_at, number_below, numbers_apart}
+use Rattle.plist_buffer.proofs.CollectionNumbers.{IsCollectionAt, array_at, collection_at, dictionary_at, number_below, numbers_apart}
 use Rattle.plist_binwrite.proofs.ClassObjects.{sound, the_items, the_pairs}
-use Rattle.plist_binwrite.proofs.ScalarClasses.{collection_at, collection_class, leaf_any, leaf_below, leaves_same}
+use Rattle.plist_binwrite.proofs.ScalarClasses.{collection_class, leaf_any, leaf_below, leaves_same}
 use Rattle.plist_binwrite.proofs.TreeObjects.{keys_are, values_are}
 use Rattle.plist_binwrite.proofs.Reading.{dictionary_is, length-keys_of, length-values_of}
 use Rattle.plist_buffer.proofs.TreeOccurrences.{occurs_items, occurs_pairs, occurs_item, occurs_next, occurs_key, occurs_value, occurs_next_pair}

@@ -2,7 +2,7 @@ use Rattle.plist_base.specs.Writing.{answer_of}
 use Rattle.plist_buffer.specs.EventTable.{plain_events}
 use Rattle.plist_buffer.proofs.Lengthless.{whole_bracketed}
 use Rattle.plist_binwrite.proofs.Identities.{equal_scalars}
-use Rattle.plist_binwrite.proofs.TreeObjects.{occurs_at}
+use Rattle.plist_buffer.proofs.CollectionNumbers.{occurs_at}
 use Rattle.plist_binwrite.proofs.WriterClasses.{owners_classes}
 use Rattle.plist_binwrite.proofs.SendingFiles.{sends_plainly}
 use Rattle.plist_binwrite.proofs.send.write_file.Goals as goal

@@ -5,7 +5,7 @@ use Rattle.plist_buffer.specs.EventTable.{plain_events}
 use Rattle.plist_buffer.specs.Occurrences.{OccursAt}
 use Rattle.plist_buffer.proofs.TreeStarts.{occurs_in}
 use Rattle.plist_binwrite.specs.EventClasses.{listed_class}
-use Rattle.plist_binwrite.proofs.TreeObjects.{occurs_at}
+use Rattle.plist_buffer.proofs.CollectionNumbers.{occurs_at}
 use Rattle.plist_share.specs.inner.Nodes.{AreScalarClasses, IsClass, Node, node_at, node_of}
 use Rattle.plist_share.proofs.ClassTrees.{class_below, found_classes, scalar_classes, separate_trees}
 use Rattle.plist_share.proofs.classes.assign_classes.Goals as goal

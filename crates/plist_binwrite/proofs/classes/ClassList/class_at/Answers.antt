@@ -1,8 +1,7 @@
 use Rattle.std.proofs.Common.{arith}
 use Rattle.plist_base.specs.Trees.{Tree}
 use Rattle.plist_buffer.specs.EventTable.{plain_events}
-use Rattle.plist_buffer.proofs.CollectionNumbers.{IsCollectionAt, collection_ends, number_below}
-use Rattle.plist_binwrite.proofs.ScalarClasses.{collection_at}
+use Rattle.plist_buffer.proofs.CollectionNumbers.{IsCollectionAt, collection_at, collection_ends, number_below}
 use Rattle.plist_binwrite.proofs.classes.ClassList.class_at.Goals as goal
 use Rattle.plist_binwrite.proofs.classes.ClassList.class_at.Goals.{In-None}
 

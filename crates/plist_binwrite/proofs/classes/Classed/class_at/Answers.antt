@@ -3,9 +3,8 @@ use Rattle.std.proofs.lemmas.List.{length-map}
 use Rattle.plist_base.specs.Trees.{Tree}
 use Rattle.plist_buffer.specs.EventTable.{plain_events}
 use Rattle.plist_buffer.specs.inner.Columns.{kind_in}
-use Rattle.plist_buffer.proofs.CollectionNumbers.{IsCollectionAt, collection_ends, number_below}
+use Rattle.plist_buffer.proofs.CollectionNumbers.{IsCollectionAt, collection_at, collection_ends, number_below}
 use Rattle.plist_buffer.proofs.Columns.{few_ends}
-use Rattle.plist_binwrite.proofs.ScalarClasses.{collection_at}
 use Rattle.plist_binwrite.proofs.classes.Classed.class_at.Goals as goal
 use Rattle.plist_binwrite.proofs.classes.Classed.class_at.Goals.{In-None}
 
