@@ -71,10 +71,10 @@ fn pair_at(bytes: &[u8], at: usize) -> Option<(char, usize)>
     Some((unsafe { char::from_u32_unchecked(code) }, at + 2))
 }
 
-/// Returns the character that begins with the unit at an index, and the index of the unit after the
-/// character, or `None` if the unit is an unpaired surrogate.
+// Returns the character that begins with the unit at an index, and the index of the unit after the
+// character, or `None` if the unit is an unpaired surrogate.
 #[inline(always)]
-pub fn char_at(bytes: &[u8], at: usize) -> Option<(char, usize)>
+fn char_at(bytes: &[u8], at: usize) -> Option<(char, usize)>
     requires { 2 * at + 2 ≤ length bytes.now }
     ensures { MatchOption result (IsUnpaired bytes.now at) (IsNextChar bytes.now at) }
 {

@@ -1,14 +1,12 @@
 -- What is decoded from an object, and how an object can be faulty.
-use Rattle.std.proofs.Common.{◌≡◌, ℕ, suc, inl, inr, ◌+◌, ◌-◌, ◌*◌, ◌<◌, ◌≤◌, false, List, ◌∷◌, ◌++◌, length, take, drop, replicate, Option, Some, ap, sym, subst, ◌∙◌, arith}
+use Rattle.std.proofs.Common.{◌≡◌, ℕ, suc, inl, inr, ◌+◌, ◌-◌, ◌*◌, ◌<◌, ◌≤◌, List, ◌∷◌, ◌++◌, length, take, drop, replicate, Option, Some, ap, sym, subst, ◌∙◌, arith}
 use Rattle.std.proofs.lemmas.Bool.{cases_lt, le-leb}
 use Rattle.std.proofs.lemmas.List.{length-append, length-drop, length-take-le, drop-append-le}
 use Rattle.std.proofs.lemmas.Option.{IfSome_then}
-use Rattle.std.specs.Char.Utf16.{has_unpaired_surrogate, utf16_lossy_chars}
-use Rattle.std.specs.Str.{encode_utf8_all}
 use Rattle.std.proofs.Math.ListN.{length-replicate}
 use Rattle.std.proofs.Math.Seq.{take-length}
 use Rattle.plist_base.specs.Trees as trees
-use Rattle.plist_base.specs.Object.{Object, Scalar, length_in, object_in, text_of_units}
+use Rattle.plist_base.specs.Object.{Object, Scalar, length_in, object_in}
 use Rattle.plist_decode.specs.CountedContent.{content_means, counted_with, unit_size}
 use Rattle.plist_decode.specs.Decoded.{DecodesAt, DecodesSeen, FitsBefore, IsDecodedAs, MeansDecoded, IsLongCount}
 use Rattle.plist_decode.specs.Front.{IsFrontAt}
@@ -90,12 +88,6 @@ content_enough size to_trailer rest following shown within short near few = elim
   | inl less ↦ let whole = shown less in omega arith
   | inr more ↦ omega arith
 ]
-
--- UTF-16 units without an unpaired surrogate mean this string
-pub units_text : (units bytes : List ℕ) → has_unpaired_surrogate units ≡ false
-    → bytes ≡ encode_utf8_all (utf16_lossy_chars units)
-    → text_of_units units ≡ Scalar (trees.String bytes)
-units_text units bytes paired is = rw paired (ap (λ xs. Scalar (trees.String xs)) (sym is))
 
 -- ---- the bytes that were read of an object
 

@@ -16,7 +16,8 @@ use crate::decoded::{CollectionKind, ContentKind, Decoded, ObjectFault};
 use crate::numbers::number_from;
 use crate::packed::{PackedKind, content_from};
 use crate::utf8::short_text_in;
-use crate::utf16::utf16_text_in;
+use crate::utf16::write_utf8;
+use plist_base::Utf16Str;
 use plist_base::marker::LowHalf;
 
 // Returns how many bytes a number has. The low two bits of the byte before the number encode this.
@@ -137,15 +138,18 @@ pub fn decode_text(low: LowHalf, rest: AfterMarker<'_>) -> Decoded
 // Decodes a UTF-16 string of at most eight units. Returns `None` if the string has more than eight
 // bytes in UTF-8, because it can't be packed then.
 fn short_wide_text(bytes: &[u8]) -> Option<Decoded>
-    requires { length bytes.now ≤ 16 }
+    requires { length bytes.now % 2 ≡ 0 }
     ensures { IfSome result (MeansDecoded (wide_text bytes.now)) }
 {
-    let mut all = [0; 24];
-    match utf16_text_in(bytes, &mut all) {
-        Some(text) if text.len() > 8 => None,
-        Some(text) => Some(small_text(text)),
-        None => Some(Decoded::Faulty(ObjectFault::NotUtf16)),
+    let Some(text) = Utf16Str::new(bytes) else {
+        return Some(Decoded::Faulty(ObjectFault::NotUtf16));
+    };
+    let size = text.len_utf8();
+    if size > 8 {
+        return None;
     }
+    let mut all = [0; 8];
+    Some(small_text(write_utf8(text, &mut all[..size])))
 }
 
 /// Decodes a string in UTF-16.

@@ -1,15 +1,11 @@
 //! Decodes strings in UTF-16.
 
-ghost use Rattle.std.specs.Prelude.{◌≡◌, ◌+◌, ◌*◌, ◌/◌, ◌%◌, ◌++◌, ◌<◌, ◌≤◌, length, take, encode_utf8, string_bytes, IfOk, IfSome, MatchOption, None};
+ghost use Rattle.std.specs.Prelude.{◌≡◌, ◌+◌, ◌%◌, ◌++◌, ◌<◌, ◌≤◌, length, take, encode_utf8, string_bytes, IfOk, IfSome, None};
 ghost use Rattle.std.specs.Char.{len_utf8};
 ghost use Rattle.std.specs.Str.{encode_utf8_all};
-ghost use Rattle.plist_base.specs.Faults.{InvalidUtf16String};
-ghost use Rattle.plist_base.specs.Trees.{String};
-ghost use Rattle.plist_base.specs.Object.{Faulty, Scalar, wide_text};
 ghost use Rattle.plist_base.specs.Utf16Strings.{chars_left, string_of_utf16};
 ghost use Rattle.plist_decode.specs.Utf16Writing.{WritesChars};
 
-use plist_base::utf16::char_at;
 use plist_base::{Utf16Chars, Utf16Str};
 use std::alloc::{AllocError, Global};
 use std::simd::prelude::*;
@@ -91,24 +87,6 @@ fn write_char(text: &mut [u8], size: usize, c: char) -> usize
     write_wide_char(text, size, code)
 }
 
-/// Writes a string in UTF-16 to `text` in UTF-8, and returns it, or `None` if a surrogate is
-/// unpaired. There must be room for three bytes for each unit.
-pub fn utf16_text_in<'t>(bytes: &[u8], text: &'t mut [u8]) -> Option<&'t str>
-    requires { 3 * (length bytes.now / 2) ≤ length text.old }
-    ensures { MatchOption result (wide_text bytes.now ≡ Faulty InvalidUtf16String)
-        (λ text. wide_text bytes.now ≡ Scalar (String text.now)) }
-{
-    let count = bytes.len() / 2;
-    let mut size = 0;
-    let mut at = 0;
-    while at < count {
-        let (c, next) = char_at(bytes, at)?;
-        size = write_char(text, size, c);
-        at = next;
-    }
-    Some(unsafe { str::from_utf8_unchecked(&text[..size]) })
-}
-
 // Writes the next characters in UTF-8 after the first `size` bytes, up to the first one that isn't
 // ASCII, and returns where they end. If all characters are ASCII, writes all and returns `None`.
 #[inline(always)]
@@ -162,6 +140,16 @@ fn write_chars(text: &mut [u8], chars: Utf16Chars<'_>)
     while let Some(end) = write_next(text, size, &mut left) {
         size = end;
     }
+}
+
+/// Writes a string to `text` in UTF-8, and returns it. There must be as many bytes as the string has
+/// in UTF-8.
+pub fn write_utf8<'t>(string: Utf16Str<'_>, text: &'t mut [u8]) -> &'t str
+    requires { length text.old ≡ length (string_of_utf16 string) }
+    ensures { result.now ≡ string_of_utf16 string.entry }
+{
+    write_chars(text, string.chars());
+    unsafe { str::from_utf8_unchecked(text) }
 }
 
 /// Returns a string in UTF-8, or fails if memory for it can't be allocated.
