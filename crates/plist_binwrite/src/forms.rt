@@ -12,6 +12,7 @@ ghost use Rattle.plist_binwrite.specs.Forms.{IsWritableScalar, unsigned_form, le
 ghost use Rattle.plist_binwrite.specs.inner.Numbering.{IsCapped};
 ghost use Rattle.std.specs.Int.{bytes_high_first};
 ghost use Rattle.plist_base.specs.Utf16.{utf8_of_utf16};
+ghost use Rattle.plist_buffer.specs.AsciiTexts.{is_ascii_text};
 ghost use Rattle.plist_buffer.specs.StoredScalars.{IsStored, IsWide, scalar_of_ref};
 ghost use Rattle.plist_base.specs.FixedBuffers.{room};
 ghost use Rattle.plist_base.specs.Sinks.{Puts};
@@ -22,7 +23,7 @@ use crate::push::{
     push_boolean, push_date, push_integer, push_length, push_number, push_real, push_uid,
 };
 pub use crate::text::put_text;
-use crate::text::{count_units, put_wide};
+use crate::text::{count_units, put_ascii, put_wide};
 use crate::widths::{least_width, offset_width, reference_width};
 pub use plist_base::marker::CountedKind;
 use plist_base::marker::LowHalf;
@@ -84,6 +85,7 @@ pub fn put_scalar<W: Write>(sink: &mut Sink<'_, W>, scalar: ScalarRef<'_>) -> Re
 {
     sink.make_room(MAX_FIXED_OBJECT)?;
     match scalar {
+        ScalarRef::AsciiString(text) => return put_ascii(sink, text),
         ScalarRef::String(text) => return put_text(sink, text),
         ScalarRef::WideString(units) => return put_wide(sink, units),
         ScalarRef::Data(bytes) => return put_data(sink, bytes),
@@ -216,13 +218,22 @@ fn length_of_bytes(count: u64) -> u64
     count.saturating_add(length_of_count(count))
 }
 
+// Returns the length of the object of a string in ASCII, or 2^64 - 1 if it is greater.
+fn length_of_ascii(text: &str) -> u64
+    requires { is_ascii_text text.now ≡ true }
+    ensures value { IsCapped result (length (scalar_form (trees.String text.now))) }
+    ensures writable { IsWritableScalar (trees.String text.now) }
+{
+    length_of_bytes(text.len() as u64)
+}
+
 // Returns the length of a string's object, or 2^64 - 1 if it is greater.
 fn length_of_text(text: &str) -> u64
     ensures value { IsCapped result (length (scalar_form (trees.String text.now))) }
     ensures writable { IsWritableScalar (trees.String text.now) }
 {
     if is_ascii_text(text) {
-        return length_of_bytes(text.len() as u64);
+        return length_of_ascii(text);
     }
     let count = count_units(text) as u64;
     count
@@ -261,6 +272,7 @@ pub(crate) fn length_of_scalar(scalar: ScalarRef<'_>) -> u64
     ensures writable { IsWritableScalar (scalar_of_ref scalar.entry) }
 {
     match scalar {
+        ScalarRef::AsciiString(text) => length_of_ascii(text),
         ScalarRef::Boolean(_) => 1,
         ScalarRef::Data(bytes) => length_of_bytes(bytes.len() as u64),
         ScalarRef::Date(date) => 1 + date.to_plist_real().len() as u64,

@@ -179,10 +179,11 @@ fn push_encoded(buffer: &mut FixedBuffer, text: &str) -> bool
     push_units(buffer, &mut text.chars())
 }
 
-// Pushes a string, if it surely fits into the buffer, and returns whether it was pushed.
+// Pushes a string in ASCII, if it surely fits into the buffer, and returns whether it was pushed.
 #[inline(always)]
-fn push_text(buffer: &mut FixedBuffer, text: &str) -> bool
-    requires { 17 ≤ room buffer.old }
+fn push_ascii(buffer: &mut FixedBuffer, text: &str) -> bool
+    requires room { 17 ≤ room buffer.old }
+    requires ascii { is_ascii_text text.now ≡ true }
     ensures pushed { result ≡ true
         → buffer.new ≡ buffer.old ++ scalar_form (trees.String text.now) }
     ensures unchanged { result ≡ false → buffer.new ≡ buffer.old }
@@ -190,12 +191,23 @@ fn push_text(buffer: &mut FixedBuffer, text: &str) -> bool
     if text.len() > buffer.room() - 10 {
         return false;
     }
-    if !is_ascii_text(text) {
-        return push_encoded(buffer, text);
-    }
     push_length(buffer, CountedKind::Text, text.len() as u64);
     buffer.push(text.as_bytes());
     true
+}
+
+// Pushes a string, if it surely fits into the buffer, and returns whether it was pushed.
+fn push_text(buffer: &mut FixedBuffer, text: &str) -> bool
+    requires { 17 ≤ room buffer.old }
+    ensures pushed { result ≡ true
+        → buffer.new ≡ buffer.old ++ scalar_form (trees.String text.now) }
+    ensures unchanged { result ≡ false → buffer.new ≡ buffer.old }
+{
+    if is_ascii_text(text) {
+        push_ascii(buffer, text)
+    } else {
+        push_encoded(buffer, text)
+    }
 }
 
 // Pushes a string, given its units in UTF-16, if it surely fits into the buffer, and returns
@@ -243,6 +255,7 @@ pub fn push_scalar(buffer: &mut FixedBuffer, scalar: ScalarRef<'_>) -> bool
     ensures unchanged { result ≡ false → buffer.new ≡ buffer.old }
 {
     match scalar {
+        ScalarRef::AsciiString(text) => return push_ascii(buffer, text),
         ScalarRef::String(text) => return push_text(buffer, text),
         ScalarRef::WideString(units) => return push_wide(buffer, units),
         ScalarRef::Data(bytes) => return push_data(buffer, bytes),

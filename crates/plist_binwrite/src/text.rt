@@ -10,6 +10,7 @@ ghost use Rattle.plist_binwrite.specs.Forms.{length_form, scalar_form, table_for
 ghost use Rattle.plist_base.specs.FixedBuffers.{room};
 ghost use Rattle.plist_base.specs.Sinks.{Puts};
 ghost use Rattle.plist_base.specs.Writing.{answer_of};
+ghost use Rattle.plist_buffer.specs.AsciiTexts.{is_ascii_text};
 ghost use Rattle.plist_buffer.specs.StoredScalars.{IsWide};
 ghost use Rattle.std.specs.List.{sum_by};
 ghost use Rattle.plist_binwrite.specs.inner.Layout.{PushesUnits};
@@ -112,10 +113,10 @@ pub fn count_units(text: &str) -> usize
     count
 }
 
-// Puts a string whose bytes are all ASCII.
-fn put_ascii<W: Write>(sink: &mut Sink<'_, W>, text: &str) -> Result<(), Error>
-    ensures { Puts W.contents sink.old
-        (length_form CountedKind.Text (length text.now) ++ text.now) (answer_of result) sink.new }
+/// Puts a string in ASCII. An error is that of [`Sink::put`].
+pub fn put_ascii<W: Write>(sink: &mut Sink<'_, W>, text: &str) -> Result<(), Error>
+    requires { is_ascii_text text.now ≡ true }
+    ensures { Puts W.contents sink.old (scalar_form (String text.now)) (answer_of result) sink.new }
 {
     let count = text.len();
     put_length(sink, CountedKind::Text, count as u64)?;

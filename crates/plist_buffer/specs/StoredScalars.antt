@@ -1,5 +1,5 @@
 -- The scalars of a table, as contracts describe them.
-use Rattle.std.specs.Prelude.{◌≡◌, ℕ, List, false, map, pos, ⊤}
+use Rattle.std.specs.Prelude.{◌≡◌, ℕ, List, false, true, map, pos, ⊤}
 use Rattle.plist_base.specs.Events.{PlainEvent, ScalarEvent}
 use Rattle.plist_base.specs.Trees.{Scalar, Boolean, Data, Date, Integer, Real, String, Uid}
 use Rattle.plist_buffer.specs.ShortContents.{short_data, short_string}
@@ -14,6 +14,7 @@ use Rattle.plist_buffer.specs.inner.LongContents.{scalar_of_content}
 
 -- the scalar that a `ScalarRef` refers to
 abbrev pub scalar_of_ref : ScalarRef → Scalar
+scalar_of_ref (lent.AsciiString text) = String text.now
 scalar_of_ref (lent.Boolean value) = Boolean value
 scalar_of_ref (lent.Data bytes) = Data bytes.now
 scalar_of_ref (lent.Date date) = Date date
@@ -28,8 +29,10 @@ pub record IsWide (units : List ℕ) : Type 0 where
   pub valid : IsUtf16 units
   pub wide : is_ascii_text (utf8_of_utf16 units) ≡ false
 
--- if the scalar is given as a string in UTF-16, it is one, and isn't ASCII
+-- if the scalar is given as a string in ASCII, it is one; if it is given as a string in UTF-16, it
+-- is one, and isn't ASCII
 abbrev pub IsStored : ScalarRef → Type 0
+IsStored (lent.AsciiString text) = is_ascii_text text.now ≡ true
 IsStored (lent.WideString units) = IsWide units.now
 IsStored other = ⊤
 

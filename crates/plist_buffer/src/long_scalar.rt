@@ -284,9 +284,9 @@ impl<'e> LongScalar<'e> {
         ensures stored { IsStored result }
     {
         match &self.content {
-            LongContent::ShortString(text) => ScalarRef::String(text.as_str()),
-            LongContent::BorrowedString(text) => ScalarRef::String(text),
-            LongContent::OwnedString(text) => ScalarRef::String(text.as_str()),
+            LongContent::ShortString(text) => ScalarRef::AsciiString(text.as_str()),
+            LongContent::BorrowedString(text) => ScalarRef::AsciiString(text),
+            LongContent::OwnedString(text) => ScalarRef::AsciiString(text.as_str()),
             LongContent::ShortWide(text) => ScalarRef::WideString(text.get().as_bytes()),
             LongContent::BorrowedWide(text) => ScalarRef::WideString(text.as_bytes()),
             LongContent::OwnedWide(text) => ScalarRef::WideString(text.get().as_bytes()),

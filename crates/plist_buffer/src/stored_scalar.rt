@@ -5,6 +5,8 @@ use plist_base::{Date, Integer, RealBits, Uid};
 /// A scalar whose string or data is borrowed.
 #[derive(Clone, Copy)]
 pub enum ScalarRef<'a> {
+    /// A string in ASCII.
+    AsciiString(&'a str),
     /// A Boolean.
     Boolean(bool),
     /// Bytes.
@@ -15,7 +17,7 @@ pub enum ScalarRef<'a> {
     Integer(Integer),
     /// The bytes of a real.
     Real(RealBits),
-    /// A string, which is ASCII or has at most eight bytes if it is from a table.
+    /// A string, which has at most eight bytes if it is from a table.
     String(&'a str),
     /// The number of an object in a keyed archive.
     Uid(Uid),

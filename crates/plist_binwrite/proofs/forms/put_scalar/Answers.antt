@@ -6,6 +6,10 @@ pub returns-in_err-make_room : goal.returns-in_err-make_room
 returns-in_err-make_room g c =
     puts_refused _ _ _ c.from_residual.ensures.1 c.in_err-make_room.ensures.put
 
+pub returns-in-AsciiString : goal.returns-in-AsciiString
+returns-in-AsciiString g c =
+    rw c.in-AsciiString.is (puts_then c.in_ok-make_room.ensures.put c.put_ascii.ensures)
+
 pub returns-in-String : goal.returns-in-String
 returns-in-String g c =
     rw c.in-String.is (puts_then c.in_ok-make_room.ensures.put c.put_text.ensures)
