@@ -67,13 +67,6 @@ pub record CollectsItems (items : Option (List Item)) (answer : Result Bool Erro
   pub none : IfOkIs answer false (IfSome items (λ all. (tree : Tree) → AreItemsOfTree all tree → ⊥))
   pub refused : IfErr answer (λ error. IsReadIfKnown items (Err (fault_of error)))
 
--- what collecting the events of a source does; `reads` says how the source was read
-pub record CollectsSource {S : Type 0} (known : S → Option (List ℕ)) (source : S)
-    (reads : Result Bool Error → (held : List PlainEvent) → Type 0) (answer : Result Bool Error)
-    (held : List PlainEvent) : Type 0 where
-  pub collects : CollectsItems (option_map items_of_input (known source)) answer held
-  pub answers : reads answer held
-
 module _ {I : Type 0} (gives : I → PlainItem → I → Type 0) where
   -- The source yielded events, and then nothing, or one that isn't buffered. If the result is
   -- `true`, nothing followed them, and they are buffered. Or the source yielded the error that is

@@ -8,7 +8,7 @@ ghost use Rattle.plist_binwrite.specs.Files.{least_files};
 ghost use Rattle.plist_binwrite.specs.SendingAs.{SendsAs};
 ghost use Rattle.plist_buffer.specs.EventBuffers.{buffered_events};
 ghost use Rattle.plist_reader.specs.Reader.{items_of_input};
-ghost use Rattle.plist_commands.specs.Converting.{CollectsSource, Converts, ConvertsSource, HoldsTree, IfOkIs, ReadsSource};
+ghost use Rattle.plist_commands.specs.Converting.{CollectsItems, Converts, ConvertsSource, HoldsTree, IfOkIs, ReadsSource};
 ghost use Rattle.plist_commands.specs.CollectorSteps.{IsEmpty, collected};
 ghost use Rattle.plist_commands.specs.declared.convert.FastPath.TheVariants.{Sent};
 
@@ -47,8 +47,9 @@ fn collect_source<S: Source>(
     collector: &mut Collector,
 ) -> Result<bool, Error>
     requires empty { IsEmpty collector.old }
-    ensures { CollectsSource S.known source (ReadsSource S.known S.failures source) result
+    ensures collects { CollectsItems (option_map items_of_input (S.known source)) result
         (collected collector.new) }
+    ensures answers { ReadsSource S.known S.failures source result (collected collector.new) }
 {
     let mut reader = Reader::new(alloc, source);
     collector.pauses = true;
