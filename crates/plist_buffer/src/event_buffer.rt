@@ -238,7 +238,6 @@ impl EventBuffer {
             return self.add_waiting(scalar);
         }
         self.append_if_any()?;
-        self.held.make_room();
         self.held.push_copy(alloc, event)?;
         self.expects = next_expected(change, self.expects, &self.held);
         Ok(())
@@ -263,7 +262,6 @@ impl EventBuffer {
         ensures whole { OnErr result (is_whole self.new ≡ is_whole self.old) }
     {
         self.append_if_any()?;
-        self.held.make_room();
         self.held.copy_long(alloc, text)?;
         self.expects = next_expected(change, self.expects, &self.held);
         Ok(())

@@ -128,7 +128,7 @@ impl<'e> EventTable<'e> {
 
     // Reserves memory for the expected scalars once a table of different scalars is full.
     #[inline(always)]
-    pub(crate) fn make_room(&mut self)
+    fn make_room(&mut self)
         ensures events { plain_events self.new ≡ plain_events self.old }
         ensures scalars { lists_in self.new ≡ lists_in self.old }
     {
@@ -316,6 +316,7 @@ impl<'e> EventTable<'e> {
         ensures kept { OnOk result (KeepsScalars (lists_in self.old) (lists_in self.new)) }
         ensures unchanged { OnErr result (plain_events self.new ≡ plain_events self.old) }
     {
+        self.make_room();
         let before = self.small.len();
         match self.small.insert_full(scalar) {
             Ok((index, _)) => {
@@ -340,6 +341,7 @@ impl<'e> EventTable<'e> {
         ensures events { OnOk result (GrowsBy self.old (event_of_long scalar.entry) self.new) }
         ensures unchanged { OnErr result (plain_events self.new ≡ plain_events self.old) }
     {
+        self.make_room();
         let before = self.long.len();
         match self.long.insert_full(scalar) {
             Ok((index, _)) => {

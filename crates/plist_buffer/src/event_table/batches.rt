@@ -65,10 +65,7 @@ impl<'e> EventTable<'e> {
     {
         match found {
             Some(index) => self.repeat_small(index),
-            None => {
-                self.make_room();
-                self.push_small(scalar)
-            }
+            None => self.push_small(scalar),
         }
     }
 

@@ -10,7 +10,7 @@ invariant_of-self-2 c =
     let settled = c.append_if_any.ensures in
     let next = after_appending c.args.self.now c.append_if_any.new.self settled.events settled.expects
     (event_of c.args.event) c.in_ok-append_if_any.ensures.settled c.requires.still
-    c.requires.accepted (rw c.make_room.ensures.events at c.in_ok-push_copy.ensures.events)
+    c.requires.accepted c.in_ok-push_copy.ensures.events
     c.requires.change c.next_expected-self.ensures in
     record {
       wanted = next.expects;
@@ -22,7 +22,7 @@ returns-clause-taken c =
     let settled = c.append_if_any.ensures in
     let next = after_appending c.args.self.now c.append_if_any.new.self settled.events settled.expects
     (event_of c.args.event) c.in_ok-append_if_any.ensures.settled c.requires.still
-    c.requires.accepted (rw c.make_room.ensures.events at c.in_ok-push_copy.ensures.events)
+    c.requires.accepted c.in_ok-push_copy.ensures.events
     c.requires.change c.next_expected-self.ensures in
     (next.more, next.whole)
 

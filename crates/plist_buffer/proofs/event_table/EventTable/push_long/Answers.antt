@@ -1,4 +1,4 @@
-use Rattle.std.proofs.Common.{rules, take, ap, ◌∙◌, arith, length, refl}
+use Rattle.std.proofs.Common.{rules, take, ap, ◌∙◌, arith, length, refl, sym}
 use Rattle.plist_buffer.specs.EventTable.{lists_in}
 use Rattle.plist_buffer.specs.StoredScalars.{event_of_long}
 use Rattle.plist_buffer.specs.inner.Entries.{events_of_entries, lists_of}
@@ -11,7 +11,7 @@ use Rattle.plist_buffer.proofs.event_table.EventTable.push_long.Goals.{in-Ok+in-
 
 pub invariant_of-self : goal.invariant_of-self
 invariant_of-self c =
-    let s = c.args.self.now in
+    let s = c.make_room.new.self in
     record {
       kept = rw c.in-Ok-push.ensures.pushed
           (kept_scalar s.kept refl (grown_long s.small.keys s.long.keys _ c.args.scalar _ c.in-Ok.ensures.keys
@@ -21,7 +21,7 @@ invariant_of-self c =
 
 pub invariant_of-self-in-Err-push : goal.invariant_of-self-in-Err-push
 invariant_of-self-in-Err-push c =
-    let s = c.args.self.now in
+    let s = c.make_room.new.self in
     let keys = c.insert_full.new.self.keys in
     let back
     = c.truncate.ensures.keys ∙ ap (λ n. take n keys) c.len-before.ensures.len
@@ -33,10 +33,10 @@ invariant_of-self-in-Err-push c =
 
 pub returns-clause-events : goal.returns-clause-events
 returns-clause-events c =
-    let s = c.args.self.now in
+    let s = c.make_room.new.self in
     elim c.match-insert_full.branch [
       | in-Ok+in-Ok-push w ↦
-          rw (w.result-is, w.self-is, w.in-Ok-push.ensures.pushed)
+          rw (w.result-is, w.self-is, sym c.make_room.ensures.events, w.in-Ok-push.ensures.pushed)
           (scalar_shown s.kept refl (grown_long s.small.keys s.long.keys _ c.args.scalar _
           w.in-Ok.ensures.keys s.kept.apart w.in-Ok.ensures.unique w.in-Ok.index
           w.in-Ok.ensures.stored))
@@ -46,7 +46,7 @@ returns-clause-events c =
 
 pub returns-clause-unchanged : goal.returns-clause-unchanged
 returns-clause-unchanged c =
-    let s = c.args.self.now in
+    let s = c.make_room.new.self in
     let keys = c.insert_full.new.self.keys in
     elim c.match-insert_full.branch [
       | in-Ok+in-Ok-push w ↦ rw w.result-is tt
@@ -54,7 +54,7 @@ returns-clause-unchanged c =
           let back
           = w.truncate.ensures.keys ∙ ap (λ n. take n keys) c.len-before.ensures.len
           ∙ keys_back long_eq event_of_long _ s.long.keys keys c.args.scalar w.in-Ok.ensures.keys in
-          rw (w.result-is, w.self-is)
+          rw (w.result-is, w.self-is, sym c.make_room.ensures.events)
           (ap (λ l. events_of_entries (lists_of s.small.keys l) w.push.new.self) back
           ∙ ap (events_of_entries (lists_in s)) w.in-Err-push.ensures.unchanged)
       | in-Err w ↦ rw (w.result-is, w.self-is) (search rules)

@@ -1,4 +1,4 @@
-use Rattle.std.proofs.Common.{take, ap, ◌∙◌, arith, length, refl}
+use Rattle.std.proofs.Common.{take, ap, ◌∙◌, arith, length, refl, sym}
 use Rattle.plist_buffer.specs.StoredScalars.{event_of_small}
 use Rattle.plist_buffer.proofs.SameScalars.{small_eq}
 use Rattle.plist_buffer.proofs.EntryEvents.{kept_scalar, scalar_shown}
@@ -8,7 +8,7 @@ use Rattle.plist_buffer.proofs.event_table.EventTable.push_small.Goals as goal
 
 pub invariant_of-self : goal.invariant_of-self
 invariant_of-self c =
-    let s = c.args.self.now in
+    let s = c.make_room.new.self in
     record {
       kept = rw c.in-Ok-push.ensures.pushed
           (kept_scalar s.kept refl (grown_small s.small.keys _ s.long.keys c.args.scalar _ c.in-Ok.ensures.keys
@@ -18,7 +18,7 @@ invariant_of-self c =
 
 pub invariant_of-self-in-Err-push : goal.invariant_of-self-in-Err-push
 invariant_of-self-in-Err-push c =
-    let s = c.args.self.now in
+    let s = c.make_room.new.self in
     let keys = c.insert_full.new.self.keys in
     let back
     = c.truncate.ensures.keys ∙ ap (λ n. take n keys) c.len-before.ensures.len
@@ -30,13 +30,14 @@ invariant_of-self-in-Err-push c =
 
 pub returns-in-Ok-push-clause-events : goal.returns-in-Ok-push-clause-events
 returns-in-Ok-push-clause-events c =
-    let s = c.args.self.now in
-    rw c.in-Ok-push.ensures.pushed
+    let s = c.make_room.new.self in
+    rw (sym c.make_room.ensures.events, c.in-Ok-push.ensures.pushed)
     (scalar_shown s.kept refl (grown_small s.small.keys _ s.long.keys c.args.scalar _ c.in-Ok.ensures.keys
     s.kept.apart c.in-Ok.ensures.unique c.in-Ok.index c.in-Ok.ensures.stored))
 
 pub returns-in-Ok-push-clause-kept : goal.returns-in-Ok-push-clause-kept
 returns-in-Ok-push-clause-kept c =
-    let s = c.args.self.now in
+    let s = c.make_room.new.self in
+    rw (sym c.make_room.ensures.scalars)
     (grown_small s.small.keys _ s.long.keys c.args.scalar _ c.in-Ok.ensures.keys s.kept.apart
     c.in-Ok.ensures.unique c.in-Ok.index c.in-Ok.ensures.stored).keeps
