@@ -1,26 +1,28 @@
 -- The numbers of collections: each closed collection has one of its own.
 use Rattle.std.proofs.Common.{◌≡◌, ◌≢◌, ◌==◌, ℕ, zero, suc, ◌+◌, ◌-◌, ◌<◌, ◌≤◌, if◌then◌else◌, List, [], ◌∷◌, ◌++◌, false, length, drop, get_or, map, take, Option, None, Some, inl, inr, refl, ap, sym, ◌∙◌, subst, arith, length-append, append_assoc}
 use Rattle.std.proofs.lemmas.Bool.{ne_eqb}
-use Rattle.std.proofs.lemmas.Bool.Decides.{eqb_tells}
+use Rattle.std.proofs.lemmas.Bool.Decides.{eqb_tells, leb_tells}
 use Rattle.std.proofs.Math.ListN.{get_or-map}
 use Rattle.std.proofs.lemmas.List.{get_or_default, length-map, take_all}
-use Rattle.plist_base.specs.Bracketing.{lengthless_items, lengthless_pairs}
+use Rattle.plist_base.specs.Bracketing.{lengthless, lengthless_items, lengthless_pairs}
 use Rattle.plist_base.specs.Events.{PlainEvent, EndCollection, ScalarEvent, StartArray, StartDictionary}
-use Rattle.plist_base.specs.Trees.{Tree, Leaf, Array, Dictionary, Trees, Members}
-use Rattle.plist_buffer.specs.EventTable.{EndsCollection, HasItem, IsBracketed, collection_number, count_collections, event_at, lists_in, plain_events}
-use Rattle.plist_buffer.specs.Occurrences.{event_count, OccursAt}
+use Rattle.plist_base.specs.Trees.{Tree, Leaf, Array, Dictionary, Trees, NoTrees, TreeAnd, Members, NoMembers, MemberAnd}
+use Rattle.plist_buffer.specs.EventTable.{EndsCollection, HasItem, IsBracketed, collection_number, count_collections, event_at, is_end, lists_in, plain_events}
+use Rattle.plist_buffer.specs.Occurrences.{event_count, OccursAt, ItemsOccurAt, PairsOccurAt}
 use Rattle.plist_buffer.specs.declared.entries.EntryKind.{EntryKind}
 use Rattle.plist_buffer.specs.declared.entries.EntryKind.TheVariants as kind
 use Rattle.plist_buffer.specs.declared.event_table.EventTable.{EventTable}
+use Rattle.plist_buffer.specs.declared.entries.EventEntry.{EventEntry}
 use Rattle.plist_buffer.specs.declared.entries.EventEntry.TheVariants as entry
-use Rattle.plist_buffer.specs.inner.Columns.{ends_in, kind_in, one_if_end}
+use Rattle.plist_buffer.specs.declared.entries.ScalarNumber.TheVariants.{Small}
+use Rattle.plist_buffer.specs.inner.Columns.{ends_before, ends_in, kind_in, one_if_end}
 use Rattle.plist_buffer.specs.inner.UnclosedStarts.{skip_after, skip_after_event, skip_from, unclosed_after_event}
 use Rattle.plist_buffer.proofs.OpenStarts.{skip_ends, skip_forward}
 use Rattle.plist_buffer.proofs.EntryEvents.{end_there, long_shown, lt}
-use Rattle.plist_buffer.specs.inner.Entries.{is_leaf}
-use Rattle.plist_buffer.proofs.TreeOccurrences.{occurs_whole, past}
+use Rattle.plist_buffer.specs.inner.Entries.{entry_at, event_of_entry, is_leaf}
+use Rattle.plist_buffer.proofs.TreeOccurrences.{occurs_items, occurs_item, occurs_key, occurs_next, occurs_next_pair, occurs_pairs, occurs_value, occurs_whole, past}
 use Rattle.plist_buffer.proofs.TreePositions.{Stands, positions_all, positions_stand}
-use Rattle.plist_buffer.proofs.TreeStarts.{first_event, occurs_in, stands_single}
+use Rattle.plist_buffer.proofs.TreeStarts.{begins, first_event, occurs_in, stands_single}
 use Rattle.plist_buffer.proofs.Uniques.{all_from}
 
 -- ---- the start that an event closes
@@ -96,6 +98,21 @@ ends_rise (k ∷ kinds) zero (suc b) is lt le = omega (arith, ap one_if_end is)
 ends_rise (k ∷ kinds) (suc a) (suc b) is lt le =
     omega (arith, ends_rise kinds a b is (omega (arith, lt)) (omega (arith, le)))
 
+-- each number below that of the ends belongs to an end
+nth_end : (entries : List EventEntry) (c : ℕ) → c < ends_in (map kind_in entries)
+    → (r : ℕ) × (r < length entries) × (entry_at entries r ≡ entry.End) × (ends_before entries r ≡ c)
+nth_end [] c lt = absurd (omega (arith, lt))
+nth_end (entry.End ∷ entries) zero lt = (0, omega arith, refl, refl)
+nth_end (entry.End ∷ entries) (suc c) lt =
+    let more = nth_end entries c (omega (arith, lt)) in
+    (suc more.0, omega (arith, more.1), more.2, omega (arith, more.3))
+nth_end (entry.Scalar (Small i) ∷ entries) c lt =
+    let more = nth_end entries c (omega (arith, lt)) in
+    (suc more.0, omega (arith, more.1), more.2, omega (arith, more.3))
+nth_end (e ∷ entries) c lt =
+    let more = nth_end entries c (omega (arith, lt)) in
+    (suc more.0, omega (arith, more.1), more.2, omega (arith, more.3))
+
 -- ---- the collections of a table
 
 -- the tree is a collection that begins at an index
@@ -159,6 +176,56 @@ last_event es (Dictionary ms) p s =
     end_before es p (StartDictionary None) (lengthless_pairs ms) s.occurs.rest s.occurs.is
     (skip_ends es (Dictionary ms) p s.occurs)
 
+-- ---- each end closes a collection
+
+module _ (es : List PlainEvent) where
+  -- a collection ends with the event at index r
+  abbrev IsClosedBy : (r : ℕ) → Type 0
+  IsClosedBy r = (p : ℕ) × (t : Tree) × IsCollectionAt es t p × (p + event_count t ≡ suc r)
+
+  -- no tree begins at an end
+  begins_apart : (t : Tree) (p r : ℕ) → OccursAt es t p → event_at es r ≡ EndCollection → p ≢ r
+  begins_apart t p r s ends same = cc (begins t p s, ap is_end ends, ap (event_at es) same)
+
+  mutual
+    closed_in : (t : Tree) (p r : ℕ) → OccursAt es t p → event_at es r ≡ EndCollection → p ≤ r
+        → r < p + event_count t → IsClosedBy r
+    closed_in (Leaf x) p r s ends le lt =
+        absurd (begins_apart (Leaf x) p r s ends (omega (arith, le, lt)))
+    closed_in (Array ts) p r s ends le lt = elim (eqb_tells (p + event_count (Array ts)) (suc r)) [
+      | inl last ↦ (p, Array ts, array_at s, last.1)
+      | inr other ↦ closed_in_items ts (p + 1) r (occurs_items s) ends
+          (omega (arith, le, begins_apart (Array ts) p r s ends))
+          (omega (arith, lt, other.1, length-append (lengthless_items ts) (EndCollection ∷ [])))
+    ]
+    closed_in (Dictionary ms) p r s ends le lt =
+        elim (eqb_tells (p + event_count (Dictionary ms)) (suc r)) [
+          | inl last ↦ (p, Dictionary ms, dictionary_at s, last.1)
+          | inr other ↦ closed_in_pairs ms (p + 1) r (occurs_pairs s) ends
+              (omega (arith, le, begins_apart (Dictionary ms) p r s ends))
+              (omega (arith, lt, other.1, length-append (lengthless_pairs ms) (EndCollection ∷ [])))
+        ]
+
+    closed_in_items : (ts : Trees) (q r : ℕ) → ItemsOccurAt es ts q → event_at es r ≡ EndCollection
+        → q ≤ r → r < q + length (lengthless_items ts) → IsClosedBy r
+    closed_in_items NoTrees q r s ends le lt = absurd (omega (arith, le, lt))
+    closed_in_items (TreeAnd t ts) q r s ends le lt = elim (leb_tells (q + event_count t) r) [
+      | inl after ↦ closed_in_items ts (q + event_count t) r (occurs_next s) ends after.1
+          (omega (arith, lt, length-append (lengthless t) (lengthless_items ts)))
+      | inr within ↦ closed_in t q r (occurs_item s) ends le within.1
+    ]
+
+    closed_in_pairs : (ms : Members) (q r : ℕ) → PairsOccurAt es ms q
+        → event_at es r ≡ EndCollection → q ≤ r → r < q + length (lengthless_pairs ms)
+        → IsClosedBy r
+    closed_in_pairs NoMembers q r s ends le lt = absurd (omega (arith, le, lt))
+    closed_in_pairs (MemberAnd k t ms) q r s ends le lt = elim (leb_tells (q + 1 + event_count t) r) [
+      | inl after ↦ closed_in_pairs ms (q + 1 + event_count t) r (occurs_next_pair s) ends after.1
+          (omega (arith, lt, length-append (lengthless t) (lengthless_pairs ms)))
+      | inr within ↦ closed_in t (q + 1) r (occurs_value s) ends
+          (omega (arith, le, begins_apart _ q r (occurs_key s) ends)) within.1
+    ]
+
 module _ (held : EventTable) where
   abbrev es : List PlainEvent
   es = plain_events held
@@ -214,3 +281,16 @@ module _ (held : EventTable) where
       (λ h. omega (arith, h, skip_ends es t p s.occurs, s.large))
       ends
       (λ h. omega (arith, h, ends, skip_ends es u q r.occurs, r.large))
+
+  -- each number below that of the collections belongs to a collection
+  pub number_used : IsBracketed es → (c : ℕ) → c < count_collections held
+      → (p : ℕ) × (t : Tree) × IsCollectionAt es t p × (collection_number held p ≡ c)
+  number_used (whole, is) c lt =
+      let found = nth_end held.entries c lt in
+      let ends : event_at es found.0 ≡ EndCollection =
+      get_or-map (event_of_entry (lists_in held)) held.entries found.0 entry.End
+      ∙ ap (event_of_entry (lists_in held)) found.2 in
+      let (p, t, s, last) = closed_in es whole 0 found.0 (occurs_whole is) ends (omega arith)
+      (omega (arith, found.1, long_shown (lists_in held) held.entries, ap length is)) in
+      let at : skip_after es p - 1 ≡ found.0 = omega (arith, skip_ends es t p s.occurs, last) in
+      (p, t, s, ap (ends_before held.entries) at ∙ found.3)

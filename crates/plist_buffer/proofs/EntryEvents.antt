@@ -2,11 +2,11 @@
 use Rattle.std.proofs.Common.{◌≡◌, eqb, ◌⊎◌, inl, inr, ℕ, zero, suc, ◌+◌, ◌-◌, ◌^◌, ◌<◌, Bool, true, false, if◌then◌else◌, ◌≤◌, Option, None, Some, Result, Ok, Err, OnOk, OnErr, List, [], ◌∷◌, ◌++◌, length, set, slice_get, reverse, refl, ap, sym, ◌∙◌, subst, arith}
 use Rattle.std.proofs.Math.ListN.{get_or-append}
 use Rattle.std.proofs.Math.Seq.{get_or-append_seam, map-set_same}
-use Rattle.std.proofs.lemmas.Bool.{eq-eqb, ne_eqb}
+use Rattle.std.proofs.lemmas.Bool.{eq-eqb, eqb-true, ne_eqb}
 use Rattle.std.proofs.lemmas.Bool.Decides.{eqb_tells, leb_tells}
-use Rattle.std.proofs.lemmas.List.{length-map, length-append, length-set, map-append, reverse-append, get_or-map, get_or_past}
-use Rattle.std.proofs.lemmas.List.Folds.{list_any-append, list_any_at}
-use Rattle.std.proofs.lemmas.Option.{slice_get_within}
+use Rattle.std.proofs.lemmas.List.{length-map, length-append, length-set, map-append, reverse-append, get_or-map, get_or_default, get_or_past}
+use Rattle.std.proofs.lemmas.List.Folds.{Any-from_list_any, list_any-append, list_any_at}
+use Rattle.std.proofs.lemmas.Option.{slice_get-get_or, slice_get_within}
 use Rattle.std.specs.List.{list_any}
 use Rattle.std.specs.Option.{unwrap_or}
 use Rattle.std.specs.Prelude.{◌||◌}
@@ -15,7 +15,7 @@ use Rattle.plist_base.specs.Events.{PlainEvent, EndCollection, ScalarEvent}
 use Rattle.plist_base.specs.Trees.{Scalar}
 use Rattle.plist_buffer.specs.declared.entries.EventEntry.{EventEntry}
 use Rattle.plist_buffer.specs.declared.entries.EventEntry.TheVariants as entry
-use Rattle.plist_buffer.specs.EventTable.{event_at, is_end}
+use Rattle.plist_buffer.specs.EventTable.{HasItem, event_at, is_end}
 use Rattle.plist_buffer.specs.declared.entries.ScalarNumber.{ScalarNumber}
 use Rattle.plist_buffer.specs.declared.entries.ScalarNumber.TheVariants.{Small, Long}
 use Rattle.plist_buffer.specs.inner.Columns.{scalar_named, index_of_number}
@@ -83,6 +83,14 @@ pub stored_among_all : (scalars : ScalarLists) (number : ScalarNumber) (e : Plai
     → slice_get (all_scalars scalars) (index_of_number scalars number) ≡ Some e
 stored_among_all scalars (Small i) e h = first_of_both scalars.small scalars.long i e h
 stored_among_all scalars (Long i) e h = second_of_both scalars.small scalars.long i e h
+
+-- an entry that refers to the scalar with a number names the scalar's index
+index_named : (scalars : ScalarLists) (number : ScalarNumber) (e : EventEntry)
+    → names number e ≡ true → scalar_named scalars e ≡ Some (index_of_number scalars number)
+index_named scalars (Small i) (entry.Scalar (Small j)) h = ap Some (eqb-true j i h)
+index_named scalars (Long i) (entry.Scalar (Long j)) h =
+    ap (λ n. Some (length scalars.small + n)) (eqb-true j i h)
+index_named scalars number e h = cc
 
 -- different numbers have different indices
 same_numbers : (scalars : ScalarLists) (m n : ScalarNumber) (d e : PlainEvent)
@@ -501,3 +509,28 @@ module _ {scalars : ScalarLists} {es : List EventEntry} {unclosed : List ℕ}
             cc (scalar_leaf is, ap is_leaf (next (ap (index_after_entry index) is)))
         by entry.End is = cc (begins, ap is_end (next (ap (index_after_entry index) is)))
         by e is = ap is_start is
+
+  -- the scalar with a number is at an index
+  number_used : (number : ScalarNumber) (e : PlainEvent) → scalar_numbered scalars number ≡ Some e
+      → (p : ℕ) × HasItem (events_of_entries scalars es) p
+      × (scalar_named scalars (entry_at es p) ≡ Some (index_of_number scalars number))
+  number_used number e stored =
+      let (p, found, lt, is, refers) = Any-from_list_any (names number) es (kept.used number e stored) in
+      let here : p < length (events_of_entries scalars es) = omega (arith, lt, long_shown scalars es) in
+      let named : scalar_named scalars (entry_at es p) ≡ Some (index_of_number scalars number) =
+      ap (scalar_named scalars) (get_or_default es p entry.End found lt ∙ is)
+      ∙ index_named scalars number found refers in
+      (p, (here, ap is_end (leaf_is _ (scalar_is_leaf here named)).1), named)
+
+  -- each of the different scalars is at an index
+  pub scalar_used : (k : ℕ) → k < length (all_scalars scalars) → (p : ℕ)
+      × HasItem (events_of_entries scalars es) p × (scalar_named scalars (entry_at es p) ≡ Some k)
+  scalar_used k within = elim (leb_tells (length scalars.small) k) [
+    | inl after ↦
+        let j = k - length scalars.small in
+        let sum : length scalars.small + j ≡ k = omega (arith, after.1) in
+        let (p, item, named) = number_used (Long j) _ (slice_get-get_or scalars.long j EndCollection
+        (omega (arith, within, sum, length-append scalars.small scalars.long))) in
+        (p, item, named ∙ ap Some sum)
+    | inr before ↦ number_used (Small k) _ (slice_get-get_or scalars.small k EndCollection before.1)
+  ]
