@@ -1,17 +1,18 @@
 -- The objects that events have, and the classes of events.
-use Rattle.std.proofs.Common.{◌≡◌, ◌↔◌, inr, ℕ, ◌+◌, ◌<◌, Bool, false, eqb, List, length, refl, ap, arith}
-use Rattle.std.proofs.lemmas.Bool.Decides.{eqb_tells}
+use Rattle.std.proofs.Common.{◌≡◌, ◌↔◌, inl, inr, ℕ, ◌+◌, ◌-◌, ◌<◌, Bool, false, eqb, List, length, refl, ap, arith}
+use Rattle.std.proofs.lemmas.Bool.Decides.{eqb_tells, leb_tells}
 use Rattle.plist_base.specs.Events.{PlainEvent}
 use Rattle.plist_base.specs.Scalars.{scalar_eq}
 use Rattle.plist_base.specs.Trees.{Tree, Leaf, Array, Dictionary}
 use Rattle.plist_buffer.specs.Occurrences.{OccursAt}
 use Rattle.plist_binwrite.specs.EventClasses.{scalar_class}
-use Rattle.plist_buffer.specs.EventTable.{count_collections, plain_events, scalars_of}
+use Rattle.plist_buffer.specs.EventTable.{HasItem, IsBracketed, count_collections, plain_events, scalars_of}
 use Rattle.plist_buffer.specs.declared.event_table.EventTable.{EventTable}
 use Rattle.plist_binwrite.specs.inner.Scalars.{Identity, identity_of, shared, alone, AreIdentities}
-use Rattle.plist_buffer.proofs.CollectionNumbers.{IsCollectionAt, array_at, dictionary_at, number_below, numbers_apart}
-use Rattle.plist_binwrite.proofs.ScalarClasses.{collection_class, leaf_below, leaves_same}
+use Rattle.plist_buffer.proofs.CollectionNumbers.{IsCollectionAt, array_at, dictionary_at, number_below, number_used, numbers_apart}
+use Rattle.plist_binwrite.proofs.ScalarClasses.{collection_class, leaf_below, leaf_used, leaves_same}
 use Rattle.plist_buffer.proofs.SameScalars.{Tells, scalars_tell, tells_made}
+use Rattle.plist_buffer.proofs.TreeStarts.{begins, occurs_in}
 
 abbrev pub owner_eq : Identity → Identity → Bool
 owner_eq (shared a) (shared b) = scalar_eq a b
@@ -85,3 +86,15 @@ module _ (held : EventTable) where
     below = λ t p s. class_below _ p (has_class t p s);
     same = λ t u p q s r. same_class _ _ p q (has_class t p s) (has_class u q r);
   }
+
+  -- each number below that of the different scalars and the collections together is a class
+  pub all_used : IsBracketed es → (k : ℕ) → k < length scalars + count_collections held
+      → (p : ℕ) × HasItem es p × (class p ≡ k)
+  all_used whole k lt = elim (leb_tells (length scalars) k) [
+    | inl after ↦
+        let number = k - length scalars in
+        let (p, t, s, is) = number_used held whole number (omega (arith, lt, after.1)) in
+        let class_is = collection_class held own t p s in
+        (p, (occurs_in s.occurs, begins t p s.occurs), omega (arith, class_is, is, after.1))
+    | inr before ↦ leaf_used held own k before.1
+  ]

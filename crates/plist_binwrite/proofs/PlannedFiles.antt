@@ -1,6 +1,6 @@
 -- A planned file is that of its tree, with one object for each class, and what is written is that
 -- file.
-use Rattle.std.proofs.Common.{◌≡◌, ◌≢◌, ℕ, ◌+◌, ◌-◌, ◌*◌, ◌^◌, ◌<◌, List, [], ◌++◌, length, take, drop, get_or, map, min, Some, Ok, refl, ap, sym, ◌∙◌, arith, ◌≤◌, Option, Result, Err, OnOk, subst}
+use Rattle.std.proofs.Common.{◌≡◌, ◌≢◌, ℕ, ◌+◌, ◌-◌, ◌*◌, ◌^◌, ◌<◌, List, [], ◌++◌, length, take, drop, get_or, map, Some, Ok, refl, ap, sym, ◌∙◌, arith, ◌≤◌, Option, Result, Err, OnOk, subst}
 use Rattle.std.specs.List.{slice_get}
 use Rattle.std.specs.Prelude.{option_map}
 use Rattle.std.proofs.lemmas.List.Elements.{All-from_get_or, recursion_from_All}
@@ -14,17 +14,16 @@ use Rattle.plist_base.proofs.Tables.{length-table_of}
 use Rattle.plist_binwrite.specs.Classes.{IsFileBy, count_by, objects_by, size_by, files_by}
 use Rattle.plist_binwrite.specs.Sizes.{collections_in, object_size, size_with}
 use Rattle.plist_binwrite.specs.Forms.{form, table_form, AllFit, reference_width, least_width}
-use Rattle.plist_binwrite.specs.EventClasses.{class_in, events_in}
+use Rattle.plist_binwrite.specs.EventClasses.{bound_in, class_in, events_in}
 use Rattle.plist_binwrite.specs.inner.Layout.{IsFilePlan, IsLayout, PutsFile, number_of_event}
-use Rattle.plist_binwrite.specs.inner.Numbering.{AreSizes, IsCapped, total_below, IsNumberingOfEvents}
+use Rattle.plist_binwrite.specs.inner.Numbering.{IsCapped, size_below, IsNumberingOfEvents}
 use Rattle.plist_binwrite.specs.declared.plan.Numbering.{Numbering}
-use Rattle.plist_binwrite.proofs.Totals.{total_below_sum}
 use Rattle.plist_buffer.specs.Occurrences.{positions}
 use Rattle.plist_binwrite.specs.Written.{Laid, file_with, laid_out, object_table}
 use Rattle.plist_binwrite.specs.declared.classes.Classed.{Classed}
 use Rattle.plist_binwrite.specs.declared.plan.FilePlan.{FilePlan}
 use Rattle.plist_binwrite.proofs.ClassObjects.{Numbered, numbered, number_apart, number_below}
-use Rattle.plist_binwrite.proofs.PlanClasses.{numbered_count, numbered_size, size_by_numbers}
+use Rattle.plist_binwrite.proofs.PlanClasses.{bound_is_count, numbered_count, numbered_size, size_by_numbers}
 use Rattle.plist_binwrite.proofs.NumberingSteps.{size_told}
 use Rattle.plist_binwrite.proofs.ObjectOffsets.{AllOnce, all_once, length-magic, found_place, object_there, total_bodies}
 use Rattle.plist_binwrite.proofs.Reading.{form_read}
@@ -181,20 +180,16 @@ module _ {plan : FilePlan} (r : IsFilePlan plan) {objects : ℕ → Object} {ord
 
 -- ---- a plan
 
-module _ {given : Classed} {numbering : Numbering} (n : IsNumberingOfEvents given numbering)
-    (size : ℕ)
-    (is : (fixed references : ℕ) → AreSizes numbering.sizes fixed references
-    → IsCapped size (fixed + references * reference_width numbering.count)) where
+module _ {given : Classed} {numbering : Numbering} (n : IsNumberingOfEvents given numbering) where
   -- the size is that of all objects
-  size_is : IsCapped size
-      (total_below (λ k. object_size (reference_width numbering.count) (n.so_far.first k).1) numbering.count)
-  size_is =
-      is _ _ n.so_far.sizes
-      ∙ ap (λ bytes. min bytes (2 ^ 64 - 1)) (sym (total_below_sum _ _ _ numbering.count))
+  size_is : IsCapped numbering.size
+      (size_below (reference_width numbering.count) n.so_far.first numbering.count)
+  size_is = rw (bound_is_count n) at n.so_far.size
 
   -- the file has 2^64 bytes or more
   pub oversized : AreTreeEvents (events_in given)
-      → ((objects : ℕ) → IsCapped size objects → 2 ^ 64 ≤ size_with numbering.count objects)
+      → ((objects : ℕ) → IsCapped numbering.size objects
+      → 2 ^ 64 ≤ size_with numbering.count objects)
       → IsOfTree (events_in given) (λ tree. 2 ^ 64 ≤ size_by (class_in given) tree)
   oversized tree exceeds = (
     complete_of_whole (events_in given) tree,
@@ -203,10 +198,12 @@ module _ {given : Classed} {numbering : Numbering} (n : IsNumberingOfEvents give
   )
 
   -- the numbering is the plan of a file
-  pub plan_made : (width : ℕ) → width ≡ reference_width numbering.count → width ≤ 8
-      → ((objects : ℕ) → IsCapped size objects → size_with numbering.count objects < 2 ^ 64)
+  pub plan_made : (width : ℕ) → width ≡ reference_width (bound_in given) → width ≤ 8
+      → ((objects : ℕ) → IsCapped numbering.size objects
+      → size_with numbering.count objects < 2 ^ 64)
       → IsFilePlan (record { given = given; numbering = numbering; width = width })
-  plan_made width wide narrow fits =
+  plan_made width is narrow fits =
+      let wide = is ∙ ap reference_width (bound_is_count n) in
       record { numbered = n; width = wide; narrow = narrow; small = rw wide (fits _ size_is) }
 
 -- ---- what is put

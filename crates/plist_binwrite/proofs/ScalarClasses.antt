@@ -8,11 +8,11 @@ use Rattle.plist_base.specs.Trees.{Scalar, Tree, Leaf, Array, Dictionary}
 use Rattle.plist_buffer.specs.Occurrences.{OccursAt}
 use Rattle.plist_buffer.proofs.TreeStarts.{occurs_in, stands_single, starts_array, starts_dictionary}
 use Rattle.plist_binwrite.specs.EventClasses.{class_by}
-use Rattle.plist_buffer.specs.EventTable.{collection_number, event_at, lists_in, plain_events, scalars_of}
+use Rattle.plist_buffer.specs.EventTable.{HasItem, collection_number, event_at, lists_in, plain_events, scalars_of}
 use Rattle.plist_buffer.specs.declared.event_table.EventTable.{EventTable}
 use Rattle.plist_buffer.specs.inner.Columns.{scalar_named}
 use Rattle.plist_buffer.specs.inner.Entries.{entry_at, is_leaf}
-use Rattle.plist_buffer.proofs.EntryEvents.{no_scalar, scalar_stored, scalar_is_leaf}
+use Rattle.plist_buffer.proofs.EntryEvents.{no_scalar, scalar_stored, scalar_is_leaf, scalar_used}
 use Rattle.plist_buffer.proofs.CollectionNumbers.{IsCollectionAt}
 
 module _ (held : EventTable) (of_collection : ℕ → ℕ) where
@@ -70,6 +70,12 @@ module _ (held : EventTable) (of_collection : ℕ → ℕ) where
   -- the class of a scalar is less than the number of different scalars
   pub leaf_below : (x : Scalar) (p : ℕ) → OccursAt es (Leaf x) p → class p < length scalars
   leaf_below x p s = slice_get_within scalars (class p) _ (leaf_class x p s)
+
+  -- each number below that of the different scalars is a class
+  pub leaf_used : (k : ℕ) → k < length scalars → (p : ℕ) × HasItem es p × (class p ≡ k)
+  leaf_used k lt =
+      let (p, item, named) = scalar_used held.kept k lt in
+      (p, item, ap (λ o. unwrap_or o (of_collection (collection_number held p))) named)
 
   -- equal scalars have one class
   pub leaves_same : (x y : Scalar) (p q : ℕ) → OccursAt es (Leaf x) p → OccursAt es (Leaf y) q

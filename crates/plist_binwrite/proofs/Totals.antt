@@ -1,5 +1,5 @@
 -- Totals over distinct keys.
-use Rattle.std.proofs.Common.{◌≡◌, ◌⊎◌, inl, inr, ℕ, zero, suc, ◌+◌, ◌*◌, ◌<◌, ◌≤◌, Bool, true, false, not, cond, ◌||◌, ◌&&◌, eqb, List, [], ◌∷◌, length, map, refl, ap, sym, ◌∙◌, subst, arith}
+use Rattle.std.proofs.Common.{◌≡◌, ◌⊎◌, inl, inr, ℕ, zero, suc, ◌+◌, ◌<◌, ◌≤◌, Bool, true, false, not, cond, ◌||◌, ◌&&◌, eqb, List, [], ◌∷◌, length, map, refl, ap, sym, ◌∙◌, subst, arith}
 use Rattle.std.specs.List.{AllByRecursion, IsDistinct, filter, sum_by}
 use Rattle.std.specs.Set.{is_member, unique_keys}
 use Rattle.std.proofs.lemmas.Bool.{or_parts, or_left, and_parts, and_from, eq-eqb, ne_eqb, eqb-true, eqb-false, not-true, not_from_false}
@@ -9,7 +9,6 @@ use Rattle.std.proofs.lemmas.Map.Made.{is_member-filter}
 use Rattle.std.proofs.lemmas.Bool.Decides.{eqb_tells}
 use Rattle.std.proofs.lemmas.List.Recursion.{is_sum_by}
 use Rattle.plist_binwrite.specs.inner.Numbering.{total_below}
-use Rattle.std.proofs.Math.Nat.{add-mul}
 use Rattle.plist_buffer.proofs.Uniques.{few_below}
 
 -- the sum of the weights of a list's items
@@ -28,12 +27,6 @@ total_below_same f g (suc n) same = omega (
   same n (omega arith),
   total_below_same f g n (λ k h. same k (omega (arith, h))),
 )
-
-pub total_below_sum : (f g : ℕ → ℕ) (w n : ℕ)
-    → total_below (λ k. f k + g k * w) n ≡ total_below f n + total_below g n * w
-total_below_sum f g w zero = omega arith
-total_below_sum f g w (suc n) =
-    omega (arith, total_below_sum f g w n, add-mul (g n) (total_below g n) w)
 
 pub count_below : (n : ℕ) → total_below (λ x. 1) n ≡ n
 count_below zero = refl

@@ -14,7 +14,6 @@ use Rattle.plist_binwrite.specs.Forms.{length_form, scalar_form, form, key_numbe
 use Rattle.std.specs.Int.{bytes_high_first}
 use Rattle.plist_buffer.specs.EventTable.{HasItem, LacksItem, is_end, event_at, item_indices, key_indices, value_indices}
 use Rattle.plist_binwrite.specs.Sizes.{object_size}
-use Rattle.plist_binwrite.specs.inner.Numbering.{IsCapped}
 use Rattle.plist_buffer.specs.Children.{half_of}
 use Rattle.plist_buffer.specs.declared.children.Half.TheVariants.{Values}
 use Rattle.plist_binwrite.specs.EventClasses.{events_in}
@@ -180,10 +179,6 @@ module _ (plan : FilePlan) where
         length-values ms (p + 1),
         length-pairs num ms (p + 1),
       ) refl
-
--- a small size is below the cap
-pub capped_small : {number size : ℕ} → number ≡ size → number ≤ 17 → IsCapped number size
-capped_small is small = omega (arith, is, small)
 
 -- an object's form has its size
 pub form_size : (w : ℕ) (num : ℕ → ℕ) (t : Tree) (p : ℕ)

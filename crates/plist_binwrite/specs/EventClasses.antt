@@ -55,8 +55,11 @@ IsListed given = elim given.classes.now [
   | Listed list ↦ HasEachCollection list given.events.now
 ]
 
--- each tree has a class below the bound, and trees of one class have the same object
+-- each tree has a class below the bound, each number below the bound is the class of a tree, and
+-- trees of one class have the same object
 pub record IsClassed (given : Classed) : Type 0 where
   pub listed : IsListed given
   pub below : (p : ℕ) → HasItem (events_in given) p → class_in given p < bound_in given
+  pub used : (k : ℕ) → k < bound_in given
+      → (p : ℕ) × HasItem (events_in given) p × (class_in given p ≡ k)
   pub objects : AreClasses (events_in given) (class_in given)

@@ -1,18 +1,23 @@
 //! Plans a file: a walk over the events numbers the objects, and adds up their sizes. The plan is
 //! complete before the first byte of the file is written.
 
-ghost use Rattle.std.specs.Prelude.{◌≡◌, ◌<◌, ◌≤◌, ◌^◌, ◌⊎◌, ℕ, length, IfOk, IfSome};
+ghost use Rattle.std.specs.Prelude.{◌≡◌, ◌+◌, ◌*◌, ◌<◌, ◌≤◌, ◌^◌, ◌⊎◌, ℕ, length, IfOk, IfSome};
 ghost use Rattle.plist_base.specs.Bracketing.{AreTreeEvents};
+ghost use Rattle.plist_base.specs.Events.{ScalarEvent};
 ghost use Rattle.plist_base.specs.Faults.{OutOfMemory, PlistTooLarge, fault_without_offset};
 ghost use Rattle.plist_base.specs.Outcomes.{IfFault, IsSizeOrNone};
+ghost use Rattle.plist_base.specs.Trees.{Scalar, Tree};
+ghost use Rattle.plist_base.specs.declared.marker.CountedKind.{CountedKind};
 ghost use Rattle.plist_binwrite.specs.Classes.{size_by};
-ghost use Rattle.plist_binwrite.specs.EventClasses.{IsClassed, class_in, events_in};
+ghost use Rattle.plist_binwrite.specs.EventClasses.{IsClassed, bound_in, class_in, events_in};
+ghost use Rattle.plist_binwrite.specs.Forms.{IsWritableScalar, length_form, reference_width};
 ghost use Rattle.plist_binwrite.specs.SendingAs.{IsOfTree};
-ghost use Rattle.plist_binwrite.specs.Sizes.{size_with};
+ghost use Rattle.plist_binwrite.specs.Sizes.{object_size, size_with};
 ghost use Rattle.plist_binwrite.specs.inner.Layout.{IsFilePlan};
 ghost use Rattle.plist_binwrite.specs.inner.Numbering.{IsNumberingOfEvents, object_number, IsCapped};
 ghost use Rattle.plist_buffer.specs.Children.{half_of};
-ghost use Rattle.plist_buffer.specs.EventTable.{HasItem, IsBracketed, plain_events};
+ghost use Rattle.plist_buffer.specs.EventTable.{HasItem, IsBracketed, plain_events, table_event};
+ghost use Rattle.plist_buffer.specs.Occurrences.{OccursAt};
 ghost use Rattle.plist_buffer.specs.declared.children.Half.TheVariants.{Values};
 
 use crate::classes::Classed;
@@ -34,7 +39,7 @@ pub struct FilePlan<'p, 'e> {
     pub width: usize,
 }
 
-/// The number of each class's object, and the sizes of the objects.
+/// The number of each class's object, and the size of the objects.
 #[derive(Drop)]
 pub struct Numbering {
     /// One more than the number of each class's object, indexed by the class, or 0 if the object
@@ -42,85 +47,8 @@ pub struct Numbering {
     pub by_class: CompactNumbers,
     /// The number of objects that have numbers. Their numbers are those below `count`.
     pub count: usize,
-    /// The sizes of these objects together.
-    pub sizes: ObjectSizes,
-}
-
-/// The total size of some objects: their bytes without references, and the number of references,
-/// whose width isn't known yet.
-#[derive(Clone, Copy)]
-pub struct ObjectSizes {
-    /// The bytes of markers, lengths and contents, or 2^64 - 1 if they are more.
-    pub fixed: u64,
-    /// The number of references, or 2^64 - 1 if it is greater.
-    pub references: u64,
-}
-
-impl ObjectSizes {
-    ghost use Rattle.std.specs.Prelude.{◌≡◌, ◌+◌, ◌*◌, ◌≤◌, ◌<◌, ℕ, length};
-    ghost use Rattle.plist_base.specs.Events.{ScalarEvent};
-    ghost use Rattle.plist_base.specs.Trees.{Scalar, Tree};
-    ghost use Rattle.plist_binwrite.specs.Forms.{IsWritableScalar};
-    ghost use Rattle.plist_binwrite.specs.inner.Numbering.{AreSizes, IsCapped};
-    ghost use Rattle.plist_binwrite.specs.Sizes.{fixed_size, reference_count};
-    ghost use Rattle.plist_buffer.specs.EventTable.{HasItem, plain_events, table_event};
-    ghost use Rattle.plist_buffer.specs.Occurrences.{OccursAt};
-
-    /// Returns the size of no objects.
-    pub fn none() -> ObjectSizes
-        ensures { AreSizes result 0 0 }
-    {
-        ObjectSizes {
-            fixed: 0,
-            references: 0,
-        }
-    }
-
-    // Adds the size of one more object.
-    #[inline(always)]
-    fn add(&mut self, fixed: u64, references: u64)
-        ensures { (a b c : ℕ) → AreSizes self.old a b → IsCapped fixed c
-            → AreSizes self.new (c + a) (references + b) }
-    {
-        self.fixed = self.fixed.saturating_add(fixed);
-        self.references = self.references.saturating_add(references);
-    }
-
-    /// Adds the size of the object of the event at an index, which must not be an end.
-    pub fn add_object(&mut self, events: &EventTable<'_>, index: usize)
-        requires { HasItem (plain_events events.now) index }
-        ensures size { (a b : ℕ) → AreSizes self.old a b → (t : Tree)
-            → OccursAt (plain_events events.now) t index
-            → AreSizes self.new (fixed_size t + a) (reference_count t + b) }
-        ensures writable { (x : Scalar) → table_event events.now index ≡ ScalarEvent x
-            → IsWritableScalar x }
-    {
-        match events.kind_at(index) {
-            EventShape::StartArray => {
-                let count = count_children(events, index) as u64;
-                self.add(length_of_count(count), count);
-            }
-            EventShape::StartDictionary => {
-                let count = count_children(events, index) as u64;
-                self.add(length_of_count(count), 2 * count);
-            }
-            EventShape::Scalar | EventShape::EndCollection => {
-                if let Some(scalar) = events.scalar_at(index) {
-                    self.add(length_of_scalar(scalar), 0);
-                }
-            }
-        }
-    }
-
-    /// Returns the number of bytes if a reference has `width` bytes, or 2^64 - 1 if it is greater.
-    pub fn with_width(self, width: usize) -> u64
-        requires { 1 ≤ width }
-        ensures { (fixed references : ℕ) → AreSizes self fixed references
-            → IsCapped result (fixed + references * width) }
-    {
-        let links = self.references.saturating_mul(width as u64);
-        self.fixed.saturating_add(links)
-    }
+    /// The size of these objects together, or 2^64 - 1 if it is greater.
+    pub size: u64,
 }
 
 /// Returns the number of items or pairs in the collection that begins at an index.
@@ -129,6 +57,42 @@ pub fn count_children(events: &EventTable<'_>, index: usize) -> usize
     ensures { result ≡ length (half_of (plain_events events.now) Values index) }
 {
     Children::new(events, index, Half::Values).count()
+}
+
+// Returns the size of a collection's object, or 2^64 - 1 if it is greater, given the number of its
+// items or pairs, the number of its references and their width.
+fn size_of_collection(count: u64, references: u64, width: usize) -> u64
+    ensures { (kind : CountedKind) → IsCapped result
+        (length (length_form kind count) + references * width) }
+{
+    references
+        .saturating_mul(width as u64)
+        .saturating_add(length_of_count(count))
+}
+
+// Returns the size of the object of the event at an index, or 2^64 - 1 if it is greater. The event
+// must not be an end. A reference has `width` bytes.
+fn size_of_object(events: &EventTable<'_>, index: usize, width: usize) -> u64
+    requires { HasItem (plain_events events.now) index }
+    ensures size { (t : Tree) → OccursAt (plain_events events.now) t index
+        → IsCapped result (object_size width t) }
+    ensures writable { (x : Scalar) → table_event events.now index ≡ ScalarEvent x
+        → IsWritableScalar x }
+{
+    match events.kind_at(index) {
+        EventShape::StartArray => {
+            let count = count_children(events, index) as u64;
+            size_of_collection(count, count, width)
+        }
+        EventShape::StartDictionary => {
+            let count = count_children(events, index) as u64;
+            size_of_collection(count, 2 * count, width)
+        }
+        EventShape::Scalar | EventShape::EndCollection => match events.scalar_at(index) {
+            Some(scalar) => length_of_scalar(scalar),
+            None => 0,
+        },
+    }
 }
 
 /// Returns the number of the object of the event at an index. All objects must have numbers.
@@ -143,16 +107,24 @@ pub fn object_number(given: &Classed<'_, '_>, numbering: &Numbering, index: usiz
 
 impl Numbering {
     ghost use Rattle.std.specs.Prelude.{◌≡◌, ◌<◌, ◌∷◌, ◌++◌, [], length, OnOk};
-    ghost use Rattle.plist_binwrite.specs.EventClasses.{events_in};
+    ghost use Rattle.plist_binwrite.specs.EventClasses.{bound_in, events_in};
+    ghost use Rattle.plist_binwrite.specs.Forms.{reference_width};
     ghost use Rattle.plist_buffer.specs.Children.{half_of};
     ghost use Rattle.plist_buffer.specs.EventTable.{HasItem};
     ghost use Rattle.plist_buffer.specs.declared.children.Half.TheVariants.{Keys, Values};
     ghost use Rattle.plist_binwrite.specs.inner.Numbering.{IsNumberedSoFar, Numbers, object_number};
 
-    // Assigns the next number to the object of the event at an index, unless it has one already.
+    // Assigns the next number to the object of the event at an index, unless it has one already. A
+    // reference has `width` bytes.
     #[inline(always)]
-    fn number_one(&mut self, given: &Classed<'_, '_>, index: usize) -> Result<(), AllocError>
+    fn number_one(
+        &mut self,
+        given: &Classed<'_, '_>,
+        width: usize,
+        index: usize,
+    ) -> Result<(), AllocError>
         requires so_far { IsNumberedSoFar given.now self.old }
+        requires width { width ≡ reference_width (bound_in given.now) }
         requires item { HasItem (events_in given.now) index }
         ensures numbers { OnOk result (Numbers given.now (index ∷ []) self.old self.new) }
         ensures first { OnOk result (self.old.count ≡ 0
@@ -169,7 +141,9 @@ impl Numbering {
         };
         self.by_class.set(class, count)?;
         self.count = count;
-        self.sizes.add_object(given.events, index);
+        self.size = self
+            .size
+            .saturating_add(size_of_object(given.events, index, width));
         Ok(())
     }
 
@@ -178,24 +152,32 @@ impl Numbering {
     fn number_half(
         &mut self,
         given: &Classed<'_, '_>,
+        width: usize,
         index: usize,
         half: Half,
     ) -> Result<(), AllocError>
         requires so_far { IsNumberedSoFar given.now self.old }
+        requires width { width ≡ reference_width (bound_in given.now) }
         requires index { index < length (events_in given.now) }
         ensures { OnOk result (Numbers given.now (half_of (events_in given.now) half index) self.old
             self.new) }
     {
         for child in Children::new(given.events, index, half) {
-            self.number_one(given, child)?;
+            self.number_one(given, width, child)?;
         }
         Ok(())
     }
 
     // Numbers the objects of the keys of the collection that begins at an index, and then those of
     // its items or values. A scalar or an end has no children.
-    fn number_children(&mut self, given: &Classed<'_, '_>, index: usize) -> Result<(), AllocError>
+    fn number_children(
+        &mut self,
+        given: &Classed<'_, '_>,
+        width: usize,
+        index: usize,
+    ) -> Result<(), AllocError>
         requires so_far { IsNumberedSoFar given.now self.old }
+        requires width { width ≡ reference_width (bound_in given.now) }
         requires index { index < length (events_in given.now) }
         ensures { OnOk result (Numbers given.now (half_of (events_in given.now) Keys index
             ++ half_of (events_in given.now) Values index) self.old self.new) }
@@ -203,29 +185,34 @@ impl Numbering {
         if !begins_collection(given.events, index) {
             return Ok(());
         }
-        self.number_half(given, index, Half::Keys)?;
-        self.number_half(given, index, Half::Values)?;
+        self.number_half(given, width, index, Half::Keys)?;
+        self.number_half(given, width, index, Half::Values)?;
         Ok(())
     }
 }
 
 // Numbers the objects of a tree's events, one for each class, or fails if an allocation fails. The
 // root has number 0. Then, for each collection in the order of the events, its keys are numbered,
-// followed by its items or values.
-fn number_objects(alloc: Global, given: &Classed<'_, '_>) -> Result<Numbering, AllocError>
+// followed by its items or values. A reference has `width` bytes.
+fn number_objects(
+    alloc: Global,
+    given: &Classed<'_, '_>,
+    width: usize,
+) -> Result<Numbering, AllocError>
     requires whole { IsBracketed (events_in given.now) }
     requires classed { IsClassed given.now }
+    requires width { width ≡ reference_width (bound_in given.now) }
     ensures { IfOk result (IsNumberingOfEvents given.now) }
 {
     let by_class = CompactNumbers::zeros(alloc, given.bound())?;
     let mut numbering = Numbering {
         by_class,
         count: 0,
-        sizes: ObjectSizes::none(),
+        size: 0,
     };
-    numbering.number_one(given, 0)?;
+    numbering.number_one(given, width, 0)?;
     for index in 0..given.events.len() {
-        numbering.number_children(given, index)?;
+        numbering.number_children(given, width, index)?;
     }
     Ok(numbering)
 }
@@ -256,10 +243,10 @@ pub fn plan_file<'p, 'e>(alloc: Global, given: Classed<'p, 'e>) -> Result<FilePl
         × IsOfTree (events_in given.entry)
         (λ tree. 2 ^ 64 ≤ size_by (class_in given.entry) tree))) }
 {
-    let numbering = number_objects(alloc, &given)?;
-    let width = reference_width(numbering.count as u64);
-    let objects = numbering.sizes.with_width(width);
-    match size_of_file(objects, numbering.count as u64) {
+    // There is one object for each class, so their number is known before they are numbered.
+    let width = reference_width(given.bound() as u64);
+    let numbering = number_objects(alloc, &given, width)?;
+    match size_of_file(numbering.size, numbering.count as u64) {
         Some(_) => Ok(FilePlan {
             given,
             numbering,

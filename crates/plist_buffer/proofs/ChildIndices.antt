@@ -1,18 +1,20 @@
 -- The children of a collection: how a walk finds them, and which they are in a tree.
-use Rattle.std.proofs.Common.{◌≡◌, inl, inr, ℕ, zero, suc, ◌+◌, ◌<◌, ◌≤◌, Bool, true, false, if◌then◌else◌, List, [], ◌∷◌, length, drop, refl, ap, sym, ◌∙◌, arith}
+use Rattle.std.proofs.Common.{◌≡◌, inl, inr, ℕ, zero, suc, ◌+◌, ◌^◌, ◌<◌, ◌≤◌, Bool, true, false, if◌then◌else◌, List, [], ◌∷◌, length, drop, refl, ap, sym, ◌∙◌, arith}
 use Rattle.std.specs.List.{AllByRecursion}
 use Rattle.std.proofs.lemmas.Bool.Decides.{leb_tells}
 use Rattle.std.proofs.lemmas.List.{get_or_past}
 use Rattle.plist_base.specs.Events.{PlainEvent, StartArray, StartDictionary, EndCollection, ScalarEvent}
 use Rattle.plist_base.specs.Trees.{Tree, Leaf, Array, Dictionary, Trees, NoTrees, TreeAnd, Members, NoMembers, MemberAnd}
 use Rattle.plist_buffer.specs.Children.{child_at, last_at, children_within, children_from, children_after, half_of}
-use Rattle.plist_buffer.specs.EventTable.{HasItem, is_end, event_at, item_indices, key_indices, value_indices, keys_in, values_in}
+use Rattle.plist_buffer.specs.EventTable.{HasItem, is_end, event_at, item_indices, key_indices, lists_in, plain_events, value_indices, keys_in, values_in}
 use Rattle.plist_buffer.specs.Occurrences.{event_count, OccursAt, ItemsOccurAt, PairsOccurAt}
 use Rattle.plist_buffer.specs.declared.children.Child.{Child}
 use Rattle.plist_buffer.specs.declared.children.Child.TheVariants.{Item, Key, Value}
 use Rattle.plist_buffer.specs.declared.children.Half.{Half}
 use Rattle.plist_buffer.specs.declared.children.Half.TheVariants.{Keys, Values}
+use Rattle.plist_buffer.specs.declared.event_table.EventTable.{EventTable}
 use Rattle.plist_buffer.specs.inner.UnclosedStarts.{skip_after}
+use Rattle.plist_buffer.proofs.EntryEvents.{long_shown}
 use Rattle.plist_buffer.proofs.TreeOccurrences.{occurs_items, occurs_pairs, occurs_item, occurs_next, occurs_key, occurs_value, occurs_next_pair}
 use Rattle.plist_buffer.proofs.OpenStarts.{skip_ends, skip_forward}
 use Rattle.plist_buffer.proofs.TreeStarts.{begins, first_event, stands_single, starts_array, starts_dictionary}
@@ -177,3 +179,13 @@ module _ (es : List PlainEvent) where
   values_are_in (Dictionary ms) p s =
       ap (λ e. children_after e Values es (p + 1)) (starts_dictionary s)
       ∙ values_left ms (p + 1) (occurs_pairs s)
+
+-- a half of the children in a table has less than 2^63 indices
+pub few_in_table : (held : EventTable) (half : Half) (index : ℕ)
+    → length (half_of (plain_events held) half index) < 2 ^ 63
+few_in_table held half index = omega (
+  arith,
+  few_children (plain_events held) half index,
+  long_shown (lists_in held) held.entries,
+  held.few,
+)

@@ -100,7 +100,8 @@ ends_rise (k ∷ kinds) (suc a) (suc b) is lt le =
 
 -- each number below that of the ends belongs to an end
 nth_end : (entries : List EventEntry) (c : ℕ) → c < ends_in (map kind_in entries)
-    → (r : ℕ) × (r < length entries) × (entry_at entries r ≡ entry.End) × (ends_before entries r ≡ c)
+    → (r : ℕ) × (r < length entries) × (entry_at entries r ≡ entry.End)
+    × (ends_before entries r ≡ c)
 nth_end [] c lt = absurd (omega (arith, lt))
 nth_end (entry.End ∷ entries) zero lt = (0, omega arith, refl, refl)
 nth_end (entry.End ∷ entries) (suc c) lt =
@@ -219,12 +220,13 @@ module _ (es : List PlainEvent) where
         → event_at es r ≡ EndCollection → q ≤ r → r < q + length (lengthless_pairs ms)
         → IsClosedBy r
     closed_in_pairs NoMembers q r s ends le lt = absurd (omega (arith, le, lt))
-    closed_in_pairs (MemberAnd k t ms) q r s ends le lt = elim (leb_tells (q + 1 + event_count t) r) [
-      | inl after ↦ closed_in_pairs ms (q + 1 + event_count t) r (occurs_next_pair s) ends after.1
-          (omega (arith, lt, length-append (lengthless t) (lengthless_pairs ms)))
-      | inr within ↦ closed_in t (q + 1) r (occurs_value s) ends
-          (omega (arith, le, begins_apart _ q r (occurs_key s) ends)) within.1
-    ]
+    closed_in_pairs (MemberAnd k t ms) q r s ends le lt =
+        elim (leb_tells (q + 1 + event_count t) r) [
+          | inl after ↦ closed_in_pairs ms (q + 1 + event_count t) r (occurs_next_pair s) ends
+              after.1 (omega (arith, lt, length-append (lengthless t) (lengthless_pairs ms)))
+          | inr within ↦ closed_in t (q + 1) r (occurs_value s) ends
+              (omega (arith, le, begins_apart _ q r (occurs_key s) ends)) within.1
+        ]
 
 module _ (held : EventTable) where
   abbrev es : List PlainEvent

@@ -515,8 +515,10 @@ module _ {scalars : ScalarLists} {es : List EventEntry} {unclosed : List ℕ}
       → (p : ℕ) × HasItem (events_of_entries scalars es) p
       × (scalar_named scalars (entry_at es p) ≡ Some (index_of_number scalars number))
   number_used number e stored =
-      let (p, found, lt, is, refers) = Any-from_list_any (names number) es (kept.used number e stored) in
-      let here : p < length (events_of_entries scalars es) = omega (arith, lt, long_shown scalars es) in
+      let some = Any-from_list_any (names number) es (kept.used number e stored) in
+      let (p, found, lt, is, refers) = some in
+      let long = long_shown scalars es in
+      let here : p < length (events_of_entries scalars es) = omega (arith, lt, long) in
       let named : scalar_named scalars (entry_at es p) ≡ Some (index_of_number scalars number) =
       ap (scalar_named scalars) (get_or_default es p entry.End found lt ∙ is)
       ∙ index_named scalars number found refers in

@@ -1,6 +1,6 @@
 -- The classes that are found from the inside outwards: each class has one tree.
-use Rattle.std.proofs.Common.{◌≡◌, ◌≢◌, ◌⊎◌, inl, inr, ℕ, ◌+◌, ◌<◌, ◌≤◌, ◌↔◌, Bool, IsTrue, true, false, List, ◌∷◌, ◌++◌, length, map, set, Option, None, Some, refl, sym, ap, ◌∙◌, subst, arith, length-append}
-use Rattle.std.proofs.lemmas.Bool.Decides.{eqb_tells}
+use Rattle.std.proofs.Common.{◌≡◌, ◌≢◌, ◌⊎◌, inl, inr, ℕ, ◌+◌, ◌-◌, ◌<◌, ◌≤◌, ◌↔◌, Bool, IsTrue, true, false, List, ◌∷◌, ◌++◌, length, map, set, Option, None, Some, refl, sym, ap, ◌∙◌, subst, arith, length-append}
+use Rattle.std.proofs.lemmas.Bool.Decides.{eqb_tells, leb_tells}
 use Rattle.std.proofs.lemmas.List.{get_or-set_other, get_or-set_same}
 use Rattle.std.proofs.lemmas.Option.{slice_get_within, same_Some}
 use Rattle.plist_base.specs.Trees.{Scalar, Tree, Leaf, Array, Dictionary, Trees, NoTrees, TreeAnd, Members, NoMembers, MemberAnd}
@@ -11,20 +11,20 @@ use Rattle.plist_binwrite.specs.Classes.{AreClasses, object_of}
 use Rattle.plist_binwrite.specs.EventClasses.{HasEachCollection, listed_class}
 use Rattle.plist_binwrite.specs.Forms.{key_numbers, value_numbers}
 use Rattle.plist_binwrite.specs.declared.classes.ClassList.{ClassList}
-use Rattle.plist_buffer.specs.EventTable.{IsBracketed, collection_number, is_end, item_indices, key_indices, value_indices, event_at, nth_number, plain_events, scalars_of}
+use Rattle.plist_buffer.specs.EventTable.{HasItem, IsBracketed, collection_number, is_end, item_indices, key_indices, value_indices, event_at, nth_number, plain_events, scalars_of}
 use Rattle.plist_binwrite.proofs.Unfold.{pairs}
 use Rattle.plist_buffer.specs.Occurrences.{OccursAt, ItemsOccurAt, PairsOccurAt}
 use Rattle.plist_base.specs.declared.event.EventShape.{EventShape}
 use Rattle.plist_base.specs.declared.event.EventShape.TheVariants as shape
 use Rattle.plist_buffer.specs.declared.event_table.EventTable.{EventTable}
 use Rattle.plist_buffer.specs.inner.Entries.{AreDistinct, is_leaf}
-use Rattle.plist_buffer.proofs.CollectionNumbers.{IsCollectionAt, array_at, collection_at, dictionary_at, number_below, numbers_apart}
+use Rattle.plist_buffer.proofs.CollectionNumbers.{IsCollectionAt, array_at, collection_at, dictionary_at, number_below, numbers_apart, occurs_at}
 use Rattle.plist_binwrite.proofs.ClassObjects.{sound, the_items, the_pairs}
-use Rattle.plist_binwrite.proofs.ScalarClasses.{collection_class, leaf_any, leaf_below, leaves_same}
+use Rattle.plist_binwrite.proofs.ScalarClasses.{collection_class, leaf_any, leaf_below, leaf_used, leaves_same}
 use Rattle.plist_binwrite.proofs.TreeObjects.{keys_are, values_are}
 use Rattle.plist_binwrite.proofs.Reading.{dictionary_is, length-keys_of, length-values_of}
 use Rattle.plist_buffer.proofs.TreeOccurrences.{occurs_items, occurs_pairs, occurs_item, occurs_next, occurs_key, occurs_value, occurs_next_pair}
-use Rattle.plist_buffer.proofs.TreeStarts.{starts_array, starts_dictionary}
+use Rattle.plist_buffer.proofs.TreeStarts.{begins, occurs_in, starts_array, starts_dictionary}
 use Rattle.plist_share.proofs.EqualClasses.{complete}
 use Rattle.plist_share.specs.inner.Nodes.{AreClassesFrom, AreScalarClasses, Node, node_at, node_by, IsClass, IsClassAt, Extends, SeparatesTrees}
 
@@ -149,6 +149,19 @@ scalar_classes held found = record {
   same = leaves_same held (nth_number found.by_collection);
 }
 
+-- each number below the bound is the class of a scalar or of a collection
+pub classes_used : {held : EventTable} {found : ClassList} {nodes : List Node} {from : ℕ}
+    → found.bound ≡ length (scalars_of held) → AreClassesFrom held found nodes from → (k : ℕ)
+    → k < found.bound + length nodes
+    → (p : ℕ) × HasItem (plain_events held) p × (listed_class found held p ≡ k)
+classes_used {held} {found} bound given k lt = elim (leb_tells found.bound k) [
+  | inl after ↦
+      let (p, le, item, is) = given.used (k - found.bound) (omega (arith, lt, after.1)) in
+      (p, item, omega (arith, is, after.1))
+  | inr before ↦
+      leaf_used held (nth_number found.by_collection) k (omega (arith, before.1, bound))
+]
+
 -- a collection begins at the index of a start
 pub start_at : (held : EventTable) → IsBracketed (plain_events held) → (p : ℕ)
     → p < length (plain_events held)
@@ -198,10 +211,10 @@ module _ (es : List PlainEvent) (class after : ℕ → ℕ) (p : ℕ)
       (same_halves _ _ ms _ _ (pairs_agree ms (q + 1) (occurs_pairs s) (omega (arith, h))))
 
 -- a class stays the same if nodes are added
-class_stays : (count : ℕ) (keys new : List Node) → Extends keys new → (node : Option Node) (c : ℕ)
-    → IsClass count keys node c → IsClass count new node c
-class_stays count keys new more None c k = tt
-class_stays count keys new more (Some node) c k =
+class_stays : (count : ℕ) {keys new : List Node} {index : ℕ} → Extends keys index new
+    → (node : Option Node) (c : ℕ) → IsClass count keys node c → IsClass count new node c
+class_stays count more None c k = tt
+class_stays count {keys} more (Some node) c k =
     (k.0, k.1, more.keeps k.0 (slice_get_within keys k.0 _ k.2) ∙ k.2)
 
 module _ (es : List PlainEvent) (class : ℕ → ℕ) (count : ℕ) (keys : List Node) where
@@ -254,29 +267,50 @@ module _ (held : EventTable) (found : ClassList) (p c : ℕ) (u : Tree)
   agree (Array ts) q s n = other _ q (array_at s) n
   agree (Dictionary ms) q s n = other _ q (dictionary_at s) n
 
-  pub collection_written : (keys new : List Node) → AreClassesFrom held found keys (p + 1)
-      → Extends keys new → IsClassAt held found new p c → AreClassesFrom held set_list new p
-  collection_written keys new old more this q le t s =
-      let stays = node_stays es (listed_class found held) (listed_class set_list held) p agree t q s le in
-      rw stays (elim (eqb_tells q p) [
-        | inl e ↦ subst (λ r. OccursAt es t r
-            → IsClass found.bound new (node_at (listed_class found held) t r) (listed_class set_list held r))
-            (sym e.1) (λ r. rw here (this t r)) s
-        | inr n ↦ rw (agree t q s n.1)
-            (class_stays found.bound keys new more _ _ (old q (omega (arith, le, n.1)) t s))
-      ])
+  pub collection_written : (keys new : List Node) → IsBracketed es
+      → AreClassesFrom held found keys (p + 1) → found.bound ≤ c
+      → Extends keys (c - found.bound) new → IsClassAt held found new p c
+      → AreClassesFrom held set_list new p
+  collection_written keys new whole old above more this = record {
+    each = λ q le t s.
+        let class = listed_class found held in
+        let after = listed_class set_list held in
+        rw (node_stays es class after p agree t q s le) (elim (eqb_tells q p) [
+          | inl e ↦ subst
+              (λ r. OccursAt es t r → IsClass found.bound new (node_at class t r) (after r))
+              (sym e.1) (λ r. rw here (this t r)) s
+          | inr n ↦ rw (agree t q s n.1)
+              (class_stays found.bound more _ _ (old.each q (omega (arith, le, n.1)) t s))
+        ]);
+    used = λ i lt. elim (eqb_tells i (c - found.bound)) [
+      | inl e ↦ (
+        p,
+        omega arith,
+        (occurs_in at.occurs, begins u p at.occurs),
+        omega (arith, here, above, e.1),
+      )
+      | inr n ↦
+          let (q, le, item, is) = old.used i (more.only i lt n.1) in
+          let t = occurs_at es whole q item in
+          (q, omega (arith, le), item, agree t.0 q t.1 (λ same. omega (arith, same, le)) ∙ is)
+    ];
+  }
 
 -- if no collection begins at an index, nothing is missing
 pub none_written : (held : EventTable) (found : ClassList) (keys : List Node) (p : ℕ)
     → shape_of (event_at (plain_events held) p) ≢ shape.StartArray
     → shape_of (event_at (plain_events held) p) ≢ shape.StartDictionary
     → AreClassesFrom held found keys (p + 1) → AreClassesFrom held found keys p
-none_written held found keys p a d old q le t s = elim (eqb_tells q p) [
-  | inl e ↦ subst (λ r. OccursAt (plain_events held) t r
-      → IsClass found.bound keys (node_at (listed_class found held) t r) (listed_class found held r))
-      (sym e.1) (none t) s
-  | inr n ↦ old q (omega (arith, le, n.1)) t s
-]
+none_written held found keys p a d old = record {
+  each = λ q le t s. elim (eqb_tells q p) [
+    | inl e ↦
+        let class = listed_class found held in
+        subst (λ r. OccursAt (plain_events held) t r
+        → IsClass found.bound keys (node_at class t r) (class r)) (sym e.1) (none t) s
+    | inr n ↦ old.each q (omega (arith, le, n.1)) t s
+  ];
+  used = λ i lt. let (q, le, item, is) = old.used i lt in (q, omega (arith, le), item, is);
+}
   where
     none : IsClassAt held found keys p (listed_class found held p)
     none (Leaf x) s = tt

@@ -1,7 +1,7 @@
 //! Classes of the trees among events: two events have the same class if and only if the same tree
 //! begins at both.
 
-ghost use Rattle.std.specs.Prelude.{◌≡◌, ◌↔◌, ◌+◌, ◌<◌, ◌++◌, Some, length, map, slice_get, IfOk, IsTrue, OnOk};
+ghost use Rattle.std.specs.Prelude.{◌≡◌, ◌↔◌, ◌+◌, ◌-◌, ◌<◌, ◌≤◌, ◌++◌, [], Some, length, map, slice_get, IfOk, IsTrue, OnOk};
 ghost use Rattle.plist_base.specs.Events.{shape_of};
 ghost use Rattle.plist_buffer.specs.Children.{half_of};
 ghost use Rattle.plist_buffer.specs.EventTable.{IsBracketed, plain_events, scalars_of, table_event};
@@ -36,8 +36,8 @@ fn index_of(
         ≡ Some (node_of collection)) }
     ensures below { IfOk result (λ index. index < length (map node_of collections.new.keys)) }
     // State afterwards.
-    ensures extends { OnOk result
-        (Extends (map node_of collections.old.keys) (map node_of collections.new.keys)) }
+    ensures extends { IfOk result (λ index.
+        Extends (map node_of collections.old.keys) index (map node_of collections.new.keys)) }
     ensures apart { OnOk result (AreDistinct (map node_of collections.new.keys)) }
 {
     match collections.insert_full(collection) {
@@ -116,9 +116,10 @@ fn class_of_collection(
     // Result.
     ensures class { IfOk result (IsClassAt events.now found.now
         (map node_of collections.new.keys) index) }
+    ensures above { IfOk result (λ class. found.now.bound ≤ class) }
     // State afterwards.
-    ensures extends { OnOk result
-        (Extends (map node_of collections.old.keys) (map node_of collections.new.keys)) }
+    ensures extends { IfOk result (λ class. Extends (map node_of collections.old.keys)
+        (class - found.now.bound) (map node_of collections.new.keys)) }
     ensures apart { OnOk result (AreDistinct (map node_of collections.new.keys)) }
 {
     let children = classes_within(alloc, events, found, index)?;
@@ -165,7 +166,8 @@ fn assign_class(
 }
 
 // Sets the class of each collection among these events. The walk goes backwards, so that the
-// classes of a collection's children are known before its own class is determined.
+// classes of a collection's children are known before its own class is determined. The set of
+// collections must be empty.
 fn assign_classes(
     alloc: Global,
     events: &EventTable<'_>,
@@ -175,7 +177,7 @@ fn assign_classes(
     requires whole { IsBracketed (plain_events events.now) }
     requires long { HasEachCollection found.old events.now }
     requires bound { found.old.bound ≡ length (scalars_of events.now) }
-    requires apart { AreDistinct (map node_of collections.old.keys) }
+    requires none { collections.old.keys ≡ [] }
     ensures { OnOk result (SeparatesAll events.now found.new) }
 {
     let mut index = events.len();

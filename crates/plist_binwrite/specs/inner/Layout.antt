@@ -19,10 +19,10 @@ use Rattle.plist_binwrite.specs.Classes.{Describes, IsFileBy, object_of}
 use Rattle.plist_binwrite.specs.EventClasses.{events_in, class_in}
 use Rattle.plist_base.specs.Utf16.{units_of}
 use Rattle.plist_binwrite.specs.Forms.{form, length_form, reference_width, table_form}
-use Rattle.plist_binwrite.specs.Sizes.{object_size, size_with}
+use Rattle.plist_binwrite.specs.Sizes.{size_with}
 use Rattle.plist_binwrite.specs.Written.{Laid, laid_out}
 use Rattle.plist_binwrite.specs.declared.plan.FilePlan.{FilePlan}
-use Rattle.plist_binwrite.specs.inner.Numbering.{IsNumberingOfEvents, object_number, total_below}
+use Rattle.plist_binwrite.specs.inner.Numbering.{IsNumberingOfEvents, object_number, size_below}
 
 -- the UTF-16 units of the first characters of a string are pushed; `old` and `new` are the buffer
 -- and the rest of the string
@@ -44,8 +44,7 @@ module _ (plan : FilePlan) where
     pub width : plan.width ≡ reference_width plan.numbering.count
     pub narrow : plan.width ≤ 8
     pub small : size_with plan.numbering.count
-        (total_below (λ k. object_size plan.width (numbered.so_far.first k).1) plan.numbering.count)
-        < 2 ^ 64
+        (size_below plan.width numbered.so_far.first plan.numbering.count) < 2 ^ 64
 
   -- the references to a half of the children of the collection that begins at an index
   abbrev pub references_of : Half → (index : ℕ) → List ℕ

@@ -1,33 +1,31 @@
--- The sizes and the numbers of objects. A size is the bytes without references, and the number of
--- references, whose width isn't known yet. `by_class` has 1 more than the number of each class's
+-- The numbers of objects, and their size. `by_class` has 1 more than the number of each class's
 -- object, or 0 if that has no number yet. `count` objects have numbers, which are those below
--- `count`.
+-- `count`. There is one object for each class, so the bound of the classes gives the width of a
+-- reference.
 use Rattle.std.specs.Prelude.{◌≡◌, ℕ, zero, suc, ◌+◌, ◌-◌, ◌^◌, ◌<◌, ◌≤◌, List, length, min, slice_index}
 use Rattle.std.specs.List.{AllByRecursion}
 use Rattle.plist_base.specs.Events.{ScalarEvent}
 use Rattle.plist_base.specs.Trees.{Scalar, Tree}
 use Rattle.plist_buffer.specs.EventTable.{HasItem, IsBracketed, event_at}
 use Rattle.plist_buffer.specs.Occurrences.{OccursAt}
-use Rattle.plist_binwrite.specs.EventClasses.{IsClassed, class_in, events_in}
-use Rattle.plist_binwrite.specs.Forms.{IsWritableScalar}
-use Rattle.plist_binwrite.specs.Sizes.{fixed_size, reference_count}
+use Rattle.plist_binwrite.specs.EventClasses.{IsClassed, bound_in, class_in, events_in}
+use Rattle.plist_binwrite.specs.Forms.{IsWritableScalar, reference_width}
+use Rattle.plist_binwrite.specs.Sizes.{object_size}
 use Rattle.plist_binwrite.specs.declared.classes.Classed.{Classed}
 use Rattle.plist_binwrite.specs.declared.plan.Numbering.{Numbering}
-use Rattle.plist_binwrite.specs.declared.plan.ObjectSizes.{ObjectSizes}
 
 -- the sum of the weights of the numbers below a count
 abbrev pub total_below : (weight : ℕ → ℕ) → (count : ℕ) → ℕ
 total_below weight zero = 0
 total_below weight (suc count) = weight count + total_below weight count
 
+-- the number of bytes of the objects with the numbers below a count, given their trees
+abbrev pub size_below : (width : ℕ) → (first : ℕ → ℕ × Tree) → (count : ℕ) → ℕ
+size_below width first count = total_below (λ k. object_size width (first k).1) count
+
 -- the number is a size, or 2^64 - 1 if the size is greater
 abbrev pub IsCapped : (number size : ℕ) → Type 0
 IsCapped number size = number ≡ min size (2 ^ 64 - 1)
-
--- objects have this many bytes, without their references, and this many references
-pub record AreSizes (sizes : ObjectSizes) (fixed references : ℕ) : Type 0 where
-  pub bytes : IsCapped sizes.fixed fixed
-  pub links : IsCapped sizes.references references
 
 -- ---- numbers
 
@@ -44,8 +42,8 @@ module _ (given : Classed) (numbering : Numbering) where
   abbrev pub IsNumbered : (index : ℕ) → Type 0
   IsNumbered index = 0 < stored_number index
 
-  -- each class has the number of one object, or no number yet, and the sizes are those of all
-  -- objects; `first` has an index of each object, and its tree; ends have no class
+  -- each class has the number of one object, or no number yet, and the size is that of all objects;
+  -- `first` has an index of each object, and its tree; ends have no class
   pub record IsNumberedSoFar : Type 0 where
     pub whole : IsBracketed (events_in given)
     pub classed : IsClassed given
@@ -58,9 +56,8 @@ module _ (given : Classed) (numbering : Numbering) where
     pub same : (p : ℕ) → HasItem (events_in given) p → IsNumbered p
         → class_in given (first (object_number p)).0 ≡ class_in given p
     pub few : (p : ℕ) → HasItem (events_in given) p → stored_number p ≤ numbering.count
-    pub sizes : AreSizes numbering.sizes
-        (total_below (λ k. fixed_size (first k).1) numbering.count)
-        (total_below (λ k. reference_count (first k).1) numbering.count)
+    pub size : IsCapped numbering.size
+        (size_below (reference_width (bound_in given)) first numbering.count)
     pub writable : (k : ℕ) → k < numbering.count → (x : Scalar)
         → event_at (events_in given) (first k).0 ≡ ScalarEvent x → IsWritableScalar x
 

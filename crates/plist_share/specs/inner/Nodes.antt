@@ -1,5 +1,5 @@
 -- Collections, described by the classes of their children.
-use Rattle.std.specs.Prelude.{◌≡◌, ◌↔◌, ℕ, ◌+◌, ◌<◌, ◌≤◌, Bool, true, false, List, ◌++◌, length, map, Option, None, Some, slice_get, ⊤}
+use Rattle.std.specs.Prelude.{◌≡◌, ◌≢◌, ◌↔◌, ℕ, ◌+◌, ◌<◌, ◌≤◌, Bool, true, false, List, ◌++◌, length, map, Option, None, Some, slice_get, ⊤}
 use Rattle.plist_base.specs.Events.{PlainEvent}
 use Rattle.plist_base.specs.Trees.{Scalar, Tree, Leaf, Array, Dictionary}
 use Rattle.plist_buffer.specs.EventTable.{HasItem, keys_in, plain_events, values_in}
@@ -18,10 +18,12 @@ Node = Bool × List ℕ
 abbrev pub node_of : Collection → Node
 node_of collection = (collection.is_dictionary, collection.children.items)
 
--- the new list begins with all nodes of the old one, to which others may have been appended
-pub record Extends (old new : List Node) : Type 0 where
+-- the new list begins with all nodes of the old one, and no other node was appended than that at
+-- `index`
+pub record Extends (old : List Node) (index : ℕ) (new : List Node) : Type 0 where
   pub keeps : (i : ℕ) → i < length old → slice_get new i ≡ slice_get old i
   pub grows : length old ≤ length new
+  pub only : (i : ℕ) → i < length new → i ≢ index → i < length old
 
 -- a collection by the classes of its children, a dictionary's keys before its values
 abbrev pub node_by : (class : ℕ → ℕ) → (is_dictionary : Bool) → Tree → ℕ → Node
@@ -46,10 +48,12 @@ abbrev pub IsClassAt : EventTable → ClassList → (nodes : List Node) → (ind
 IsClassAt held found nodes index class = (t : Tree) → OccursAt (plain_events held) t index
     → IsClass found.bound nodes (node_at (listed_class found held) t index) class
 
--- each collection from index `from` on has its class
-abbrev pub AreClassesFrom : EventTable → ClassList → (nodes : List Node) → (from : ℕ) → Type 0
-AreClassesFrom held found nodes from =
-    (p : ℕ) → from ≤ p → IsClassAt held found nodes p (listed_class found held p)
+-- each collection from index `from` on has its class, and each node is that of such a collection
+pub record AreClassesFrom (held : EventTable) (found : ClassList) (nodes : List Node) (from : ℕ)
+    : Type 0 where
+  pub each : (p : ℕ) → from ≤ p → IsClassAt held found nodes p (listed_class found held p)
+  pub used : (i : ℕ) → i < length nodes → (p : ℕ) × (from ≤ p) × HasItem (plain_events held) p
+      × (listed_class found held p ≡ found.bound + i)
 
 -- each scalar has a class below the count, and equal ones have the same
 pub record AreScalarClasses (es : List PlainEvent) (class : ℕ → ℕ) (count : ℕ) : Type 0 where
@@ -62,9 +66,12 @@ abbrev pub SeparatesTrees : List PlainEvent → (class : ℕ → ℕ) → Type 0
 SeparatesTrees es class =
     (t u : Tree) (p q : ℕ) → OccursAt es t p → OccursAt es u q → (class p ≡ class q) ↔ (t ≡ u)
 
--- each tree has a class below the bound, and two have the same class if and only if they are equal
+-- each tree has a class below the bound, each number below the bound is the class of a tree, and
+-- two trees have the same class if and only if they are equal
 pub record SeparatesAll (held : EventTable) (found : ClassList) : Type 0 where
   pub objects : AreClasses (plain_events held) (listed_class found held)
   pub trees : SeparatesTrees (plain_events held) (listed_class found held)
   pub long : HasEachCollection found held
   pub below : (p : ℕ) → HasItem (plain_events held) p → listed_class found held p < found.bound
+  pub used : (k : ℕ) → k < found.bound
+      → (p : ℕ) × HasItem (plain_events held) p × (listed_class found held p ≡ k)

@@ -13,7 +13,7 @@ use Rattle.plist_binwrite.proofs.plan.number_objects.Goals as goal
 pub number_one-requires-clause-so_far : goal.number_one-requires-clause-so_far
 number_one-requires-clause-so_far c =
     numbered_none c.requires.whole c.requires.classed
-    (c.in_ok-by_class.ensures.zeros ∙ ap (λ bound. replicate bound 0) c.bound.ensures) c.none.ensures
+    (c.in_ok-by_class.ensures.zeros ∙ ap (λ bound. replicate bound 0) c.bound.ensures)
 
 pub number_one-requires-clause-item : goal.number_one-requires-clause-item
 number_one-requires-clause-item c =

@@ -1,7 +1,7 @@
 use Rattle.plist_base.specs.Writing.{answer_of}
 use Rattle.plist_buffer.specs.EventTable.{plain_events}
 use Rattle.plist_buffer.proofs.Lengthless.{whole_bracketed}
-use Rattle.plist_binwrite.proofs.Identities.{equal_scalars}
+use Rattle.plist_binwrite.proofs.Identities.{all_used, equal_scalars}
 use Rattle.plist_buffer.proofs.CollectionNumbers.{occurs_at}
 use Rattle.plist_binwrite.proofs.WriterClasses.{owners_classes}
 use Rattle.plist_binwrite.proofs.SendingFiles.{sends_plainly}
@@ -10,12 +10,13 @@ use Rattle.plist_binwrite.proofs.send.write_file.Goals as goal
 pub write_file_by_class-requires-clause-classed : goal.write_file_by_class-requires-clause-classed
 write_file_by_class-requires-clause-classed g c =
     let own = equal_scalars c.args.events.now in
+    let whole = whole_bracketed c.args.events.now c.requires.whole in
     record {
       listed = tt;
       below = λ p item.
-          let whole = whole_bracketed c.args.events.now c.requires.whole in
           let tree = occurs_at (plain_events c.args.events.now) whole p item in
           own.below tree.0 p tree.1;
+      used = all_used c.args.events.now whole;
       objects = owners_classes own;
     }
 

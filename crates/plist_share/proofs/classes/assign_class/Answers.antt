@@ -31,8 +31,8 @@ returns-in_ok-set-in-StartArray-clause-classes c =
     rw (c.in_ok-set-in-StartArray.ensures.set, c.collection_number.ensures)
     (collection_written events c.args.found.now c.args.index class.class u.0 u.1 c.requires.long
     (map node_of c.args.collections.now.keys)
-    (map node_of c.class_of_collection.new.collections.keys) c.requires.classes
-    class.ensures.extends class.ensures.class)
+    (map node_of c.class_of_collection.new.collections.keys) c.requires.whole c.requires.classes
+    class.ensures.above class.ensures.extends class.ensures.class)
 
 pub returns-in-Scalar-clause-classes : goal.returns-in-Scalar-clause-classes
 returns-in-Scalar-clause-classes c =

@@ -11,4 +11,5 @@ returns-clause-numbers c =
     ap (λ k. get_or old.by_class k 0) (sym c.class_at-class.ensures) ∙ zero in
     rw (c.in_ok-set.ensures.set, c.in-Some.ensures.1, c.class_at-class.ensures)
     (numbers_more c.requires.so_far c.args.index c.requires.item none c.in-Some.ensures.0
-    c.add_object.ensures.size c.add_object.ensures.writable)
+    (λ t s. rw (← c.requires.width) (c.size_of_object.ensures.size t s))
+    c.saturating_add-self.ensures c.size_of_object.ensures.writable)
