@@ -100,7 +100,7 @@ fn copy_enclosed<T: ByteTest, const BEFORE: usize, const AFTER: usize>(
 impl FixedBuffer {
     ghost use Rattle.std.specs.Prelude.{◌≡◌, ◌≤◌, ◌+◌, ◌++◌, [], length, take, true, false, IfOk};
     ghost use Rattle.plist_base.specs.ByteTests.{EachByte};
-    ghost use Rattle.plist_base.specs.FixedBuffers.{room, sink_capacity};
+    ghost use Rattle.plist_base.specs.FixedBuffers.{room, buffer_capacity};
     ghost use Rattle.plist_base.specs.Outcomes.{OnlyMemory};
 
     /// Allocates an empty buffer.
@@ -134,7 +134,7 @@ impl FixedBuffer {
     /// Removes all pushed bytes.
     pub fn clear(&mut self)
         ensures empty { self.new ≡ [] }
-        ensures room { room self.new ≡ sink_capacity }
+        ensures room { room self.new ≡ buffer_capacity }
     {
         self.used = 0;
     }

@@ -2,7 +2,7 @@
 
 ghost use Rattle.std.specs.Prelude.{◌≡◌, ◌++◌, ◌+◌, ◌≤◌, ◌<◌, ℕ, [], Ok, true, false, OnOk, length};
 ghost use Rattle.std.specs.Io.KnownBytes.{Appends};
-ghost use Rattle.plist_base.specs.FixedBuffers.{room, sink_capacity};
+ghost use Rattle.plist_base.specs.FixedBuffers.{room, buffer_capacity};
 ghost use Rattle.plist_base.specs.Outcomes.{IsSizeOrNone, OnlyDevice};
 ghost use Rattle.plist_base.specs.Prefixes.{AppendsPrefix};
 ghost use Rattle.plist_base.specs.Sinks.{HasPut, IsSameSink, Puts, pending};
@@ -116,7 +116,7 @@ impl<'s, W: Write> Sink<'s, W> {
     pub fn write_pending(&mut self) -> Result<(), Error>
         ensures put { Puts W.contents self.old [] (answer_of result) self.new }
         ensures empty { OnOk result (pending self.new ≡ []) }
-        ensures room { OnOk result (room self.new.buffer.now ≡ sink_capacity) }
+        ensures room { OnOk result (room self.new.buffer.now ≡ buffer_capacity) }
     {
         let bytes = self.buffer.as_slice();
         send(self.writer, bytes)?;
@@ -129,7 +129,7 @@ impl<'s, W: Write> Sink<'s, W> {
     /// may be at most [`SINK_CAPACITY`](crate::SINK_CAPACITY).
     #[inline(always)]
     pub fn make_room(&mut self, size: usize) -> Result<(), Error>
-        requires { size ≤ sink_capacity }
+        requires { size ≤ buffer_capacity }
         ensures put { Puts W.contents self.old [] (answer_of result) self.new }
         ensures room { OnOk result (size ≤ room self.new.buffer.now) }
     {

@@ -1,9 +1,9 @@
 -- The classes of buffered events. Trees of one class share an object.
-use Rattle.std.specs.Prelude.{◌≡◌, ℕ, ◌+◌, ◌<◌, List, length, ⊤}
+use Rattle.std.specs.Prelude.{◌≡◌, ℕ, ◌+◌, ◌<◌, List, length, slice_index, ⊤}
 use Rattle.std.specs.Option.{unwrap_or}
 use Rattle.plist_base.specs.Events.{PlainEvent}
 use Rattle.plist_binwrite.specs.Classes.{AreClasses}
-use Rattle.plist_buffer.specs.EventTable.{HasItem, collection_number, count_collections, nth_number, lists_in, plain_events, scalars_of}
+use Rattle.plist_buffer.specs.EventTable.{HasItem, collection_number, count_collections, lists_in, plain_events, scalars_of}
 use Rattle.plist_binwrite.specs.declared.classes.ClassList.{ClassList}
 use Rattle.plist_binwrite.specs.declared.classes.Classed.{Classed}
 use Rattle.plist_binwrite.specs.declared.classes.Classes.TheVariants.{EqualScalars, Listed}
@@ -28,7 +28,7 @@ scalar_class held = class_by (λ collection. length (scalars_of held) + collecti
 
 -- the class of the event at an index, if the classes of collections are listed
 abbrev pub listed_class : ClassList → EventTable → (index : ℕ) → ℕ
-listed_class list held = class_by (nth_number list.by_collection) held
+listed_class list held = class_by (slice_index list.by_collection) held
 
 -- the list has a class for each collection
 abbrev pub HasEachCollection : ClassList → EventTable → Type 0

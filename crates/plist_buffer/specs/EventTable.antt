@@ -107,7 +107,3 @@ values_in (Dictionary ms) p = value_indices ms (p + 1)
 -- each number of a list is below n
 abbrev pub AllBelow : ℕ → List ℕ → Type 0
 AllBelow n ps = (i : ℕ) → i < length ps → slice_index ps i < n
-
--- the number at an index, or 0 if there is none
-abbrev pub nth_number : List ℕ → ℕ → ℕ
-nth_number numbers p = slice_index numbers p

@@ -2,7 +2,7 @@
 
 ghost use Rattle.std.specs.Prelude.{◌≡◌, ◌++◌, ◌+◌, ◌*◌, ◌≤◌, [], Ok, OnOk, codes, length};
 ghost use Rattle.plist_base.specs.Events.{ScalarEvent};
-ghost use Rattle.plist_base.specs.FixedBuffers.{room, sink_capacity};
+ghost use Rattle.plist_base.specs.FixedBuffers.{room, buffer_capacity};
 ghost use Rattle.plist_base.specs.Sinks.{Puts};
 ghost use Rattle.plist_base.specs.Trees.{Data, String};
 ghost use Rattle.plist_base.specs.Utf16Strings.{chars_left, string_of_utf16};
@@ -117,7 +117,7 @@ impl<'p, W: Write> Printer<'p, W> {
     fn write_pending(&mut self) -> ControlFlow<()>
         ensures put { PrintsBytes W.contents self.old [] result self.new }
         ensures empty { result ≡ Continue tt → pending_lines self.new ≡ [] }
-        ensures room { result ≡ Continue tt → room self.new.sink.buffer.now ≡ sink_capacity }
+        ensures room { result ≡ Continue tt → room self.new.sink.buffer.now ≡ buffer_capacity }
     {
         match self.sink.write_pending() {
             Ok(()) => ControlFlow::Continue(()),
@@ -131,7 +131,7 @@ impl<'p, W: Write> Printer<'p, W> {
     // Makes room for `size` more bytes, by writing the pending lines if there isn't enough.
     #[inline(always)]
     fn make_room(&mut self, size: usize) -> ControlFlow<()>
-        requires { size ≤ sink_capacity }
+        requires { size ≤ buffer_capacity }
         ensures put { PrintsBytes W.contents self.old [] result self.new }
         ensures room { result ≡ Continue tt → size ≤ room self.new.sink.buffer.now }
     {

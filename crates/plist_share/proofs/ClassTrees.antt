@@ -3,6 +3,7 @@ use Rattle.std.proofs.Common.{◌≡◌, ◌≢◌, ◌⊎◌, inl, inr, ℕ, �
 use Rattle.std.proofs.lemmas.Bool.Decides.{eqb_tells, leb_tells}
 use Rattle.std.proofs.lemmas.List.{get_or-set_other, get_or-set_same}
 use Rattle.std.proofs.lemmas.Option.{slice_get_within, same_Some}
+use Rattle.std.specs.Prelude.{slice_index}
 use Rattle.plist_base.specs.Trees.{Scalar, Tree, Leaf, Array, Dictionary, Trees, NoTrees, TreeAnd, Members, NoMembers, MemberAnd}
 use Rattle.plist_base.specs.Events.{PlainEvent, EndCollection, ScalarEvent, shape_of}
 use Rattle.plist_base.specs.Object as obj
@@ -11,7 +12,7 @@ use Rattle.plist_binwrite.specs.Classes.{AreClasses, object_of}
 use Rattle.plist_binwrite.specs.EventClasses.{HasEachCollection, listed_class}
 use Rattle.plist_binwrite.specs.Forms.{key_numbers, value_numbers}
 use Rattle.plist_binwrite.specs.declared.classes.ClassList.{ClassList}
-use Rattle.plist_buffer.specs.EventTable.{HasItem, IsBracketed, collection_number, is_end, item_indices, key_indices, value_indices, event_at, nth_number, plain_events, scalars_of}
+use Rattle.plist_buffer.specs.EventTable.{HasItem, IsBracketed, collection_number, is_end, item_indices, key_indices, value_indices, event_at, plain_events, scalars_of}
 use Rattle.plist_binwrite.proofs.Unfold.{pairs}
 use Rattle.plist_buffer.specs.Occurrences.{OccursAt, ItemsOccurAt, PairsOccurAt}
 use Rattle.plist_base.specs.declared.event.EventShape.{EventShape}
@@ -145,8 +146,8 @@ module _ {es : List PlainEvent} {class : ℕ → ℕ} {count : ℕ} (keys : List
 pub scalar_classes : (held : EventTable) (found : ClassList)
     → AreScalarClasses (plain_events held) (listed_class found held) (length (scalars_of held))
 scalar_classes held found = record {
-  below = leaf_below held (nth_number found.by_collection);
-  same = leaves_same held (nth_number found.by_collection);
+  below = leaf_below held (slice_index found.by_collection);
+  same = leaves_same held (slice_index found.by_collection);
 }
 
 -- each number below the bound is the class of a scalar or of a collection
@@ -159,7 +160,7 @@ classes_used {held} {found} bound given k lt = elim (leb_tells found.bound k) [
       let (p, le, item, is) = given.used (k - found.bound) (omega (arith, lt, after.1)) in
       (p, item, omega (arith, is, after.1))
   | inr before ↦
-      leaf_used held (nth_number found.by_collection) k (omega (arith, before.1, bound))
+      leaf_used held (slice_index found.by_collection) k (omega (arith, before.1, bound))
 ]
 
 -- a collection begins at the index of a start
@@ -248,22 +249,22 @@ module _ (held : EventTable) (found : ClassList) (p c : ℕ) (u : Tree)
   set_list = record { by_collection = set found.by_collection number c; bound = found.bound }
 
   here : listed_class set_list held p ≡ c
-  here = collection_class held (nth_number set_list.by_collection) u p at
+  here = collection_class held (slice_index set_list.by_collection) u p at
       ∙ get_or-set_same found.by_collection number c 0
       (omega (arith, number_below held u p at, long))
 
   other : (t : Tree) (q : ℕ) → IsCollectionAt es t q → q ≢ p
       → listed_class set_list held q ≡ listed_class found held q
   other t q s n =
-      collection_class held (nth_number set_list.by_collection) t q s
+      collection_class held (slice_index set_list.by_collection) t q s
       ∙ get_or-set_other found.by_collection number (collection_number held q) c 0
       (λ e. n (numbers_apart held t u q p s at e))
-      ∙ sym (collection_class held (nth_number found.by_collection) t q s)
+      ∙ sym (collection_class held (slice_index found.by_collection) t q s)
 
   agree : (t : Tree) (q : ℕ) → OccursAt es t q → q ≢ p
       → listed_class set_list held q ≡ listed_class found held q
   agree (Leaf x) q s n =
-      leaf_any held (nth_number set_list.by_collection) (nth_number found.by_collection) x q s
+      leaf_any held (slice_index set_list.by_collection) (slice_index found.by_collection) x q s
   agree (Array ts) q s n = other _ q (array_at s) n
   agree (Dictionary ms) q s n = other _ q (dictionary_at s) n
 
