@@ -11,9 +11,9 @@ use std::alloc::Global;
 use std::marker::Model;
 
 /// The number of bytes in a [`FixedBuffer`], and the most that a [`Sink`](crate::Sink) buffers.
-pub const SINK_CAPACITY: usize = 1 << 16;
+pub const BUFFER_CAPACITY: usize = 1 << 16;
 
-/// A buffer of [`SINK_CAPACITY`] bytes. It never grows.
+/// A buffer of [`BUFFER_CAPACITY`] bytes. It never grows.
 ///
 /// A push doesn't check the room: the caller has to make sure that there is enough, and can do so
 /// once for a whole line.
@@ -112,7 +112,7 @@ impl FixedBuffer {
         ensures empty { IfOk result (λ buffer. buffer ≡ []) }
         ensures memory { OnlyMemory result }
     {
-        let bytes = vec![in alloc; 0u8; SINK_CAPACITY]?;
+        let bytes = vec![in alloc; 0u8; BUFFER_CAPACITY]?;
         Ok(FixedBuffer { bytes, used: 0 })
     }
 
@@ -121,7 +121,7 @@ impl FixedBuffer {
     pub fn room(&self) -> usize
         ensures { result ≡ room self.now }
     {
-        SINK_CAPACITY - self.used
+        BUFFER_CAPACITY - self.used
     }
 
     /// Returns the bytes that were pushed since the last [`FixedBuffer::clear`].

@@ -12,7 +12,7 @@ use crate::send::{send, send_and_flush};
 use crate::{Error, FixedBuffer};
 use std::io::Write;
 
-/// Writes bytes to a writer through a buffer of [`SINK_CAPACITY`] bytes.
+/// Writes bytes to a writer through a buffer of [`BUFFER_CAPACITY`] bytes.
 ///
 /// Bytes that fit into the buffer stay pending in it. For bytes that don't fit, the sink writes the
 /// pending bytes and then the new ones directly, so that no call allocates memory. [`Sink::finish`]
@@ -126,7 +126,7 @@ impl<'s, W: Write> Sink<'s, W> {
     }
 
     /// Makes room for `size` more bytes, by writing the pending bytes if there isn't enough. `size`
-    /// may be at most [`SINK_CAPACITY`](crate::SINK_CAPACITY).
+    /// may be at most [`BUFFER_CAPACITY`](crate::BUFFER_CAPACITY).
     #[inline(always)]
     pub fn make_room(&mut self, size: usize) -> Result<(), Error>
         requires { size ≤ buffer_capacity }

@@ -87,7 +87,7 @@ module _ (held : EventTable) where
     same = λ t u p q s r. same_class _ _ p q (has_class t p s) (has_class u q r);
   }
 
-  -- each number below that of the different scalars and the collections together is a class
+  -- each number below the number of different scalars and collections is a class
   pub all_used : IsBracketed es → (k : ℕ) → k < length scalars + count_collections held
       → (p : ℕ) × HasItem es p × (class p ≡ k)
   all_used whole k lt = elim (leb_tells (length scalars) k) [

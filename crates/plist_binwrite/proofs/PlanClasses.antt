@@ -1,5 +1,5 @@
--- The classes of a tree's positions correspond to the numbers of a plan: there are as many of each,
--- and as the bound of the classes, and their objects have the same total size.
+-- The classes of a tree's positions correspond to the numbers of a plan: there are as many objects as
+-- classes, which is also the bound of the classes, and the objects have the same total size.
 use Rattle.std.proofs.Common.{◌≡◌, ℕ, ◌<◌, true, eqb, List, map, refl, ap, sym, ◌∙◌}
 use Rattle.std.specs.List.{AllByRecursion}
 use Rattle.std.specs.Set.{is_member, unique_keys}
@@ -56,7 +56,7 @@ module _ {es : List PlainEvent} (whole : Tree) (e : es ≡ lengthless whole) (cl
       (members_self number (positions whole 0)) p item.0 item.1 in
       unique_member eqb eqb_tells numbers q ∙ ap (is_member eqb numbers) (sym is) ∙ m)
 
-  -- the numbers have the total weight of one tree for each class
+  -- the total weight of the numbers is that of one position of each class
   total_is : (w : ℕ → ℕ) (v : ℕ × Tree → ℕ)
       → ((one : ℕ × Tree) → Stands es one → w (number one) ≡ v one)
       → total_below w count ≡ total v (representatives class whole)

@@ -71,7 +71,7 @@ module _ (held : EventTable) (of_collection : ℕ → ℕ) where
   pub leaf_below : (x : Scalar) (p : ℕ) → OccursAt es (Leaf x) p → class p < length scalars
   leaf_below x p s = slice_get_within scalars (class p) _ (leaf_class x p s)
 
-  -- each number below that of the different scalars is a class
+  -- each number below the number of different scalars is a class
   pub leaf_used : (k : ℕ) → k < length scalars → (p : ℕ) × HasItem es p × (class p ≡ k)
   leaf_used k lt =
       let (p, item, named) = scalar_used held.kept k lt in

@@ -243,7 +243,7 @@ pub fn plan_file<'p, 'e>(alloc: Global, given: Classed<'p, 'e>) -> Result<FilePl
         × IsOfTree (events_in given.entry)
         (λ tree. 2 ^ 64 ≤ size_by (class_in given.entry) tree))) }
 {
-    // There is one object for each class, so their number is known before they are numbered.
+    // There is one object for each class, so the bound of the classes is the number of objects.
     let width = reference_width(given.bound() as u64);
     let numbering = number_objects(alloc, &given, width)?;
     match size_of_file(numbering.size, numbering.count as u64) {

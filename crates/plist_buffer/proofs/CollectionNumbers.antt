@@ -98,7 +98,7 @@ ends_rise (k ∷ kinds) zero (suc b) is lt le = omega (arith, ap one_if_end is)
 ends_rise (k ∷ kinds) (suc a) (suc b) is lt le =
     omega (arith, ends_rise kinds a b is (omega (arith, lt)) (omega (arith, le)))
 
--- each number below that of the ends belongs to an end
+-- each number below the number of ends belongs to an end
 nth_end : (entries : List EventEntry) (c : ℕ) → c < ends_in (map kind_in entries)
     → (r : ℕ) × (r < length entries) × (entry_at entries r ≡ entry.End)
     × (ends_before entries r ≡ c)
@@ -284,7 +284,7 @@ module _ (held : EventTable) where
       ends
       (λ h. omega (arith, h, ends, skip_ends es u q r.occurs, r.large))
 
-  -- each number below that of the collections belongs to a collection
+  -- each number below the number of collections belongs to a collection
   pub number_used : IsBracketed es → (c : ℕ) → c < count_collections held
       → (p : ℕ) × (t : Tree) × IsCollectionAt es t p × (collection_number held p ≡ c)
   number_used (whole, is) c lt =

@@ -25,7 +25,7 @@ use Rattle.plist_buffer.proofs.Changes.{at_set, at_more}
 use Rattle.plist_buffer.proofs.Columns.{indexed, unnamed}
 use Rattle.plist_buffer.proofs.SetKeys.{first_of_both, second_of_both}
 use Rattle.plist_buffer.proofs.OpenStarts as opened
-use Rattle.plist_buffer.proofs.OpenStarts.{open_more, skip_more, skip_ends, skip_forward, innermost_starts}
+use Rattle.plist_buffer.proofs.OpenStarts.{open_more, skip_more, skip_forward, innermost_starts}
 
 -- ---- the events of entries
 
@@ -510,7 +510,7 @@ module _ {scalars : ScalarLists} {es : List EventEntry} {unclosed : List ℕ}
         by entry.End is = cc (begins, ap is_end (next (ap (index_after_entry index) is)))
         by e is = ap is_start is
 
-  -- the scalar with a number is at an index
+  -- a stored scalar is at some index of the events
   number_used : (number : ScalarNumber) (e : PlainEvent) → scalar_numbered scalars number ≡ Some e
       → (p : ℕ) × HasItem (events_of_entries scalars es) p
       × (scalar_named scalars (entry_at es p) ≡ Some (index_of_number scalars number))
@@ -524,7 +524,7 @@ module _ {scalars : ScalarLists} {es : List EventEntry} {unclosed : List ℕ}
       ∙ index_named scalars number found refers in
       (p, (here, ap is_end (leaf_is _ (scalar_is_leaf here named)).1), named)
 
-  -- each of the different scalars is at an index
+  -- each of the different scalars is at some index of the events
   pub scalar_used : (k : ℕ) → k < length (all_scalars scalars) → (p : ℕ)
       × HasItem (events_of_entries scalars es) p × (scalar_named scalars (entry_at es p) ≡ Some k)
   scalar_used k within = elim (leb_tells (length scalars.small) k) [

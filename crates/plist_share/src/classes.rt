@@ -1,7 +1,7 @@
 //! Classes of the trees among events: two events have the same class if and only if the same tree
 //! begins at both.
 
-ghost use Rattle.std.specs.Prelude.{◌≡◌, ◌↔◌, ◌+◌, ◌-◌, ◌<◌, ◌≤◌, ◌++◌, [], Some, length, map, slice_get, IfOk, IsTrue, OnOk};
+ghost use Rattle.std.specs.Prelude.{◌≡◌, ◌↔◌, ◌+◌, ◌-◌, ◌<◌, ◌≤◌, ◌++◌, Some, length, map, slice_get, IfOk, IsTrue, OnOk};
 ghost use Rattle.plist_base.specs.Events.{shape_of};
 ghost use Rattle.plist_buffer.specs.Children.{half_of};
 ghost use Rattle.plist_buffer.specs.EventTable.{IsBracketed, plain_events, scalars_of, table_event};
@@ -166,24 +166,23 @@ fn assign_class(
 }
 
 // Sets the class of each collection among these events. The walk goes backwards, so that the
-// classes of a collection's children are known before its own class is determined. The set of
-// collections must be empty.
+// classes of a collection's children are known before its own class is determined. Then adds the
+// number of different collections to the bound.
 fn assign_classes(
     alloc: Global,
     events: &EventTable<'_>,
     found: &mut ClassList,
-    collections: &mut IndexSet<Collection>,
 ) -> Result<(), AllocError>
     requires whole { IsBracketed (plain_events events.now) }
     requires long { HasEachCollection found.old events.now }
     requires bound { found.old.bound ≡ length (scalars_of events.now) }
-    requires none { collections.old.keys ≡ [] }
     ensures { OnOk result (SeparatesAll events.now found.new) }
 {
+    let mut collections = IndexSet::new(alloc);
     let mut index = events.len();
     'back: while index > 0 {
         index -= 1;
-        assign_class(alloc, events, index, found, collections)?;
+        assign_class(alloc, events, index, found, &mut collections)?;
     }
     match found.bound.checked_add(collections.len()) {
         Some(bound) => {
@@ -205,7 +204,6 @@ pub fn tree_classes(alloc: Global, events: &EventTable<'_>) -> Result<ClassList,
         by_collection: CompactNumbers::zeros(alloc, events.count_collections())?,
         bound: events.count_scalars(),
     };
-    let mut collections = IndexSet::new(alloc);
-    assign_classes(alloc, events, &mut found, &mut collections)?;
+    assign_classes(alloc, events, &mut found)?;
     Ok(found)
 }

@@ -42,8 +42,8 @@ module _ (given : Classed) (numbering : Numbering) where
   abbrev pub IsNumbered : (index : ℕ) → Type 0
   IsNumbered index = 0 < stored_number index
 
-  -- each class has the number of one object, or no number yet, and the size is that of all objects;
-  -- `first` has an index of each object, and its tree; ends have no class
+  -- each class has the number of one object, or no number yet, and the size is that of the objects
+  -- that have numbers; `first` has an index of each object, and its tree; ends have no class
   pub record IsNumberedSoFar : Type 0 where
     pub whole : IsBracketed (events_in given)
     pub classed : IsClassed given

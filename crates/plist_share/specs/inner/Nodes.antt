@@ -18,11 +18,10 @@ Node = Bool × List ℕ
 abbrev pub node_of : Collection → Node
 node_of collection = (collection.is_dictionary, collection.children.items)
 
--- the new list begins with all nodes of the old one, and no other node was appended than that at
--- `index`
+-- the new list begins with all nodes of the old one, and only the node at `index` may have been
+-- appended
 pub record Extends (old : List Node) (index : ℕ) (new : List Node) : Type 0 where
   pub keeps : (i : ℕ) → i < length old → slice_get new i ≡ slice_get old i
-  pub grows : length old ≤ length new
   pub only : (i : ℕ) → i < length new → i ≢ index → i < length old
 
 -- a collection by the classes of its children, a dictionary's keys before its values

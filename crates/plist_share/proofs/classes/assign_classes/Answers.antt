@@ -1,4 +1,4 @@
-use Rattle.std.proofs.Common.{ℕ, ap, arith, length, map}
+use Rattle.std.proofs.Common.{◌≡◌, ℕ, [], ap, arith, length, map, rules}
 use Rattle.std.proofs.lemmas.List.{length-map}
 use Rattle.plist_base.specs.Trees.{Tree}
 use Rattle.plist_buffer.specs.EventTable.{plain_events}
@@ -11,17 +11,18 @@ use Rattle.plist_share.proofs.ClassTrees.{class_below, classes_used, found_class
 use Rattle.plist_share.proofs.classes.assign_classes.Goals as goal
 
 pub back-init : goal.back-init
-back-init c = record {
-  have = record {
-    each = λ p le t s. absurd (omega (arith, le, occurs_in s, c.len-index.ensures));
-    used = λ i lt.
-        absurd (omega (arith, lt, ap (λ keys. length (map node_of keys)) c.requires.none));
-  };
-  long = c.requires.long;
-  bound = c.requires.bound;
-  within = omega (arith, c.len-index.ensures);
-  apart = rw c.requires.none (λ i j k p q. cc);
-}
+back-init c =
+    let empty : c.new-collections.result.keys ≡ [] = search rules in
+    record {
+      have = record {
+        each = λ p le t s. absurd (omega (arith, le, occurs_in s, c.len-index.ensures));
+        used = λ i lt. absurd (omega (arith, lt, ap (λ keys. length (map node_of keys)) empty));
+      };
+      long = c.requires.long;
+      bound = c.requires.bound;
+      within = omega (arith, c.len-index.ensures);
+      apart = rw empty (λ i j k p q. cc);
+    }
 
 pub returns-in-Some : goal.returns-in-Some
 returns-in-Some c =

@@ -1,4 +1,4 @@
-use Rattle.std.proofs.Common.{rules, ◌≡◌, ◌+◌, ◌++◌, map, Some, ◌∙◌}
+use Rattle.std.proofs.Common.{rules, arith, ◌≡◌, ◌+◌, ◌-◌, ◌++◌, map, Some, ◌∙◌}
 use Rattle.plist_binwrite.specs.EventClasses.{listed_class}
 use Rattle.plist_buffer.specs.EventTable.{plain_events}
 use Rattle.plist_buffer.proofs.ChildIndices.{keys_are_in, values_are_in}
@@ -19,3 +19,9 @@ returns-clause-class c t s =
       sum,
       c.in_ok-node.ensures.stored ∙ (λ i. Some (c.begins_dictionary.result, is i)),
     )
+
+pub returns-clause-extends : goal.returns-clause-extends
+returns-clause-extends c =
+    let sum : c.in_ok-class.class ≡ c.args.found.now.bound + c.in_ok-node.node = search rules in
+    let node : c.in_ok-class.class - c.args.found.now.bound ≡ c.in_ok-node.node = omega (arith, sum) in
+    rw node c.in_ok-node.ensures.extends
