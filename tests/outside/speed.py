@@ -177,6 +177,25 @@ def settings_by_plistutil(size):
     return subprocess.run(["plistutil", "-f", "bin"], input=xml, capture_output=True, check=True).stdout
 
 
+def keyed_archive(size):
+    """Returns an archive of many objects of one class, as `NSKeyedArchiver` stores them."""
+    objects = ["$null"]
+
+    def uid(value):
+        objects.append(value)
+        return plistlib.UID(len(objects) - 1)
+
+    of_array, of_note = (
+        uid({"$classname": name, "$classes": [name, "NSObject"]}) for name in ("NSArray", "Note"))
+    notes = [
+        uid({"$class": of_note, "number": n, "title": uid(f"the title of note {n}"), "isDone": n % 3 == 0})
+        for n in range(size // 99)
+    ]
+    root = uid({"$class": of_array, "NS.objects": notes})
+    archive = {"$version": 100000, "$archiver": "NSKeyedArchiver", "$top": {"root": root}, "$objects": objects}
+    return plistlib.dumps(archive, fmt=plistlib.FMT_BINARY, sort_keys=False)
+
+
 def references_of(content, width):
     """Returns where the references of an object begin, and how many it has (a scalar has none)."""
     kind, count, start = content[0] >> 4, content[0] & 15, 1
@@ -229,7 +248,7 @@ def scattered_settings(size):
 SHAPES = {"integers": integers, "distinct texts": distinct_texts, "repeated texts": repeated_texts,
           "settings": settings, "blobs": blobs, "texts beyond ASCII": texts_beyond_ascii,
           "settings by plistlib": settings_by_plistlib, "settings, renumbered": renumbered_settings,
-          "settings, scattered": scattered_settings}
+          "settings, scattered": scattered_settings, "a keyed archive": keyed_archive}
 if shutil.which("plistutil"):
     SHAPES["settings by plistutil"] = settings_by_plistutil
 LEVELS = {"10^5 levels": lambda: levels(10**5), "10^6 levels": lambda: levels(10**6)}
