@@ -154,7 +154,8 @@ fn push_units(units: &mut Vec<u8>, c: char) -> Result<(), AllocError>
 fn units_of(alloc: Global, text: &str) -> Result<Vec<u8>, AllocError>
     ensures { IfOk result (λ units. units.items ≡ utf16_form text.now) }
 {
-    let mut units = Vec::new(alloc);
+    // Most characters have one unit, so the memory seldom has to grow.
+    let mut units = Vec::with_capacity(alloc, text.chars().count().saturating_mul(2))?;
     for c in text.chars() {
         push_units(&mut units, c)?;
     }
