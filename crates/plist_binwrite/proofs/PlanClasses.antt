@@ -76,25 +76,23 @@ module _ {es : List PlainEvent} (whole : Tree) (e : es ≡ lengthless whole) (cl
 -- ---- a plan's numbers
 
 module _ {given : Classed} {numbering : Numbering} (n : IsNumberingOfEvents given numbering) where
-  abbrev es : List PlainEvent
-  es = events_in given
-
   abbrev class : ℕ → ℕ
   class = class_in given
 
   abbrev num : ℕ → ℕ
   num = object_number given numbering
 
-  first_item : (k : ℕ) → k < numbering.count → (p : ℕ) × HasItem es p × (num p ≡ k)
+  first_item : (k : ℕ) → k < numbering.count → (p : ℕ) × HasItem (events_in given) p × (num p ≡ k)
   first_item k h =
       let s = (n.so_far.known k h).0 in (_, (occurs_in s, begins _ _ s), known_number n k h)
 
-  alike : (a b : ℕ × Tree) → Stands es a → Stands es b → same_class class a b ≡ same_class num a b
+  alike : (a b : ℕ × Tree) → Stands (events_in given) a → Stands (events_in given) b
+      → same_class class a b ≡ same_class num a b
   alike a b s r =
       tells_both eqb eqb (class a.0) (class b.0) (num a.0) (num b.0) (eqb_tells _ _) (eqb_tells _ _)
       (number_same n a.1 b.1 a.0 b.0 s r) (number_apart n a.1 b.1 a.0 b.0 s r)
 
-  module _ (whole : Tree) (e : es ≡ lengthless whole) where
+  module _ (whole : Tree) (e : events_in given ≡ lengthless whole) where
     -- there are as many objects as classes
     pub numbered_count : numbering.count ≡ count_by class whole
     numbered_count = count_is whole e class num numbering.count (numbers_below n) first_item alike
