@@ -135,8 +135,8 @@ pub fn decode_text(low: LowHalf, rest: AfterMarker<'_>) -> Decoded
     short_text(&following[..count as usize])
 }
 
-// Decodes a UTF-16 string. Returns `None` if it has more than eight bytes in UTF-8, because it can't
-// be packed then.
+// Decodes a UTF-16 string. Returns `None` if it has more than eight bytes in UTF-8, because it
+// can't be packed then.
 fn short_wide_text(bytes: &[u8]) -> Option<Decoded>
     requires { length bytes.now % 2 ≡ 0 }
     ensures { IfSome result (MeansDecoded (wide_text bytes.now)) }

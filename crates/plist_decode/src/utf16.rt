@@ -142,8 +142,8 @@ fn write_chars(text: &mut [u8], chars: Utf16Chars<'_>)
     }
 }
 
-/// Writes a string in UTF-8 to `text`, and returns it. `text` must have exactly as many bytes as the
-/// string has in UTF-8.
+/// Writes a string in UTF-8 to `text`, and returns it. `text` must have exactly as many bytes as
+/// the string has in UTF-8.
 pub fn write_utf8<'t>(string: Utf16Str<'_>, text: &'t mut [u8]) -> &'t str
     requires { length text.old ≡ length (string_of_utf16 string) }
     ensures { result.now ≡ string_of_utf16 string.entry }
