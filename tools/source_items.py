@@ -278,8 +278,8 @@ def without_docs(text):
 def joined(text):
     """Returns a clause with its lines indented as little as possible."""
     lines = [line.rstrip() for line in text.strip().split("\n")]
-    first, rest = lines[0], textwrap.dedent("\n".join(lines[1:]))
-    return "\n".join([first, *("    " + line if line else "" for line in rest.split("\n"))] if len(lines) > 1 else [first])
+    rest = textwrap.dedent("\n".join(lines[1:])).split("\n") if len(lines) > 1 else []
+    return "\n".join([lines[0], *("    " + line if line else "" for line in rest)])
 
 
 def code(text, column):

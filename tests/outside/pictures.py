@@ -121,20 +121,24 @@ def speed():
     left = 30 + 8 * max(len(shape) for shape, _ in rows)
     step = 3 * bar + gap
     bottom = top + len(rows) * step
-    body = [f'<text class="strong" x="16" y="24">Time and memory of plist_tool, divided by those of version {version} of the crate</text>',
-            f'<text class="small" x="16" y="42">Files of 10 MB, or of 10^6 levels. Shorter is better; 1.0 is as much as the crate takes.</text>']
+    title = f"Time and memory of plist_tool, divided by those of version {version} of the crate"
+    note = "Files of 10 MB, or of 10^6 levels. Shorter is better; 1.0 is as much as the crate takes."
+    body = [f'<text class="strong" x="16" y="24">{title}</text>', f'<text class="small" x="16" y="42">{note}</text>']
     for i, (kind, label) in enumerate(KINDS):
         x = left + i * 150
-        body.append(f'<rect class="{kind}" x="{x}" y="54" width="12" height="12"/><text class="small" x="{x + 17}" y="64">{label}</text>')
+        body.append(f'<rect class="{kind}" x="{x}" y="54" width="12" height="12"/>'
+                    f'<text class="small" x="{x + 17}" y="64">{label}</text>')
     body += scale(left, unit, top - 8, bottom - 4)
     described = []
     for i, (shape, values) in enumerate(rows):
         y = top + i * step
         body.append(f'<text x="{left - 10}" y="{y + 2 * bar - 3}" text-anchor="end">{escape(shape)}</text>')
         body += bars(values, left, unit, y, bar)
-        described += [f"{shape}: {label} {'' if value is None else f'{value:.2f}'}" for (_, label), value in zip(KINDS, values)]
-    described = [it if it[-1].isdigit() else f"{it}has no number, since the crate ends by a signal" for it in described]
-    return picture(left + unit + 30, bottom + 24, f"Speed compared with version {version} of the crate", "; ".join(described),
+        for (_, label), value in zip(KINDS, values):
+            number = "no number, since the crate ends by a signal" if value is None else f"{value:.2f}"
+            described.append(f"{shape}: {label} {number}")
+    width, height = left + unit + 30, bottom + 24
+    return picture(width, height, f"Speed compared with version {version} of the crate", "; ".join(described),
                    "\n".join(lines), body)
 
 
