@@ -218,8 +218,8 @@ impl Value {
         Value::from_reader_with_limits(alloc, source, limits)
     }
 
-    /// Writes the value as a binary property list to the file at the given path, and syncs the
-    /// file. If the file exists, it is truncated before the first byte is written.
+    /// Writes the value as a binary property list to the file of this name, and syncs the file. If
+    /// the file exists, it is truncated before the first byte is written.
     ///
     /// # Errors
     ///

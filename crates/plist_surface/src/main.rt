@@ -40,9 +40,9 @@ fn print<R: Files + AllocGlobal, W: Write>(
     values::print(alloc, out)?;
     dictionaries::print(alloc, out)?;
     archives::print(alloc, out)?;
-    files::print(rt, alloc, out)?;
     examples::print(rt, alloc, out)?;
-    stream_examples::print(alloc, out)
+    stream_examples::print(alloc, out)?;
+    files::print(rt, alloc, out)
 }
 
 fn main(rt: HostRuntime) -> ExitCode {
