@@ -1,0 +1,6 @@
+-- Lemmas of the proofs.
+pub mod Held
+pub mod Ordered
+pub mod Limited
+pub mod Filled
+pub mod ReaderItems
