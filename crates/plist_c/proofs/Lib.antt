@@ -4,3 +4,4 @@ pub mod Ordered
 pub mod Limited
 pub mod Filled
 pub mod ReaderItems
+pub mod Pushing

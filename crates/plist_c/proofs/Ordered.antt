@@ -46,7 +46,7 @@ pub expected_more : (done : List PlainEvent) (event : PlainEvent) (stack after :
 expected_more done event stack after here to =
     let u = here.unfinished in
     let can = (continue_alike (events_so_far u) done here.alike event).1
-        (comes_next done event stack after here to) in
+    (comes_next done event stack after here to) in
     let w = taken_before u event here.nested (continues-accepted u event here.nested can) in record {
       unfinished = w.0;
       nested = w.2;
@@ -64,7 +64,7 @@ pub no_whole_events : (done : List PlainEvent) (top : Expect) (rest : List Expec
     → IsExpected done (top ∷ rest) → (tree : Tree) → AreAlike done (bracketing tree) → ⊥
 no_whole_events done top rest here tree alike =
     let is : ◌≡◌ {A = List Expect} [] (top ∷ rest) =
-        same_Some _ _ (sym (all_taken done tree alike) ∙ here.after) in cc
+    same_Some _ _ (sym (all_taken done tree alike) ∙ here.after) in cc
 
 -- the stack is that of the unfinished tree
 stack_is : (done : List PlainEvent) (stack : List Expect) (here : IsExpected done stack)

@@ -1,10 +1,10 @@
 -- What the steps of writing do.
 use Rattle.std.specs.Prelude.{◌≡◌, ◌⊎◌, ℕ, ◌^◌, ◌<◌, ◌≤◌, ◌∷◌, ◌++◌, [], false, true, List, drop, length, map, ⊤}
-use Rattle.plist_base.specs.Bracketing.{AreTreeEvents, without_length}
+use Rattle.plist_base.specs.Bracketing.{without_length}
 use Rattle.plist_base.specs.Events.{PlainEvent, kind_of_event}
 use Rattle.plist_base.specs.Faults.{ExpectedEndOfEventStream, UnexpectedEventType, fault_without_offset}
 use Rattle.plist_binwrite.specs.SendingAs.{FileKind, IsOfTree}
-use Rattle.plist_buffer.specs.EventBuffers.{Accepts, IsMisplaced, TestsWhole, buffered_events, is_whole}
+use Rattle.plist_buffer.specs.EventBuffers.{Accepts, IsMisplaced, buffered_events, is_whole}
 use Rattle.plist_buffer.specs.declared.event_buffer.EventBuffer.{EventBuffer}
 use Rattle.plist_c.specs.declared.flat.FlatEvent.{FlatEvent}
 use Rattle.plist_c.specs.declared.flat.Outcome.{Outcome}
@@ -48,7 +48,6 @@ pub record HasPushed (bytes : List ℕ) (records : List FlatEvent) (pending : Ev
     pub events : List PlainEvent
     pub are : AreRecordsOf bytes records events
     pub held : buffered_events pending ≡ map without_length events
-    pub whole : TestsWhole (is_whole pending) (buffered_events pending)
 
 -- the file is copied if there is room for it, and otherwise nothing is
 abbrev pub Stores : (made : List ℕ) (count : ℕ) (old : List ℕ) → Outcome → (new : List ℕ) → Type 0
