@@ -1,0 +1,320 @@
+#!/usr/bin/env python3
+"""Compares the bindings for C, Rust and Python with `plist_tool`, and tests them on their own.
+
+Mutated and random files, as `fuzz.py` has them, are read by a program in each language
+(`tests/outside/bindings`), many in one process. For a binary file it must print what
+`plist_tool print` prints. For an ASCII file it must print the events that the second reader
+(`second.py`) returns. The error of reading a file as a value must be the one of
+`plist_tool convert`, and what is written must be the file that `convert` writes. What is written with
+sharing is compared with a third writer, which is in this script.
+
+`bindings/guarded.c` calls the functions with unreadable pages around their arrays, and with random
+limits and capacities. `bindings/tables.py` compares the numbers of the header with the enums of
+`plist_base`. `make check` of `bindings/c` and `cargo test` of `bindings/rust` run, too.
+
+Usage: bindings.py [FILES [SEED [WORKERS]]]      100000 files, and as many workers as processors
+
+Needs the archive libplist_c.a, the built `plist_tool`, a C compiler and cargo. The variables
+SIZHETOM_LIB and SIZHETOM_HEAP name the folders of the archives, if they aren't where they are built.
+PLIST_TOOL names the program. What isn't compared because Python's package can't be built is said. The
+status is 1 if anything differs.
+"""
+import collections
+import multiprocessing
+import os
+import pathlib
+import random
+import struct
+import subprocess
+import sys
+import tempfile
+
+import bounded
+import mutations
+import second
+
+HERE = pathlib.Path(__file__).resolve().parent
+TOP = HERE.parents[1]
+PROGRAM = pathlib.Path(os.environ.get("PLIST_TOOL") or TOP / "crates/plist_tool/out/plist_tool")
+DRIVERS, BINDINGS = HERE / "bindings", TOP / "bindings"
+sys.path.insert(0, str(DRIVERS))
+import tables  # noqa: E402
+MOST_ITEMS = 3000
+BATCH = 500
+# the number of answers that each program writes for a file
+ANSWERS = {"C": 5, "Rust": 5, "Python": 3}
+
+
+# ---- building
+
+def run(words, folder=None, **more):
+    return subprocess.run([str(word) for word in words], cwd=folder, check=True, **more)
+
+
+def kit():
+    """Returns the folder of the kit's archive."""
+    page = subprocess.run(["rt", "doc"], capture_output=True, text=True, check=True).stdout.strip()
+    return pathlib.Path(page).parent / "c"
+
+
+def archives():
+    """Returns the paths of the two archives."""
+    proved = pathlib.Path(os.environ.get("SIZHETOM_LIB") or TOP / "crates/plist_c/out")
+    heap = pathlib.Path(os.environ.get("SIZHETOM_HEAP") or kit())
+    return [proved / "libplist_c.a", heap / "liblibc_c.a"]
+
+
+def compiled(folder, name):
+    """Compiles a program in C of `bindings`, and returns its path."""
+    program = folder / name
+    run(["cc", "-std=gnu11", "-O2", "-Wall", "-Wextra", "-Werror", f"-I{BINDINGS}/c", f"-I{BINDINGS}/c/examples",
+         "-o", program, DRIVERS / f"{name}.c", *archives(), "-lm"])
+    return program
+
+
+def cargo(folder, *words):
+    target = {**os.environ, "CARGO_TARGET_DIR": str(folder / "target")}
+    return ["cargo", *words, "--offline", "--quiet"], target
+
+
+def built(folder):
+    """Builds the programs, and returns the command of each one, and of the one with unreadable pages."""
+    commands = {"C": [compiled(folder, "each")]}
+    words, variables = cargo(folder, "build", "--release")
+    run(words, DRIVERS / "each", env=variables)
+    commands["Rust"] = [folder / "target/release/each"]
+    if (BINDINGS / "python/build_backend.py").exists():
+        run([sys.executable, BINDINGS / "python/build_backend.py", folder / "python"])
+        commands["Python"] = ["env", f"PYTHONPATH={folder / 'python'}:{BINDINGS / 'python/examples'}",
+                              sys.executable, DRIVERS / "each.py"]
+    else:
+        print("there is no package for Python")
+    return commands, [compiled(folder, "guarded")]
+
+
+def run_their_own_tests(folder):
+    run(["make", "--quiet", "-C", BINDINGS / "c", "check"])
+    words, variables = cargo(folder, "test")
+    run(words, BINDINGS / "rust", env=variables, stdout=subprocess.DEVNULL)
+    print("the tests of the C and Rust bindings passed")
+
+
+# ---- the expected answers
+
+class SharedWriting(second.Writing):
+    """Like `second.Writing`, but equal collections have one number."""
+
+    def __init__(self, value):
+        self.names = {}
+        super().__init__(value)
+
+    def name_of(self, value):
+        """Returns a number that two values share only if they are equal."""
+        if isinstance(value, dict):
+            content = ("dictionary", *((key, self.name_of(child)) for key, child in value.items()))
+        elif isinstance(value, list):
+            content = ("array", *map(self.name_of, value))
+        else:
+            content = value
+        return self.names.setdefault(content, len(self.names))
+
+    def number_for(self, child):
+        if isinstance(child, tuple):
+            return super().number_for(child)
+        name = self.name_of(child)
+        if name not in self.numbers:
+            self.count += 1
+            self.numbers[name] = self.count - 1
+        return self.numbers[name]
+
+    def place(self, root, number_of_root):
+        # The root can't be among its own items, so its number needs no entry.
+        super().place(root, number_of_root)
+        placed, order = set(), []
+        for number, one in self.order:
+            if number not in placed:
+                placed.add(number)
+                order.append((number, one))
+        self.order = order
+
+
+def shared_file_of(value):
+    """Returns the binary property list of a value in which equal collections are stored once."""
+    return second.file_of(value, SharedWriting)
+
+
+def repeats_a_key(items):
+    """Returns whether a dictionary of these items, which are those of a value, has a key twice."""
+    open_ones = []
+    for item in items:
+        if item[0] == "EndCollection":
+            open_ones.pop()
+        elif open_ones and open_ones[-1] is not None and not open_ones[-1][1]:
+            keys, _ = open_ones[-1]
+            if item[1] in keys:
+                return True
+            keys.add(item[1])
+            open_ones[-1] = keys, True
+            continue
+        if open_ones and open_ones[-1] is not None:
+            open_ones[-1] = open_ones[-1][0], False
+        if item[0] in ("StartArray", "StartDictionary"):
+            open_ones.append((set(), False) if item[0] == "StartDictionary" else None)
+    return False
+
+
+def line(fault):
+    return f"Error: {fault.text}\n".encode()
+
+
+class Case:
+    """A file, its items, and what `plist_tool` does with it."""
+
+    def __init__(self, folder, data):
+        self.data, self.is_binary = data, data.startswith(second.MAGIC)
+        self.items = second.items_of_input(data, MOST_ITEMS)
+        if len(self.items) > MOST_ITEMS:
+            raise second.TooMany
+        self.source, self.made, self.shown, self.error, self.told = (
+            folder / name for name in ("in", "made", "shown", "error", "told"))
+        folder.mkdir(exist_ok=True)
+        self.source.write_bytes(data)
+        self.made.unlink(missing_ok=True)
+
+    def runs(self):
+        """Returns the runs of the program."""
+        if self.is_binary:
+            yield [PROGRAM, "print", self.source], 0, 60, self.shown, self.error
+        yield [PROGRAM, "convert", self.source, self.made], 0, 60, "/dev/null", self.told
+
+    def printed(self):
+        """Returns what has to be printed to standard output and to standard error."""
+        if self.is_binary:
+            return self.shown.read_bytes(), self.error.read_bytes()
+        lines, error = [], b""
+        for item in self.items:
+            if isinstance(item, second.Fault):
+                error = line(item)
+                break
+            lines.append(second.line_of(item) + "\n")
+        return "".join(lines).encode(), error
+
+    def written(self, is_value):
+        """Returns the error of reading the file as a value, and what has to be written.
+
+        If keys are repeated, only what is written of a value is known."""
+        error = self.told.read_bytes()
+        if error:
+            return error, b"", b""
+        if not is_value and repeats_a_key(self.items):
+            return error, None, None
+        return error, self.made.read_bytes(), shared_file_of(second.value_of(self.items))
+
+
+# ---- the comparison
+
+def answers_of(command, cases, count):
+    """Runs a program on files, and returns its answers for each of them."""
+    pack = b"".join(struct.pack("=I", len(case.data)) + case.data for case in cases)
+    output = run(command, input=pack, stdout=subprocess.PIPE).stdout
+    answers, at = [], 0
+    while at < len(output):
+        length, = struct.unpack_from("=I", output, at)
+        answers.append(output[at + 4:at + 4 + length])
+        at += 4 + length
+    if len(answers) != count * len(cases):
+        raise ValueError(f"{command[0]} has written {len(answers)} answers for {len(cases)} files")
+    return [answers[i:i + count] for i in range(0, len(answers), count)]
+
+
+NAMES = ("standard output", "standard error", "the error of a value", "the file", "the shared file")
+
+
+def compare(case, language, found, counts):
+    wanted = [*case.printed(), *case.written(is_value=language == "Rust")]
+    for name, one, other in zip(NAMES, found, wanted):
+        if other is None:
+            counts[f"{language}: {name}, not compared since a key is repeated"] += 1
+            continue
+        counts[f"{language}: {name}"] += 1
+        if one != other:
+            counts["different"] += 1
+            print(f"{language}, {name} of {case.data.hex()}: {one!r} in place of {other!r}", flush=True)
+
+
+def judge(cases, programs, seed, counts):
+    """Compares what the programs answer for these files, of which `plist_tool` has read each."""
+    commands, guarded = programs
+    for language, command in commands.items():
+        for case, found in zip(cases, answers_of(command, cases, ANSWERS[language])):
+            compare(case, language, found, counts)
+    pack = b"".join(struct.pack("=I", len(case.data)) + case.data for case in cases)
+    ended = subprocess.run([*guarded, str(seed)], input=pack, capture_output=True)
+    if ended.returncode == 0:
+        counts["calls between unreadable pages"] += int(ended.stdout)
+    else:
+        counts["different"] += 1
+        print(f"guarded ended with {ended.returncode}: {ended.stdout.decode()}{ended.stderr.decode()}", flush=True)
+
+
+def corpus():
+    """Yields the files of the repository."""
+    for pattern in ("examples/*.plist", "crates/*/data/*.plist"):
+        for path in sorted(TOP.glob(pattern)):
+            yield path.read_bytes()
+
+
+def some_cases(chance, folder, files, counts):
+    for number, data in enumerate(files):
+        try:
+            yield Case(folder / str(number), data)
+        except second.TooMany:
+            counts["too many items, left out"] += 1
+
+
+def compare_files(starter, chance, folder, files, programs, counts):
+    cases = list(some_cases(chance, folder, files, counts))
+    for ended in starter.run_all([run for case in cases for run in case.runs()]):
+        if ended.signal or ended.status not in (0, 1):
+            raise ValueError(f"{PROGRAM} has ended with {ended}")
+    counts["binary files"] += sum(case.is_binary for case in cases)
+    counts["other files"] += sum(not case.is_binary for case in cases)
+    judge(cases, programs, chance.randrange(1 << 32), counts)
+
+
+def work(words):
+    count, seed, programs = words
+    chance, counts = random.Random(seed), collections.Counter()
+    with tempfile.TemporaryDirectory() as name:
+        folder = pathlib.Path(name)
+        starter = bounded.Starter(folder)
+        compare_files(starter, chance, folder, list(corpus()), programs, counts)
+        for start in range(0, count, BATCH):
+            if start % (20 * BATCH) == 0:
+                pool = [data for _ in range(20) for data in mutations.from_others(chance, folder)]
+            files = [mutations.some_file(chance, pool) for _ in range(min(BATCH, count - start))]
+            compare_files(starter, chance, folder, files, programs, counts)
+        starter.close()
+    return counts
+
+
+def main():
+    given = [int(word) for word in sys.argv[1:]]
+    files, seed, workers = given + [100_000, 1, os.cpu_count()][len(given):]
+    counts = collections.Counter()
+    for text in tables.differences():
+        counts["different"] += 1
+        print(text)
+    with tempfile.TemporaryDirectory() as name:
+        programs = built(pathlib.Path(name))
+        run_their_own_tests(pathlib.Path(name))
+        with multiprocessing.Pool(workers) as pool:
+            shares = [(files // workers + (i < files % workers), seed * 1000 + i, programs) for i in range(workers)]
+            counts += sum(pool.map(work, shares, chunksize=1), collections.Counter())
+    for name, count in sorted(counts.items()):
+        print(f"{name}: {count}")
+    return 1 if counts["different"] else 0
+
+
+if __name__ == "__main__":
+    sys.exit(main())
