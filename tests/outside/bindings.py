@@ -24,6 +24,7 @@ import multiprocessing
 import os
 import pathlib
 import random
+import resource
 import struct
 import subprocess
 import sys
@@ -41,6 +42,8 @@ sys.path.insert(0, str(DRIVERS))
 import tables  # noqa: E402
 MOST_ITEMS = 3000
 BATCH = 500
+# the memory that a program may use which reads a file of too many events
+ROOM = 1 << 28
 # the number of answers that each program writes for a file
 ANSWERS = {"C": 5, "Rust": 5, "Python": 3}
 
@@ -97,6 +100,35 @@ def run_their_own_tests(folder):
     words, variables = cargo(folder, "test")
     run(words, BINDINGS / "rust", env=variables, stdout=subprocess.DEVNULL)
     print("the tests of the C and Rust bindings passed")
+
+
+def doubling(levels):
+    """Returns a file of arrays, each of which has the next one twice."""
+    objects = b"".join(bytes([0xA2, i + 1, i + 1]) for i in range(levels)) + b"\xa0"
+    table = bytes(8 + 3 * i for i in range(levels + 1))
+    numbers = struct.pack(">QQQ", levels + 1, 0, 8 + len(objects))
+    return second.MAGIC + objects + table + bytes(6) + b"\1\1" + numbers
+
+
+def ended_within(words, room):
+    """Returns how a program ended that may use this many bytes of memory."""
+    bound = lambda: resource.setrlimit(resource.RLIMIT_AS, (room, room))  # noqa: E731
+    return subprocess.run([str(word) for word in words], preexec_fn=bound, capture_output=True)
+
+
+def run_out_of_memory(folder):
+    """Lets the examples read a file of 2^42 events without limits, which ends when memory is exhausted."""
+    path = folder / "doubling.plist"
+    path.write_bytes(doubling(40))
+    words, variables = cargo(folder, "build", "--release", "--example", "print")
+    run(words, BINDINGS / "rust", env=variables)
+    expected = {BINDINGS / "c/out/print": (2, b""),
+                folder / "target/release/examples/print": (1, b"Error: OutOfMemory\n")}
+    for program, (status, error) in expected.items():
+        ended = ended_within([program, path], ROOM)
+        if (ended.returncode, ended.stderr) != (status, error):
+            raise ValueError(f"{program} ended with {ended.returncode} and {ended.stderr!r} when memory was exhausted")
+    print("the examples ended as they should when memory was exhausted")
 
 
 # ---- the expected answers
@@ -308,6 +340,7 @@ def main():
     with tempfile.TemporaryDirectory() as name:
         programs = built(pathlib.Path(name))
         run_their_own_tests(pathlib.Path(name))
+        run_out_of_memory(pathlib.Path(name))
         with multiprocessing.Pool(workers) as pool:
             shares = [(files // workers + (i < files % workers), seed * 1000 + i, programs) for i in range(workers)]
             counts += sum(pool.map(work, shares, chunksize=1), collections.Counter())

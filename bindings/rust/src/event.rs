@@ -128,6 +128,16 @@ impl<'a> Events<'a> {
     }
 
     #[inline]
+    fn string(&self, record: &Record) -> &'a str {
+        let content = self.content(record);
+        debug_assert!(str::from_utf8(content).is_ok());
+        // SAFETY: The record is one of a `Memory`. It is either one that a reader of the archive
+        // stored, whose contract says that a string is in UTF-8, or one that `Memory::push` made of
+        // a `str`.
+        unsafe { str::from_utf8_unchecked(content) }
+    }
+
+    #[inline]
     fn event(&self, record: &Record) -> Event<'a> {
         let &Record { number, size, .. } = record;
         match record.kind {
@@ -140,7 +150,7 @@ impl<'a> Events<'a> {
             7 => Event::Integer(Integer::from_bits(number, size == 1)),
             8 if size == 4 => Event::Real(Real::Single(f32::from_bits(number as u32))),
             8 => Event::Real(Real::Double(f64::from_bits(number))),
-            9 => Event::String(str::from_utf8(self.content(record)).expect("a string is UTF-8")),
+            9 => Event::String(self.string(record)),
             10 => Event::Uid(Uid::new(number)),
             other => unreachable!("no event has the kind {other}"),
         }

@@ -1,6 +1,6 @@
 //! The functions of the archive, as `bindings/c/sizhetom.h` declares them.
 //!
-//! This is the only module with `unsafe` blocks.
+//! They are called in three `unsafe` blocks. The only other block is in `Events::string`.
 
 use crate::Limits;
 use crate::fault::Outcome;

@@ -44,3 +44,8 @@ pub use limits::{Limit, Limits};
 pub use scalars::{Date, Integer, Real, Uid};
 pub use value::{Value, ValueEvents};
 pub use writer::{Writer, to_binary, to_binary_shared};
+
+/// The example of the README is compiled as a test.
+#[cfg(doctest)]
+#[doc = include_str!("../README.md")]
+struct Readme;
