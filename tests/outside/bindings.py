@@ -6,7 +6,8 @@ Mutated and random files, as `fuzz.py` has them, are read by a program in each l
 `plist_tool print` prints. For an ASCII file it must print the events that the second reader
 (`second.py`) returns. The error of reading a file as a value must be the one of
 `plist_tool convert`, and what is written must be the file that `convert` writes. What is written with
-sharing is compared with a third writer, which is in this script.
+sharing is compared with a third writer, which is in this script. If the crate `plist` is installed
+(librust-plist-dev), it must read the same value of a file and of what the Rust crate writes of it.
 
 `bindings/guarded.c` calls the functions with unreadable pages around their arrays, and with random
 limits and capacities. `bindings/tables.py` compares the numbers of the header with the enums of
@@ -20,6 +21,7 @@ PLIST_TOOL names the program. What isn't compared because Python's package can't
 status is 1 if anything differs.
 """
 import collections
+import itertools
 import multiprocessing
 import os
 import pathlib
@@ -80,8 +82,25 @@ def cargo(folder, *words):
     return ["cargo", *words, "--offline", "--quiet"], target
 
 
+# The compiled programs: those that answer for each file, by their language; the one with unreadable
+# pages; and the one over the crate `plist`, or None.
+Programs = collections.namedtuple("Programs", "commands guarded beside")
+
+
+def built_beside(folder):
+    """Builds the program over the crate `plist` as Debian packages it, or returns None."""
+    registry = ["--config", 'source.crates-io.replace-with="debian"',
+                "--config", 'source.debian.directory="/usr/share/cargo/registry"']
+    words, variables = cargo(folder, "build", "--release", *registry)
+    ended = subprocess.run(words, cwd=DRIVERS / "beside", env=variables, capture_output=True)
+    if ended.returncode == 0:
+        return folder / "target/release/beside"
+    print("the crate plist isn't installed")
+    return None
+
+
 def built(folder):
-    """Builds the programs, and returns the command of each one, and of the one with unreadable pages."""
+    """Builds the programs."""
     commands = {"C": [compiled(folder, "each")]}
     words, variables = cargo(folder, "build", "--release")
     run(words, DRIVERS / "each", env=variables)
@@ -92,7 +111,7 @@ def built(folder):
                               sys.executable, DRIVERS / "each.py"]
     else:
         print("there is no package for Python")
-    return commands, [compiled(folder, "guarded")]
+    return Programs(commands, compiled(folder, "guarded"), built_beside(folder))
 
 
 def run_their_own_tests(folder):
@@ -245,10 +264,14 @@ class Case:
 
 # ---- the comparison
 
+def packed(files):
+    """Returns files in the form in which the programs read them."""
+    return b"".join(struct.pack("=I", len(data)) + data for data in files)
+
+
 def answers_of(command, cases, count):
     """Runs a program on files, and returns its answers for each of them."""
-    pack = b"".join(struct.pack("=I", len(case.data)) + case.data for case in cases)
-    output = run(command, input=pack, stdout=subprocess.PIPE).stdout
+    output = run(command, input=packed(case.data for case in cases), stdout=subprocess.PIPE).stdout
     answers, at = [], 0
     while at < len(output):
         length, = struct.unpack_from("=I", output, at)
@@ -274,14 +297,26 @@ def compare(case, language, found, counts):
             print(f"{language}, {name} of {case.data.hex()}: {one!r} in place of {other!r}", flush=True)
 
 
+def compare_beside(program, pairs, counts):
+    """Lets the crate `plist` read files and what the crate `sizhetom` has written of them."""
+    output = run([program], input=packed(itertools.chain(*pairs)), stdout=subprocess.PIPE).stdout
+    for (data, _), answer in zip(pairs, output.decode().split(), strict=True):
+        counts[f"values of the crate plist: {answer}"] += 1
+        if answer == "differ":
+            counts["different"] += 1
+            print(f"the crate plist reads another value of what was written of {data.hex()}", flush=True)
+
+
 def judge(cases, programs, seed, counts):
     """Compares what the programs answer for these files, of which `plist_tool` has read each."""
-    commands, guarded = programs
-    for language, command in commands.items():
-        for case, found in zip(cases, answers_of(command, cases, ANSWERS[language])):
+    for language, command in programs.commands.items():
+        answers = answers_of(command, cases, ANSWERS[language])
+        for case, found in zip(cases, answers):
             compare(case, language, found, counts)
-    pack = b"".join(struct.pack("=I", len(case.data)) + case.data for case in cases)
-    ended = subprocess.run([*guarded, str(seed)], input=pack, capture_output=True)
+        if language == "Rust" and programs.beside:
+            pairs = [(case.data, found[3]) for case, found in zip(cases, answers) if found[3]]
+            compare_beside(programs.beside, pairs, counts)
+    ended = subprocess.run([programs.guarded, str(seed)], input=packed(case.data for case in cases), capture_output=True)
     if ended.returncode == 0:
         counts["calls between unreadable pages"] += int(ended.stdout)
     else:
