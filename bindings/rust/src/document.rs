@@ -118,8 +118,7 @@ pub fn read(input: &[u8], limits: Limits) -> Result<Document, Fault> {
         memory: Memory::default(),
     };
     read_into(&mut document, input, &limits)?;
-    document.memory.records.shrink_to_fit();
-    document.memory.bytes.shrink_to_fit();
+    document.memory.shrink();
     Ok(document)
 }
 
@@ -137,8 +136,7 @@ pub fn read(input: &[u8], limits: Limits) -> Result<Document, Fault> {
 pub fn read_events(input: &[u8], limits: Limits) -> EventList {
     let mut memory = Memory::default();
     let fault = fill(ffi::read_events, &mut memory, input, &limits);
-    memory.records.shrink_to_fit();
-    memory.bytes.shrink_to_fit();
+    memory.shrink();
     EventList { memory, fault }
 }
 
@@ -229,6 +227,19 @@ fn fill(
     memory.records.clear();
     memory.bytes.clear();
     Some(Fault::without_offset(FaultKind::OutOfMemory, 0))
+}
+
+impl Memory {
+    /// Returns memory to the system if less than half of it is used. Less isn't worth a call: an
+    /// allocator can give the same memory to the next document if it has the same size.
+    fn shrink(&mut self) {
+        if self.records.len() < self.records.capacity() / 2 {
+            self.records.shrink_to_fit();
+        }
+        if self.bytes.len() < self.bytes.capacity() / 2 {
+            self.bytes.shrink_to_fit();
+        }
+    }
 }
 
 /// Reserves capacity, and returns whether the memory could be allocated. The contents are dropped.
