@@ -37,7 +37,7 @@ fn arrays() {
 
 #[test]
 fn dictionaries() {
-    on_a_small_stack(|| use_deep_value(&nested("{a=", ";}")));
+    on_a_small_stack(|| use_deep_value(&nested("{ a = ", "; }")));
 }
 
 #[test]
