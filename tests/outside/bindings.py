@@ -307,23 +307,6 @@ def compare_beside(program, pairs, counts):
             print(f"the crate plist reads another value of what was written of {data.hex()}", flush=True)
 
 
-def judge(cases, programs, seed, counts):
-    """Compares what the programs answer for these files, of which `plist_tool` has read each."""
-    for language, command in programs.commands.items():
-        answers = answers_of(command, cases, ANSWERS[language])
-        for case, found in zip(cases, answers):
-            compare(case, language, found, counts)
-        if language == "Rust" and programs.beside:
-            pairs = [(case.data, found[3]) for case, found in zip(cases, answers) if found[3]]
-            compare_beside(programs.beside, pairs, counts)
-    ended = subprocess.run([programs.guarded, str(seed)], input=packed(case.data for case in cases), capture_output=True)
-    if ended.returncode == 0:
-        counts["calls between unreadable pages"] += int(ended.stdout)
-    else:
-        counts["different"] += 1
-        print(f"guarded ended with {ended.returncode}: {ended.stdout.decode()}{ended.stderr.decode()}", flush=True)
-
-
 def corpus():
     """Yields the files of the repository."""
     for pattern in ("examples/*.plist", "crates/*/data/*.plist"):
@@ -331,38 +314,64 @@ def corpus():
             yield path.read_bytes()
 
 
-def some_cases(chance, folder, files, counts):
-    for number, data in enumerate(files):
-        try:
-            yield Case(folder / str(number), data)
-        except second.TooMany:
-            counts["too many items, left out"] += 1
+class Worker:
+    """Makes files, and compares what the programs answer for them."""
 
+    def __init__(self, folder, seed, programs):
+        self.folder, self.programs = folder, programs
+        self.chance, self.counts = random.Random(seed), collections.Counter()
+        self.starter = bounded.Starter(folder)
 
-def compare_files(starter, chance, folder, files, programs, counts):
-    cases = list(some_cases(chance, folder, files, counts))
-    for ended in starter.run_all([run for case in cases for run in case.runs()]):
-        if ended.signal or ended.status not in (0, 1):
-            raise ValueError(f"{PROGRAM} has ended with {ended}")
-    counts["binary files"] += sum(case.is_binary for case in cases)
-    counts["other files"] += sum(not case.is_binary for case in cases)
-    judge(cases, programs, chance.randrange(1 << 32), counts)
+    def some_files(self, count):
+        """Yields lists of mutated files."""
+        for start in range(0, count, BATCH):
+            if start % (20 * BATCH) == 0:
+                pool = [data for _ in range(20) for data in mutations.from_others(self.chance, self.folder)]
+            yield [mutations.some_file(self.chance, pool) for _ in range(min(BATCH, count - start))]
+
+    def cases_of(self, files):
+        for number, data in enumerate(files):
+            try:
+                yield Case(self.folder / str(number), data)
+            except second.TooMany:
+                self.counts["too many items, left out"] += 1
+
+    def compare_files(self, files):
+        cases = list(self.cases_of(files))
+        for ended in self.starter.run_all([one for case in cases for one in case.runs()]):
+            if ended.signal or ended.status not in (0, 1):
+                raise ValueError(f"{PROGRAM} has ended with {ended}")
+        self.counts["binary files"] += sum(case.is_binary for case in cases)
+        self.counts["other files"] += sum(not case.is_binary for case in cases)
+        for language, command in self.programs.commands.items():
+            answers = answers_of(command, cases, ANSWERS[language])
+            for case, found in zip(cases, answers):
+                compare(case, language, found, self.counts)
+            if language == "Rust" and self.programs.beside:
+                pairs = [(case.data, found[3]) for case, found in zip(cases, answers) if found[3]]
+                compare_beside(self.programs.beside, pairs, self.counts)
+        self.guard(cases)
+
+    def guard(self, cases):
+        """Reads and writes files between unreadable pages."""
+        words = [self.programs.guarded, str(self.chance.randrange(1 << 32))]
+        ended = subprocess.run(words, input=packed(case.data for case in cases), capture_output=True)
+        if ended.returncode == 0:
+            self.counts["calls between unreadable pages"] += int(ended.stdout)
+            return
+        self.counts["different"] += 1
+        print(f"guarded ended with {ended.returncode}: {ended.stdout.decode()}{ended.stderr.decode()}", flush=True)
 
 
 def work(words):
     count, seed, programs = words
-    chance, counts = random.Random(seed), collections.Counter()
     with tempfile.TemporaryDirectory() as name:
-        folder = pathlib.Path(name)
-        starter = bounded.Starter(folder)
-        compare_files(starter, chance, folder, list(corpus()), programs, counts)
-        for start in range(0, count, BATCH):
-            if start % (20 * BATCH) == 0:
-                pool = [data for _ in range(20) for data in mutations.from_others(chance, folder)]
-            files = [mutations.some_file(chance, pool) for _ in range(min(BATCH, count - start))]
-            compare_files(starter, chance, folder, files, programs, counts)
-        starter.close()
-    return counts
+        worker = Worker(pathlib.Path(name), seed, programs)
+        worker.compare_files(list(corpus()))
+        for files in worker.some_files(count):
+            worker.compare_files(files)
+        worker.starter.close()
+    return worker.counts
 
 
 def main():

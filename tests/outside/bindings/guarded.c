@@ -163,40 +163,41 @@ static void read_often(reader *read, result *all) {
 
 /* ---- writing */
 
-/* Writes records, and requires the given fault at the given record, or a file of this length. */
-static void try_write(const sizhetom_event *events, size_t count, const uint8_t *bytes, size_t len,
-                      bool shares, size_t file_capacity, sizhetom_outcome wanted, const uint8_t *wanted_file) {
-    array in = placed(records, count * sizeof *events, events);
-    array texts = placed(contents, len, bytes);
-    array file = placed(files, file_capacity, NULL);
+/* Records to write, with their bytes. */
+typedef struct { const sizhetom_event *events; size_t count; const uint8_t *bytes; size_t len; bool shares; } list;
+
+/* Writes records into a file with this capacity, and requires that it ends as wanted, after OK with
+ * this file. */
+static void try_write(list given, size_t capacity, sizhetom_outcome wanted, const uint8_t *wanted_file) {
+    size_t size = given.count * sizeof *given.events;
+    array in = placed(records, size, given.events), texts = placed(contents, given.len, given.bytes);
+    array file = placed(files, capacity, NULL);
     memset(file.bytes, PATTERN, file.len);
-    sizhetom_outcome end = sizhetom_write((const sizhetom_event *)in.bytes, count, texts.bytes, len,
-                                          shares, file.bytes, file.len);
+    sizhetom_outcome end = sizhetom_write((const sizhetom_event *)in.bytes, given.count, texts.bytes,
+                                          given.len, given.shares, file.bytes, file.len);
     calls++;
     require(end.fault == wanted.fault && end.bytes == wanted.bytes && end.events == wanted.events
                 && end.detail == wanted.detail && !end.has_offset && !end.offset,
             "a writer ends otherwise");
-    if (end.fault == SIZHETOM_OK) {
-        require(!memcmp(file.bytes, wanted_file, end.bytes), "a file differs");
-        require(has_pattern(file.bytes + end.bytes, file.bytes + file.len), "a file is longer");
-    } else {
-        require(has_pattern(file.bytes, file.bytes + file.len), "a file changed after a fault");
-    }
+    size_t made = end.fault == SIZHETOM_OK ? end.bytes : 0;
+    require(!made || !memcmp(file.bytes, wanted_file, made), "a file differs");
+    require(has_pattern(file.bytes + made, file.bytes + file.len), "more than the file changed");
     require(is_alone(in) && is_alone(texts) && is_alone(file), "bytes beside an array changed");
-    require(!memcmp(in.bytes, events, count * sizeof *events) && !memcmp(texts.bytes, bytes, len),
+    require(!memcmp(in.bytes, given.events, size) && !memcmp(texts.bytes, given.bytes, given.len),
             "the records changed");
 }
 
 static void write_often(const result *all, bool shares) {
     static uint8_t file[4 * MOST_BYTES];
-    size_t count = all->end.events, len = all->end.bytes;
-    sizhetom_outcome end = sizhetom_write(all->events, count, all->bytes, len, shares, file, sizeof file);
-    require(end.fault == SIZHETOM_OK && end.events == count, "a value isn't written");
-    sizhetom_outcome full = stopped(count, end.bytes, SIZHETOM_NO_ROOM, SIZHETOM_FULL_BYTES);
-    try_write(all->events, count, all->bytes, len, shares, end.bytes, end, file);
-    try_write(all->events, count, all->bytes, len, shares, end.bytes + some(40), end, file);
-    try_write(all->events, count, all->bytes, len, shares, 0, full, file);
-    try_write(all->events, count, all->bytes, len, shares, some(end.bytes), full, file);
+    list given = {all->events, all->end.events, all->bytes, all->end.bytes, shares};
+    sizhetom_outcome end = sizhetom_write(given.events, given.count, given.bytes, given.len, shares,
+                                          file, sizeof file);
+    require(end.fault == SIZHETOM_OK && end.events == given.count, "a value isn't written");
+    sizhetom_outcome full = stopped(given.count, end.bytes, SIZHETOM_NO_ROOM, SIZHETOM_FULL_BYTES);
+    try_write(given, end.bytes, end, file);
+    try_write(given, end.bytes + some(40), end, file);
+    try_write(given, 0, full, file);
+    try_write(given, some(end.bytes), full, file);
 }
 
 /* Makes one record wrong, and returns the fault that it then has, or OK if it can't be made wrong in
@@ -243,24 +244,23 @@ static size_t some_key(const result *all) {
  * isn't a string. */
 static void write_wrong(const result *all) {
     static result wrong;
-    size_t count = all->end.events, len = all->end.bytes;
+    size_t count = all->end.events, len = all->end.bytes, key = some_key(all), at = some(count);
     memcpy(wrong.events, all->events, count * sizeof *wrong.events);
     memcpy(wrong.bytes, all->bytes, len);
-    size_t at = some(count);
     uint64_t fault = spoil(&wrong.events[at], wrong.bytes);
-    if (fault != SIZHETOM_OK)
-        try_write(wrong.events, count, wrong.bytes, len, some(2), 64, stopped(at, 0, fault, 0), NULL);
-    try_write(all->events, count - 1, all->bytes, len, some(2), 64,
-              stopped(count - 1, 0, SIZHETOM_UNEXPECTED_END_OF_EVENT_STREAM, 0), NULL);
+    list given = {wrong.events, count, wrong.bytes, len, some(2)};
+    if (fault != SIZHETOM_OK) try_write(given, 64, stopped(at, 0, fault, 0), NULL);
     memcpy(wrong.events, all->events, count * sizeof *wrong.events);
+    memcpy(wrong.bytes, all->bytes, len);
+    given.count = count - 1;
+    try_write(given, 64, stopped(count - 1, 0, SIZHETOM_UNEXPECTED_END_OF_EVENT_STREAM, 0), NULL);
     wrong.events[count] = (sizhetom_event){SIZHETOM_UID, some(9), 0};
-    try_write(wrong.events, count + 1, all->bytes, len, some(2), 64,
-              stopped(count, 0, SIZHETOM_EXPECTED_END_OF_EVENT_STREAM, SIZHETOM_UID), NULL);
-    size_t key = some_key(all);
+    given.count = count + 1;
+    try_write(given, 64, stopped(count, 0, SIZHETOM_EXPECTED_END_OF_EVENT_STREAM, SIZHETOM_UID), NULL);
     if (!key) return;
     wrong.events[key] = (sizhetom_event){SIZHETOM_UID, some(9), 0};
-    try_write(wrong.events, count, all->bytes, len, some(2), 64,
-              stopped(key, 0, SIZHETOM_UNEXPECTED_EVENT_TYPE, SIZHETOM_UID), NULL);
+    given.count = count;
+    try_write(given, 64, stopped(key, 0, SIZHETOM_UNEXPECTED_EVENT_TYPE, SIZHETOM_UID), NULL);
 }
 
 /* Writes random records. Nothing is known of the fault, but that the file stays as it was. */
