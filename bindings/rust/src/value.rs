@@ -2,7 +2,7 @@
 
 use crate::array::Array;
 use crate::dictionary::{self, Dictionary};
-use crate::{Date, Event, Fault, Integer, Limits, Real, Uid, read};
+use crate::{Date, Event, Fault, Integer, Limits, Reader, Real, Uid};
 use std::{fmt, iter, slice};
 
 /// A value of a property list.
@@ -123,7 +123,7 @@ impl Value {
     ///
     /// Those of [`read`](crate::read()).
     pub fn from_bytes(input: &[u8], limits: Limits) -> Result<Value, Fault> {
-        Ok(read(input, limits)?.value())
+        Ok(Reader::new(limits).read(input)?.value())
     }
 
     /// Returns the events of the value. The starts have the lengths.
