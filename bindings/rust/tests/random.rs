@@ -88,8 +88,8 @@ fn some_value(random: &mut Random, levels: usize) -> Value {
 fn values_are_read_back() {
     let mut random = Random(1);
     let mut reader = Reader::new(Limits::NONE);
-    for _ in 0..2000 {
-        let value = some_value(&mut random, 4);
+    for _ in 0..500 {
+        let value = some_value(&mut random, 3);
         for file in [to_binary(&value), to_binary_shared(&value)] {
             let file = file.expect("a value can be written");
             let document = reader.read(&file).expect("a written file can be read");
