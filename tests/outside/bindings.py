@@ -2,12 +2,12 @@
 """Compares the bindings for C, Rust and Python with `plist_tool`, and tests them on their own.
 
 Mutated and random files, as `fuzz.py` has them, are read by a program in each language
-(`tests/outside/bindings`), many in one process. For a binary file it must print what
-`plist_tool print` prints. For an ASCII file it must print the events that the second reader
-(`second.py`) returns. The error of reading a file as a value must be the one of
-`plist_tool convert`, and what is written must be the file that `convert` writes. What is written with
-sharing is compared with a third writer, which is in this script. If the crate `plist` is installed
-(librust-plist-dev), it must read the same value of a file and of what the Rust crate writes of it.
+(`tests/outside/bindings`), many in one process. They must print what `plist_tool print` prints, return
+the errors of `plist_tool convert`, and write the files that it writes. For that, all programs are
+compared with the second reader and writer (`second.py`), which also answers what `plist_tool` can't:
+the events of an ASCII file, and, extended here, a file in which equal collections are stored once. If
+the crate `plist` is installed (librust-plist-dev), it must read the same value of a file and of what
+the Rust crate writes of it.
 
 `bindings/guarded.c` calls the functions with unreadable pages around their arrays, and with random
 limits and capacities. `bindings/tables.py` compares the numbers of the header with the enums of
@@ -15,12 +15,13 @@ limits and capacities. `bindings/tables.py` compares the numbers of the header w
 
 Usage: bindings.py [FILES [SEED [WORKERS]]]      100000 files, and as many workers as processors
 
-Needs the archive libplist_c.a, the built `plist_tool`, a C compiler and cargo. The variables
-SIZHETOM_LIB and SIZHETOM_HEAP name the folders of the archives, if they aren't where they are built.
-PLIST_TOOL names the program. What isn't compared because Python's package can't be built is said. The
-status is 1 if anything differs.
+Needs the archive libplist_c.a, a C compiler and cargo. The variables SIZHETOM_LIB and SIZHETOM_HEAP
+name the folders of the archives, if they aren't where they are built, and PLIST_TOOL names the program.
+If the program, the package for Python or the crate `plist` is missing, it is left out, and the script
+says so. The status is 1 if anything differs.
 """
 import collections
+import functools
 import itertools
 import multiprocessing
 import os
@@ -46,8 +47,9 @@ MOST_ITEMS = 3000
 BATCH = 500
 # the memory that a program may use which reads a file of too many events
 ROOM = 1 << 28
-# the number of answers that each program writes for a file
-ANSWERS = {"C": 5, "Rust": 5, "Python": 3}
+# what a program answers for a file; that in Python has only the first three
+ANSWERS = ("standard output", "standard error", "the error of a value", "the file", "the shared file")
+COUNTS = {"C": 5, "Rust": 5, "Python": 3}
 
 
 # ---- building
@@ -219,7 +221,7 @@ def line(fault):
 
 
 class Case:
-    """A file, its items, and what `plist_tool` does with it."""
+    """A file, and the answers of the second reader and writer."""
 
     def __init__(self, folder, data):
         self.data, self.is_binary = data, data.startswith(second.MAGIC)
@@ -233,33 +235,41 @@ class Case:
         self.made.unlink(missing_ok=True)
 
     def runs(self):
-        """Returns the runs of the program."""
+        """Returns the runs of `plist_tool`, whose command print reads only binary files."""
         if self.is_binary:
             yield [PROGRAM, "print", self.source], 0, 60, self.shown, self.error
         yield [PROGRAM, "convert", self.source, self.made], 0, 60, "/dev/null", self.told
 
+    def found_by_program(self):
+        """Returns the answers of `plist_tool`, with None for what it can't answer."""
+        printed = [self.shown.read_bytes(), self.error.read_bytes()] if self.is_binary else [None, None]
+        made = self.made.read_bytes() if self.made.exists() else b""
+        return [*printed, self.told.read_bytes(), made, None]
+
     def printed(self):
         """Returns what has to be printed to standard output and to standard error."""
-        if self.is_binary:
-            return self.shown.read_bytes(), self.error.read_bytes()
-        lines, error = [], b""
+        lines = []
         for item in self.items:
             if isinstance(item, second.Fault):
-                error = line(item)
-                break
+                return "".join(lines).encode(), line(item)
             lines.append(second.line_of(item) + "\n")
-        return "".join(lines).encode(), error
+        return "".join(lines).encode(), b""
 
-    def written(self, is_value):
-        """Returns the error of reading the file as a value, and what has to be written.
+    def written(self):
+        """Returns the error of reading the file as a value, and the files that have to be written."""
+        try:
+            value = second.value_of(self.items)
+        except second.Fault as fault:
+            return line(fault), b"", b""
+        return b"", second.file_of(value), shared_file_of(value)
 
-        If keys are repeated, only what is written of a value is known."""
-        error = self.told.read_bytes()
-        if error:
-            return error, b"", b""
-        if not is_value and repeats_a_key(self.items):
-            return error, None, None
-        return error, self.made.read_bytes(), shared_file_of(second.value_of(self.items))
+    @functools.cached_property
+    def wanted(self):
+        return [*self.printed(), *self.written()]
+
+    @functools.cached_property
+    def repeats_a_key(self):
+        return not self.wanted[2] and repeats_a_key(self.items)
 
 
 # ---- the comparison
@@ -282,19 +292,18 @@ def answers_of(command, cases, count):
     return [answers[i:i + count] for i in range(0, len(answers), count)]
 
 
-NAMES = ("standard output", "standard error", "the error of a value", "the file", "the shared file")
-
-
-def compare(case, language, found, counts):
-    wanted = [*case.printed(), *case.written(is_value=language == "Rust")]
-    for name, one, other in zip(NAMES, found, wanted):
-        if other is None:
-            counts[f"{language}: {name}, not compared since a key is repeated"] += 1
+def compare(case, name, found, counts):
+    """Compares the answers of a program. It need not have all of them, and C writes keys twice."""
+    for what, one, other in zip(ANSWERS, found, case.wanted):
+        if one is None:
             continue
-        counts[f"{language}: {name}"] += 1
+        if name == "C" and what.endswith("file") and case.repeats_a_key:
+            counts[f"{name}: {what}, not compared since a key is repeated"] += 1
+            continue
+        counts[f"{name}: {what}"] += 1
         if one != other:
             counts["different"] += 1
-            print(f"{language}, {name} of {case.data.hex()}: {one!r} in place of {other!r}", flush=True)
+            print(f"{name}, {what} of {case.data.hex()}: {one!r} in place of {other!r}", flush=True)
 
 
 def compare_beside(program, pairs, counts):
@@ -336,20 +345,29 @@ class Worker:
             except second.TooMany:
                 self.counts["too many items, left out"] += 1
 
-    def compare_files(self, files):
-        cases = list(self.cases_of(files))
+    def compare_program(self, cases):
         for ended in self.starter.run_all([one for case in cases for one in case.runs()]):
             if ended.signal or ended.status not in (0, 1):
                 raise ValueError(f"{PROGRAM} has ended with {ended}")
-        self.counts["binary files"] += sum(case.is_binary for case in cases)
-        self.counts["other files"] += sum(not case.is_binary for case in cases)
-        for language, command in self.programs.commands.items():
-            answers = answers_of(command, cases, ANSWERS[language])
+        for case in cases:
+            compare(case, "plist_tool", case.found_by_program(), self.counts)
+
+    def compare_bindings(self, cases):
+        for name, command in self.programs.commands.items():
+            answers = answers_of(command, cases, COUNTS[name])
             for case, found in zip(cases, answers):
-                compare(case, language, found, self.counts)
-            if language == "Rust" and self.programs.beside:
+                compare(case, name, found, self.counts)
+            if name == "Rust" and self.programs.beside:
                 pairs = [(case.data, found[3]) for case, found in zip(cases, answers) if found[3]]
                 compare_beside(self.programs.beside, pairs, self.counts)
+
+    def compare_files(self, files):
+        cases = list(self.cases_of(files))
+        self.counts["binary files"] += sum(case.is_binary for case in cases)
+        self.counts["other files"] += sum(not case.is_binary for case in cases)
+        if PROGRAM.exists():
+            self.compare_program(cases)
+        self.compare_bindings(cases)
         self.guard(cases)
 
     def guard(self, cases):
@@ -378,6 +396,8 @@ def main():
     given = [int(word) for word in sys.argv[1:]]
     files, seed, workers = given + [100_000, 1, os.cpu_count()][len(given):]
     counts = collections.Counter()
+    if not PROGRAM.exists():
+        print(f"{PROGRAM.name} isn't built, so it isn't compared")
     for text in tables.differences():
         counts["different"] += 1
         print(text)
