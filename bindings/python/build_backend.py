@@ -61,7 +61,8 @@ def heap():
     folder = os.environ.get("SIZHETOM_HEAP") or kit and kit / "c"
     path = folder and pathlib.Path(folder) / HEAP
     if not path or not path.exists():
-        raise Missing(f"There is no {HEAP}: put the kit's command `rt` on the path, or name its folder by SIZHETOM_HEAP.")
+        raise Missing(f"There is no {HEAP}: put the kit's command `rt` on the path, or name its folder by"
+                      " SIZHETOM_HEAP.")
     return path
 
 
@@ -89,7 +90,8 @@ def compile_extension(folder, options=()):
 def copy_package(folder):
     """Puts the package, with its extension, into a folder."""
     package = pathlib.Path(folder) / NAME
-    shutil.copytree(HERE / "src" / NAME, package, ignore=shutil.ignore_patterns("__pycache__", "*.so"), dirs_exist_ok=True)
+    ignored = shutil.ignore_patterns("__pycache__", "*.so")
+    shutil.copytree(HERE / "src" / NAME, package, ignore=ignored, dirs_exist_ok=True)
     compile_extension(package)
 
 

@@ -16,19 +16,10 @@
 #define DAYS_OF_100 36524
 #define DAYS_OF_4 1461
 
-/* The start of 2001. */
-static PyObject *epoch;
-
-int import_dates(void)
+PyObject *import_dates(void)
 {
     PyDateTime_IMPORT;
-    if (PyDateTimeAPI == NULL) {
-        return -1;
-    }
-    if (epoch == NULL) {
-        epoch = PyDateTime_FromDateAndTime(2001, 1, 1, 0, 0, 0, 0);
-    }
-    return epoch == NULL ? -1 : 0;
+    return PyDateTimeAPI == NULL ? NULL : PyDateTime_FromDateAndTime(2001, 1, 1, 0, 0, 0, 0);
 }
 
 /* Returns these seconds in microseconds, rounded as datetime.timedelta does: half to even. */
@@ -85,7 +76,7 @@ int is_date(PyObject *value)
     return PyDateTime_Check(value);
 }
 
-int seconds_of(PyObject *date, double *seconds)
+int seconds_of(PyObject *date, PyObject *epoch, double *seconds)
 {
     PyObject *total = NULL, *past = PyNumber_Subtract(date, epoch);
     if (past != NULL) {

@@ -114,7 +114,8 @@ static PyObject *written(const records *stored, int share, size_t length, sizhet
 static PyObject *file_of(const module_state *state, const records *stored, int share)
 {
     sizhetom_outcome outcome = {0};
-    PyObject *file = written(stored, share, OBJECT * (stored->count + 2) + 2 * stored->length, &outcome);
+    size_t length = OBJECT * (stored->count + 2) + 2 * stored->length;
+    PyObject *file = written(stored, share, length, &outcome);
     if (outcome.fault == SIZHETOM_NO_ROOM) {
         file = written(stored, share, outcome.bytes, &outcome);
     }
@@ -148,13 +149,17 @@ static PyObject *library_version(PyObject *Py_UNUSED(module), PyObject *Py_UNUSE
 
 static PyMethodDef functions[] = {
     {"loads", loads, METH_VARARGS,
-     "loads(data, max_depth, max_events, max_bytes, /)\n--\n\nReturns the value of a property list."},
+     "loads(data, max_depth, max_events, max_bytes, /)\n--\n\n"
+     "Returns the value of a property list."},
     {"events", events, METH_VARARGS,
-     "events(data, max_depth, max_events, max_bytes, /)\n--\n\nReturns an iterator over events."},
+     "events(data, max_depth, max_events, max_bytes, /)\n--\n\n"
+     "Returns an iterator over the events of a property list."},
     {"dumps", dumps, METH_VARARGS,
-     "dumps(value, share, /)\n--\n\nReturns the binary property list of a value."},
+     "dumps(value, share, /)\n--\n\n"
+     "Returns the binary property list of a value."},
     {"library_version", library_version, METH_NOARGS,
-     "library_version()\n--\n\nReturns the version of the library, as three numbers."},
+     "library_version()\n--\n\n"
+     "Returns the version of the library, as three numbers."},
     {NULL, NULL, 0, NULL},
 };
 
@@ -172,13 +177,13 @@ static PyObject *imported(const char *module, const char *name)
 static int execute(PyObject *module)
 {
     module_state *state = PyModule_GetState(module);
-    state->uid_type = imported("plistlib", "UID");
-    state->error_of = imported("sizhetom._errors", "error_of");
-    state->event_kinds = imported("sizhetom._errors", "EVENT_KINDS");
-    if (state->uid_type == NULL || state->error_of == NULL || state->event_kinds == NULL) {
+    if ((state->uid_type = imported("plistlib", "UID")) == NULL
+        || (state->error_of = imported("sizhetom._errors", "error_of")) == NULL
+        || (state->event_kinds = imported("sizhetom._errors", "EVENT_KINDS")) == NULL
+        || (state->epoch = import_dates()) == NULL) {
         return -1;
     }
-    return import_dates() < 0 ? -1 : add_event_types(module, state);
+    return add_event_types(module, state);
 }
 
 static int traverse(PyObject *module, visitproc visit, void *arg)
@@ -187,6 +192,7 @@ static int traverse(PyObject *module, visitproc visit, void *arg)
     Py_VISIT(state->uid_type);
     Py_VISIT(state->error_of);
     Py_VISIT(state->event_kinds);
+    Py_VISIT(state->epoch);
     Py_VISIT(state->event_type);
     Py_VISIT(state->iterator_type);
     return 0;
@@ -198,6 +204,7 @@ static int clear(PyObject *module)
     Py_CLEAR(state->uid_type);
     Py_CLEAR(state->error_of);
     Py_CLEAR(state->event_kinds);
+    Py_CLEAR(state->epoch);
     Py_CLEAR(state->event_type);
     Py_CLEAR(state->iterator_type);
     return 0;

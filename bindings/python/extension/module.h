@@ -15,6 +15,8 @@ typedef struct {
     PyObject *error_of;
     /* sizhetom._errors.EVENT_KINDS: the name of each kind of event, by its number. */
     PyObject *event_kinds;
+    /* The datetime of the start of 2001. */
+    PyObject *epoch;
     /* The named tuple that events yields. */
     PyTypeObject *event_type;
     /* The type of the iterator that events returns. */

@@ -12,8 +12,8 @@ static size_t entries_of(const open_collections *open)
     return 2 * open->capacity;
 }
 
-/* Returns the entry with this address, or the free entry for it: the first one from the entry on that
- * the hash names. */
+/* Returns the entry with this address, or the free entry for it, which is the first one from the
+ * entry on that the hash names. */
 static const PyObject **entry_of(const open_collections *open, const PyObject *collection)
 {
     size_t mask = entries_of(open) - 1;
@@ -68,7 +68,7 @@ int open_inner(open_collections *open, PyObject *collection, PyObject *pairs)
 void close_inner(open_collections *open)
 {
     open_collection *inner = &open->stack[--open->count];
-    /* It was added last, so no search for another address passes its entry, which can be cleared. */
+    /* It was added last, so no other address lies behind its entry, which can be cleared. */
     *entry_of(open, inner->collection) = NULL;
     Py_DECREF(inner->collection);
     Py_XDECREF(inner->pairs);

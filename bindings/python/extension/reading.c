@@ -56,7 +56,7 @@ static int read_bytes(reading *read, reader *read_input, PyObject *input,
 {
     const uint8_t *start = (const uint8_t *)PyBytes_AS_STRING(input);
     size_t length = (size_t)PyBytes_GET_SIZE(input);
-    /* Most inputs have fewer events and bytes of strings. Memory that isn't written costs nothing. */
+    /* Most inputs have fewer events and bytes. Memory that isn't written costs nothing. */
     size_t events = within(length / 2 + LEAST, limits->events);
     size_t bytes = within(grown(length + LEAST), limits->bytes);
     sizhetom_outcome *outcome = &read->outcome;

@@ -110,10 +110,10 @@ static int add_double(records *stored, uint64_t kind, double number)
 }
 
 /* Adds the record of a datetime. Returns 0, or -1 with an exception. */
-static int add_date(records *stored, PyObject *value)
+static int add_date(const module_state *state, records *stored, PyObject *value)
 {
     double seconds;
-    if (seconds_of(value, &seconds) < 0) {
+    if (seconds_of(value, state->epoch, &seconds) < 0) {
         return -1;
     }
     return add_double(stored, SIZHETOM_DATE, seconds);
@@ -184,7 +184,7 @@ static int add_value(const module_state *state, records *stored, PyObject *value
         return add_start(state, stored, value);
     }
     if (is_date(value)) {
-        return add_date(stored, value);
+        return add_date(state, stored, value);
     }
     switch (PyObject_IsInstance(value, state->uid_type)) {
     case 1:
@@ -216,7 +216,8 @@ static int next_item(open_collection *inner, PyObject **value)
     return 1;
 }
 
-/* Stores the next pair of a dictionary. Returns 1; or 0 after the last one; or -1 with an exception. */
+/* Stores the next pair of a dictionary. Returns 1; or 0 after the last one; or -1 with an
+ * exception. */
 static int next_pair(open_collection *inner, PyObject **key, PyObject **value)
 {
     PyObject *pair;

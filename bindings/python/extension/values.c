@@ -74,8 +74,8 @@ typedef struct {
     /* The stack of values that belong to no collection yet. */
     PyObject **values;
     size_t count;
-    /* The index of the innermost open collection's record, or NONE. The number of that record is the
-     * same for the next outer collection, and its size is where its items begin on the stack. */
+    /* The index of the innermost open collection's record, or NONE. Its number was replaced by the
+     * index for the next outer collection, and its size by where its items begin on the stack. */
     uint64_t open;
 } building;
 

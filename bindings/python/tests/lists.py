@@ -1,5 +1,6 @@
 """Binary property lists, put together from the bytes of their objects."""
 import contextlib
+import functools
 import struct
 import threading
 
@@ -40,12 +41,14 @@ def repeated(content, times):
     return file_of(array(*[1] * times), content, width=4)
 
 
+@functools.lru_cache(2)
 def levels(count):
     """Returns the file of this many arrays, each in the one before it."""
     inner = [array(number, reference=4) for number in range(1, count)]
     return file_of(*inner, array(), width=4, reference=4)
 
 
+@functools.lru_cache(2)
 def dictionaries(count):
     """Returns the file of this many dictionaries, each the value of a key in the one before it."""
     inner = [dictionary((count, number), reference=4) for number in range(1, count)]

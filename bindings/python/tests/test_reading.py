@@ -288,6 +288,11 @@ class Events(unittest.TestCase):
         self.assertEqual((event.kind, event.value, event.bits), ("Integer", 5, None))
         self.assertEqual(pickle.loads(pickle.dumps(event)), event)
 
+    def test_the_iterator_is_made_by_events_alone(self):
+        events = sizhetom.events(b"a")
+        self.assertIs(iter(events), events)
+        self.assertRaises(TypeError, type(events))
+
     def test_a_date_whose_year_datetime_lacks(self):
         event = next(sizhetom.events(seconds(-1e11)))
         self.assertEqual(tuple(event), ("Date", None, struct.pack(">d", -1e11)))

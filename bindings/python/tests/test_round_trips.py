@@ -21,7 +21,8 @@ def some_text(chosen):
 def some_date(chosen):
     """Returns a date that a double represents: one of a 64th of a second, or one near 2001."""
     if chosen.random() < 0.5:
-        return datetime.datetime(2001, 1, 1) + datetime.timedelta(microseconds=chosen.randrange(-2 * 10**15, 2 * 10**15))
+        distance = chosen.randrange(-2 * 10**15, 2 * 10**15)
+        return datetime.datetime(2001, 1, 1) + datetime.timedelta(microseconds=distance)
     most = (datetime.datetime.max - datetime.datetime.min) // datetime.timedelta(seconds=1)
     seconds = datetime.timedelta(seconds=chosen.randrange(most), microseconds=15625 * chosen.randrange(64))
     return datetime.datetime.min + seconds

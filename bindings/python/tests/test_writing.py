@@ -240,7 +240,8 @@ class Deep(unittest.TestCase):
         value = []
         for _ in range(self.COUNT - 1):
             value = [value]
-        self.assertEqual(in_thread(lambda: len(sizhetom.loads(sizhetom.dumps(value), max_depth=None, max_events=None)), 1 << 19), 1)
+        data = in_thread(lambda: sizhetom.dumps(value), 1 << 19)
+        self.assertEqual(data, sizhetom.dumps(value))
 
 
 if __name__ == "__main__":

@@ -22,9 +22,12 @@ from ._sizhetom import Event
 
 __all__ = ["Event", "PlistError", "UID", "dump", "dumps", "events", "load", "loads"]
 
+PlistError.__module__ = __name__
+
 __version__ = "0.1.0"
 
-Value = Union[dict, list, str, bytes, bool, int, float, datetime.datetime, UID]
+# What `dumps` takes. The items and values of collections have the same types, and keys are strings.
+Value = Union[dict, list, tuple, str, bytes, bytearray, bool, int, float, datetime.datetime, UID]
 
 MAX_DEPTH = 64
 MAX_EVENTS = 1_000_000
@@ -37,7 +40,7 @@ def loads(
     max_depth: Optional[int] = MAX_DEPTH,
     max_events: Optional[int] = MAX_EVENTS,
     max_bytes: Optional[int] = MAX_BYTES,
-) -> Value:
+) -> Any:
     """Returns the value of a property list.
 
     At most ``max_depth`` collections may be open at once. There may be at most ``max_events`` events:
@@ -56,7 +59,7 @@ def load(
     max_depth: Optional[int] = MAX_DEPTH,
     max_events: Optional[int] = MAX_EVENTS,
     max_bytes: Optional[int] = MAX_BYTES,
-) -> Value:
+) -> Any:
     """Returns the value of the property list in a file that is open for reading in binary mode.
 
     The whole file is read into memory first. The rest is as for ``loads``.
