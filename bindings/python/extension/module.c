@@ -8,9 +8,11 @@
 #include "values.h"
 
 /* The most bytes of a file for a record: its object without the string or data, a reference to it,
- * and its entry in the table of offsets, if the file has less than 4 GiB. Only a guess: the writer
- * returns the length that a file needs. */
+ * and its entry in the table of offsets, if the file has less than 4 GiB. For a longer file the
+ * writer is called again, with the length that it has returned. A test sets it to 0. */
+#ifndef OBJECT
 #define OBJECT 25
+#endif
 
 void raise_fault(const module_state *state, const sizhetom_outcome *outcome)
 {

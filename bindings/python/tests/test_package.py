@@ -1,7 +1,9 @@
 """The names and numbers of the header, the sources of the extension, and what is installed."""
 import ast
+import doctest
 import pathlib
 import re
+import shutil
 import subprocess
 import sys
 import sysconfig
@@ -79,6 +81,30 @@ class Sources(unittest.TestCase):
             self.assertTrue(getattr(sizhetom, name).__doc__)
 
 
+SMALL_GUESS = """
+import sizhetom
+for value in (1, [], {}, "", "a", [2**64 - 1] * 9, list(range(1000)), {"a": [b"b", {}]}):
+    print(sizhetom.dumps(value).hex(), sizhetom.dumps(value, share=True).hex())
+"""
+
+
+class SmallGuess(unittest.TestCase):
+    """The extension with a smaller guess of a file's length, so that the writer is called again."""
+
+    def printed(self, folder):
+        words = [sys.executable, "-c", SMALL_GUESS]
+        return subprocess.run(words, env={"PYTHONPATH": str(folder)}, capture_output=True, text=True).stdout
+
+    def test_the_same_is_written(self):
+        installed = pathlib.Path(sizhetom.__file__).parent
+        with tempfile.TemporaryDirectory() as folder:
+            package = shutil.copytree(installed, pathlib.Path(folder, "sizhetom"))
+            build_backend.compile_extension(package, ["-DOBJECT=0"])
+            found = self.printed(folder)
+        self.assertEqual(found.count("\n"), 8)
+        self.assertEqual(found, self.printed(installed.parent))
+
+
 class Missing(unittest.TestCase):
     """What the build says if a file is missing: one sentence."""
 
@@ -97,6 +123,11 @@ class Missing(unittest.TestCase):
         self.assertEqual(
             self.message("heap", PATH="/none"),
             "There is no liblibc_c.a: put the kit's command `rt` on the path, or name its folder by SIZHETOM_HEAP.\n")
+
+
+def load_tests(loader, tests, pattern):
+    tests.addTests(doctest.DocTestSuite(sizhetom))
+    return tests
 
 
 if __name__ == "__main__":

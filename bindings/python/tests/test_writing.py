@@ -98,7 +98,7 @@ class Files(unittest.TestCase):
         self.assertTrue(file.getvalue().endswith(sizhetom.dumps([[], []], share=True)))
         self.assertRaises(TypeError, sizhetom.dump, [], io.StringIO())
 
-    def test_a_file_that_is_longer_than_expected(self):
+    def test_strings_that_are_longer_in_utf16(self):
         value = ["a" * 1000 + "\xe9" + str(number) for number in range(500)]
         self.assertEqual(plistlib.loads(sizhetom.dumps(value)), value)
 
