@@ -90,7 +90,7 @@ class Leaks(unittest.TestCase):
         for name, call in CALLS.items():
             with self.subTest(name):
                 # What Python itself caches is allocated once.
-                self.assertTrue(any(self.growth(call) < 8 * self.ROUNDS for _ in range(3)))
+                self.assertTrue(any(self.growth(call) < 8 * self.ROUNDS for _ in range(10)))
 
     def test_resident_memory(self):
         data = repeated(string("a string of some length"), 100_000)

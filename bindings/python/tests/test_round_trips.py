@@ -99,7 +99,7 @@ class Mutations(unittest.TestCase):
         for _ in range(self.COUNT):
             data = bytearray(chosen.choice(files))
             for _ in range(chosen.choice((1, 1, 1, 2, 5))):
-                data[chosen.randrange(len(data))] = chosen.choice((0, 1, 0x7f, 0x80, 0xff, chosen.randrange(256)))
+                data[chosen.randrange(8, len(data))] = chosen.choice((0, 1, 0x7f, 0x80, 0xff, chosen.randrange(256)))
             read += self.same(bytes(data))
         self.assertGreater(read, self.COUNT // 10)
 
