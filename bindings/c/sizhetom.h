@@ -103,8 +103,8 @@ enum {
     SIZHETOM_NO_ROOM = 31,
     /* The writer's record has an unknown kind. */
     SIZHETOM_INVALID_KIND = 32,
-    /* The number of a Boolean isn't 0 or 1, the size of a real isn't 4 or 8, or the number of a real
-     * of four bytes exceeds 32 bits. */
+    /* The number or the size isn't one that a record of this kind has, as sizhetom_event lists them. A
+     * date can't have the number of a negative zero. */
     SIZHETOM_INVALID_NUMBER = 33,
     /* The string or data doesn't lie within the array of bytes. */
     SIZHETOM_INVALID_RANGE = 34,

@@ -447,9 +447,9 @@ class Writing:
             waiting.extend(reversed(below))
 
 
-def file_of(value):
+def file_of(value, writing=Writing):
     """Returns the binary property list of a value."""
-    plan = Writing(value)
+    plan = writing(value)
     width = least_width(plan.count - 1)
     places, file = [0] * plan.count, MAGIC
     for number_of_one, one in plan.order:

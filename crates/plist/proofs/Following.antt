@@ -147,25 +147,25 @@ taken_before u e ok r = by (and_event and_pair u e) refl (goes u e ok)
 -- ---- what is expected after the events so far
 
 -- what is expected in a collection once the collection that is open in it is complete
-abbrev expect_around : OpenCollection → Expect
+abbrev pub expect_around : OpenCollection → Expect
 expect_around (InArray items) = Items
 expect_around (InDictionary pairs) = Pairs
 expect_around (AfterKey pairs key) = Pairs
 
 -- what is expected after what `expected_within` returns: if that is the value of a key, the other
 -- pairs and then `round`, and otherwise `round` alone
-abbrev stack_within : OpenCollection → (round : Stack) → Stack
+abbrev pub stack_within : OpenCollection → (round : Stack) → Stack
 stack_within (AfterKey pairs key) round = Pairs ∷ round
 stack_within collection round = round
 
 -- what is expected inside these collections, innermost first, or one value outside of all
-abbrev stack_around : List OpenCollection → Stack
+abbrev pub stack_around : List OpenCollection → Stack
 stack_around [] = OneValue ∷ []
 stack_around (collection ∷ outer) =
     expected_within collection ∷ stack_within collection (map expect_around outer)
 
 -- what is expected after the events of an unfinished tree
-abbrev stack_of : Unfinished → Stack
+abbrev pub stack_of : Unfinished → Stack
 stack_of NotBegun = stack_around []
 stack_of (Within collection outer) = stack_around (collection ∷ outer)
 stack_of (Complete tree) = []
@@ -212,7 +212,7 @@ steps-round (c ∷ outer) es ok =
     ∙ steps-round outer (events_within c ++ es) ok.1 ∙ steps-within c outer es ok.1
 
 -- after the events so far, `stack_of` is expected
-expected : (u : Unfinished) → IsNested u → expected_after (events_so_far u) ≡ Some (stack_of u)
+pub expected : (u : Unfinished) → IsNested u → expected_after (events_so_far u) ≡ Some (stack_of u)
 expected NotBegun ok = refl
 expected (Within c outer) ok =
     steps-round outer (events_within c) ok
