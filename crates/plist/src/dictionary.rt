@@ -68,13 +68,32 @@ impl Dictionary {
 
     /// Removes all pairs, and keeps the memory for later ones. The values are dropped without
     /// recursion.
+    ///
+    /// # Examples
+    ///
+    /// ```rust
+    /// let mut copy = settings.clone(alloc)?;
+    /// if let Some(pairs) = copy.as_dictionary_mut() {
+    ///     pairs.clear();
+    /// }
+    /// Ok(copy)
+    /// ```
     pub fn clear(&mut self)
         ensures empty { pairs_of self.new ≡ [] }
     {
         self.pairs.clear();
     }
 
-    /// Returns the value of the key, or `None` if the key isn't there.
+    /// Returns the value of the key, or `None` if the key is missing.
+    ///
+    /// # Examples
+    ///
+    /// ```rust
+    /// match settings.get("Enabled") {
+    ///     Some(value) => value.as_boolean() == Some(true),
+    ///     None => false,
+    /// }
+    /// ```
     pub fn get(&self, key: &str) -> Option<&Value>
         ensures value { option_copied result ≡ lookup (bytes_eq key.now) (pairs_of self.now) }
         ensures member { IfSome result (λ value. IsAmong (values_of
@@ -83,14 +102,31 @@ impl Dictionary {
         self.pairs.get(key)
     }
 
-    /// Returns whether the key is there.
+    /// Returns `true` if the dictionary contains the key.
+    ///
+    /// # Examples
+    ///
+    /// ```rust
+    /// if pairs.contains_key(key) {
+    ///     return Some(&pairs[key]);
+    /// }
+    /// None
+    /// ```
     pub fn contains_key(&self, key: &str) -> bool
         ensures { result ≡ is_some (lookup (bytes_eq key.now) (pairs_of self.now)) }
     {
         self.pairs.contains_key(key)
     }
 
-    /// Returns a mutable reference to the key's value, or `None` if the key isn't there.
+    /// Returns a mutable reference to the key's value, or `None` if the key is missing.
+    ///
+    /// # Examples
+    ///
+    /// ```rust
+    /// let pairs = settings.as_dictionary_mut()?;
+    /// *pairs.get_mut("Name")? = Value::String(name);
+    /// Some(())
+    /// ```
     pub fn get_mut(&mut self, key: &str) -> Option<&mut Value>
         ensures value { option_copied_mut result ≡ lookup (bytes_eq key.now) (pairs_of self.old) }
         ensures member { IfSome result (λ borrowed. IsAmong (values_of (pairs_of self.old))
@@ -108,6 +144,15 @@ impl Dictionary {
     ///
     /// If an allocation fails, which is only possible for a new key, the pairs are unchanged, and
     /// the error is the key and the value.
+    ///
+    /// # Examples
+    ///
+    /// ```rust
+    /// let mut settings = Dictionary::new(alloc);
+    /// let _none = settings.insert("b".to_string(alloc)?, Value::from(7_i64))?;
+    /// let _none = settings.insert("a".to_string(alloc)?, Value::Boolean(true))?;
+    /// Ok(settings)
+    /// ```
     pub fn insert(&mut self, key: String, value: Value) -> Result<Option<Value>, (String, Value)>
         // Result.
         ensures old { IfOk result (λ old.
@@ -132,9 +177,15 @@ impl Dictionary {
         self.pairs.set(key, value)
     }
 
-    /// Removes the key and returns its value, or returns `None` if the key isn't there.
+    /// Removes the key and returns its value, or returns `None` if the key is missing.
     ///
     /// The last pair moves to the index of the removed one.
+    ///
+    /// # Examples
+    ///
+    /// ```rust
+    /// settings.remove("Name")?.into_string()
+    /// ```
     pub fn remove(&mut self, key: &str) -> Option<Value>
         ensures value { result ≡ lookup (bytes_eq key.now) (pairs_of self.old) }
         ensures pairs { IsTakenAt (pairs_of self.old) key.now (pairs_of self.new) }
@@ -150,7 +201,7 @@ impl Dictionary {
         self.pairs.len()
     }
 
-    /// Returns whether there are no pairs.
+    /// Returns `true` if the dictionary has no pairs.
     pub fn is_empty(&self) -> bool
         ensures { IsTrue result ↔ (pairs_of self.now ≡ []) }
     {
@@ -168,6 +219,14 @@ impl Dictionary {
     }
 
     /// Returns an iterator over the keys, in the order of the pairs.
+    ///
+    /// # Examples
+    ///
+    /// ```rust
+    /// for key in pairs.keys() {
+    ///     write!(out, " {key}")?;
+    /// }
+    /// ```
     pub fn keys(&self) -> Keys<'_>
         ensures rest { result ≡ keys_of (pairs_of self.now) }
         ensures runs { ShowsInOrder shown_key }
@@ -177,6 +236,18 @@ impl Dictionary {
     }
 
     /// Returns an iterator over the values, in the order of the pairs.
+    ///
+    /// # Examples
+    ///
+    /// ```rust
+    /// let mut count: usize = 0;
+    /// for value in settings.values() {
+    ///     if value.as_string().is_some() {
+    ///         count = count.saturating_add(1);
+    ///     }
+    /// }
+    /// count
+    /// ```
     pub fn values(&self) -> Values<'_>
         ensures rest { result ≡ values_of (pairs_of self.now) }
         ensures runs { ShowsInOrder (deref {X = V}) }

@@ -74,7 +74,7 @@ fn cannot_be_synced<F: OpenFile>(file: &F, kind: io::ErrorKind) -> bool {
 }
 
 impl<'a, R: Files> LazyFile<'a, R> {
-    /// Creates a `LazyFile` for the file of this name, without opening it.
+    /// Creates a `LazyFile` for the file at the given path, without opening it.
     pub fn new(rt: &'a R, path: &'a str) -> Self
         ensures fresh { IsNone result.file }
     {
@@ -112,6 +112,13 @@ impl<'a, R: Files> LazyFile<'a, R> {
     /// The errors are those of [`Value::to_writer_binary`], and `Io`, without an offset, if the
     /// sync fails. `OutOfMemory` and `PlistTooLarge` are returned before a file is created or
     /// truncated.
+    ///
+    /// # Examples
+    ///
+    /// ```rust
+    /// let mut file = LazyFile::new(rt, path);
+    /// file.store(alloc, value)
+    /// ```
     pub fn store(&mut self, alloc: Global, value: &Value) -> Result<(), Error>
         ensures sent { SendsValue (λ output. contents_of R.File.contents output.file) value.now
             result self.old self.new }
@@ -133,7 +140,7 @@ fn open_source<R: Files>(rt: &R, alloc: Global, path: &str) -> Result<Seeking<R:
 }
 
 impl Value {
-    /// Reads the value of the file of this name. The first bytes decide whether it is read as
+    /// Reads the value of the file at the given path. The first bytes decide whether it is read as
     /// binary or as ASCII, as in [`Value::from_reader`]. The file is read in windows of 8 KiB.
     ///
     /// # Errors
@@ -141,6 +148,15 @@ impl Value {
     /// - `Io`, without an offset, if the file can't be opened. [`Error::as_io`] returns the reason,
     ///   which the error's own text leaves out.
     /// - Any error of [`Value::from_reader`].
+    ///
+    /// # Examples
+    ///
+    /// ```rust
+    /// match Value::from_file(rt, alloc, path)? {
+    ///     Value::Dictionary(settings) => Ok(settings),
+    ///     _ => Err(Failure::NoDictionary),
+    /// }
+    /// ```
     pub fn from_file<R: Files>(rt: &R, alloc: Global, path: &str) -> Result<Value, Error>
         ensures read { IsReadFromFile R.File Dialect.Lax (built_tree result) }
         ensures fault { IfFault result (IsFileFault false) }
@@ -148,12 +164,19 @@ impl Value {
         Value::from_file_with_dialect(rt, alloc, path, Dialect::Lax)
     }
 
-    /// Like [`Value::from_file`], but reads ASCII in this dialect. [`Dialect::Tight`] reads the
-    /// files that other programs write with one value per line, neither quoted nor followed by `;`.
+    /// Like [`Value::from_file`], but reads ASCII in the given dialect. [`Dialect::Tight`] reads
+    /// the files that other programs write with one value per line, neither quoted nor followed by
+    /// `;`.
     ///
     /// # Errors
     ///
-    /// The errors are those of [`Value::from_file`].
+    /// Any error of [`Value::from_file`].
+    ///
+    /// # Examples
+    ///
+    /// ```rust
+    /// Value::from_file_with_dialect(rt, alloc, "lines.plist", Dialect::Tight)
+    /// ```
     pub fn from_file_with_dialect<R: Files>(
         rt: &R,
         alloc: Global,
@@ -174,6 +197,13 @@ impl Value {
     ///
     /// - `LimitReached`, as in [`Value::from_reader_with_limits`].
     /// - Any error of [`Value::from_file`].
+    ///
+    /// # Examples
+    ///
+    /// ```rust
+    /// let limits = Limits { depth, items: 100 };
+    /// Value::from_file_with_limits(rt, alloc, FILE, limits)
+    /// ```
     pub fn from_file_with_limits<R: Files>(
         rt: &R,
         alloc: Global,
@@ -197,6 +227,13 @@ impl Value {
     ///   allocation fails: no file is created or truncated.
     /// - `Io` if the file can't be created, or if a write, the flush or the sync fails. The file
     ///   may then contain a prefix of the property list.
+    ///
+    /// # Examples
+    ///
+    /// ```rust
+    /// Value::from_file(rt, alloc, FILE)?.to_file_binary(rt, alloc, "copy.plist")?;
+    /// Value::from_file(rt, alloc, "copy.plist")
+    /// ```
     pub fn to_file_binary<R: Files>(&self, rt: &R, alloc: Global, path: &str) -> Result<(), Error>
         ensures refused { IfFault result (IsUnstored (tree_of self.now)) }
     {

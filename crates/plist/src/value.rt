@@ -69,6 +69,13 @@ impl Value {
     ghost use Rattle.plist.specs.declared.value.Value.TheVariants as made;
 
     /// Returns the array, or `None` if the value isn't one.
+    ///
+    /// # Examples
+    ///
+    /// ```rust
+    /// let mut items = value.into_array()?;
+    /// items.pop()
+    /// ```
     pub fn into_array(self) -> Option<Vec<Value>>
         ensures value { option_map (λ a. item_trees a.items) result ≡ array_in (tree_of self) }
         ensures made { IfSome result (λ items. self ≡ made.Array items) }
@@ -83,6 +90,15 @@ impl Value {
     }
 
     /// Returns the dictionary, or `None` if the value isn't one.
+    ///
+    /// # Examples
+    ///
+    /// ```rust
+    /// match value.into_dictionary() {
+    ///     Some(pairs) => Ok(Settings { pairs }),
+    ///     None => Err(SettingsError::NoDictionary),
+    /// }
+    /// ```
     pub fn into_dictionary(self) -> Option<Dictionary>
         ensures value { option_map (λ pairs. pair_trees (pairs_of pairs)) result
             ≡ dictionary_in (tree_of self) }
@@ -98,6 +114,13 @@ impl Value {
     }
 
     /// Returns the bytes of data, or `None` if the value isn't data.
+    ///
+    /// # Examples
+    ///
+    /// ```rust
+    /// let bytes = icon.into_data()?;
+    /// Some(bytes.len())
+    /// ```
     pub fn into_data(self) -> Option<Vec<u8>>
         ensures value { option_map (λ bytes. bytes.items) result ≡ data_in (tree_of self) }
         ensures made { IfSome result (λ bytes. self ≡ made.Data bytes) }
@@ -112,6 +135,12 @@ impl Value {
     }
 
     /// Returns the string, or `None` if the value isn't one.
+    ///
+    /// # Examples
+    ///
+    /// ```rust
+    /// settings.remove("Name")?.into_string()
+    /// ```
     pub fn into_string(self) -> Option<String>
         ensures value { option_map string_bytes result ≡ text_in (tree_of self) }
         ensures made { IfSome result (λ text. self ≡ made.String text) }
@@ -126,6 +155,13 @@ impl Value {
     }
 
     /// Returns an iterator over the events of the value, depth first.
+    ///
+    /// # Examples
+    ///
+    /// ```rust
+    /// let events: Events<'_> = value.events(alloc);
+    /// Value::from_events(alloc, events)
+    /// ```
     #[tactic(auto, using(crate::proofs::ValueLastWins::itself))]
     pub fn events(&self, alloc: Global) -> Events<'_>
         ensures items { remaining_events result ≡ bracketing (tree_of self.now) }
@@ -134,8 +170,8 @@ impl Value {
         Events::new(alloc, self)
     }
 
-    /// Builds a value from these events. A key that is repeated keeps its first position and takes
-    /// its last value. The lengths of starts are ignored.
+    /// Builds a value from the given events. A key that is repeated keeps its first position and
+    /// takes its last value. The lengths of starts are ignored.
     ///
     /// Items are taken up to the first one that is an error, or that can't follow the preceding
     /// ones. The caller has to prove that the iterator ends.
@@ -147,6 +183,13 @@ impl Value {
     ///   `ExpectedEndOfEventStream` for one after a whole value.
     /// - `UnexpectedEndOfEventStream` if the events end before the value does.
     /// - `OutOfMemory` if an allocation fails.
+    ///
+    /// # Examples
+    ///
+    /// ```rust
+    /// let bytes = fs::read(rt, FILE)?;
+    /// Value::from_events(alloc, Reader::new(alloc, bytes))
+    /// ```
     pub fn from_events<E: AnyEvent, I: IntoIterator<Item = Result<E, Error>>>(
         alloc: Global,
         events: I,
@@ -191,6 +234,16 @@ impl Value {
     ///   `ExpectedEndOfEventStream` for one after a whole value.
     /// - `UnexpectedEndOfEventStream` if the items end before the value does.
     /// - `OutOfMemory` if an allocation fails.
+    ///
+    /// # Examples
+    ///
+    /// ```rust
+    /// let settings = Value::from_reader(alloc, file).ok()?;
+    /// settings
+    ///     .as_dictionary()?
+    ///     .get("Version")?
+    ///     .as_signed_integer()
+    /// ```
     pub fn from_reader<R: Source>(alloc: Global, source: R) -> Result<Value, Error>
         ensures value { ReadsItems items_of_input (R.known source) result }
         ensures read { IsReadInDialect Dialect.Lax R.known R.failures source
@@ -201,11 +254,18 @@ impl Value {
         Value::from_reader_with_dialect(alloc, source, Dialect::Lax)
     }
 
-    /// Like [`Value::from_reader`], but reads ASCII in this dialect.
+    /// Like [`Value::from_reader`], but reads ASCII in the given dialect.
     ///
     /// # Errors
     ///
-    /// The errors are those of [`Value::from_reader`].
+    /// Any error of [`Value::from_reader`].
+    ///
+    /// # Examples
+    ///
+    /// ```rust
+    /// let text: &[u8] = b"(\n  a\n  b\n)";
+    /// Value::from_reader_with_dialect(alloc, text, Dialect::Tight)
+    /// ```
     pub fn from_reader_with_dialect<R: Source>(
         alloc: Global,
         source: R,
@@ -236,6 +296,16 @@ impl Value {
     /// - `LimitReached` for the first event that exceeds a limit, unless an earlier item is an
     ///   error. Such an event is one too many, or it opens one collection too many.
     /// - Any error of [`Value::from_reader`].
+    ///
+    /// # Examples
+    ///
+    /// ```rust
+    /// let limits = Limits {
+    ///     depth: 64,
+    ///     items: 10,
+    /// };
+    /// Value::from_reader_with_limits(alloc, file, limits)
+    /// ```
     pub fn from_reader_with_limits<R: Source>(
         alloc: Global,
         source: R,
@@ -263,6 +333,16 @@ impl Value {
     /// - `OutOfMemory` if an allocation fails, and for the first string or data that exceeds the
     ///   bytes that the caller allows, unless an earlier item is an error.
     /// - Any error of [`Value::from_reader_with_limits`].
+    ///
+    /// # Examples
+    ///
+    /// ```rust
+    /// let limits = Limits {
+    ///     depth: 64,
+    ///     items: 100_000,
+    /// };
+    /// Value::from_reader_within(alloc, bytes, limits, 1 << 24)
+    /// ```
     pub fn from_reader_within<R: Source>(
         alloc: Global,
         source: R,
@@ -290,6 +370,13 @@ impl Value {
     ///
     /// The errors are those of [`Value::from_reader`], but with the errors of [`AsciiReader`] in
     /// place of those of [`Reader`].
+    ///
+    /// # Examples
+    ///
+    /// ```rust
+    /// let text: &[u8] = b"{ b = 7; a = x; }";
+    /// Value::from_reader_ascii(alloc, text)
+    /// ```
     pub fn from_reader_ascii<R: ByteReader + Drop>(alloc: Global, reader: R) -> Result<Value, Error>
         ensures value { ReadsItems (items_in_format Dialect.Lax Ascii) (R.remaining reader)
             result }
@@ -298,12 +385,19 @@ impl Value {
         Value::from_reader_ascii_with_dialect(alloc, reader, Dialect::Lax)
     }
 
-    /// Like [`Value::from_reader_ascii`], but reads an ASCII property list in this dialect. `{a=b}`
-    /// isn't a value in the lax dialect, and is a dictionary in the tight one.
+    /// Like [`Value::from_reader_ascii`], but reads an ASCII property list in the given dialect.
+    /// `{a=b}` isn't a value in the lax dialect, and is a dictionary in the tight one.
     ///
     /// # Errors
     ///
-    /// The errors are those of [`Value::from_reader_ascii`].
+    /// Any error of [`Value::from_reader_ascii`].
+    ///
+    /// # Examples
+    ///
+    /// ```rust
+    /// let text: &[u8] = b"{a=b}";
+    /// Value::from_reader_ascii_with_dialect(alloc, text, Dialect::Tight)
+    /// ```
     pub fn from_reader_ascii_with_dialect<R: ByteReader + Drop>(
         alloc: Global,
         reader: R,
@@ -320,6 +414,16 @@ impl Value {
     /// # Errors
     ///
     /// `OutOfMemory` if an allocation fails.
+    ///
+    /// # Examples
+    ///
+    /// ```rust
+    /// let mut copy = settings.clone(alloc)?;
+    /// if let Some(pairs) = copy.as_dictionary_mut() {
+    ///     pairs.clear();
+    /// }
+    /// Ok(copy)
+    /// ```
     pub fn clone(&self, alloc: Global) -> Result<Value, Error>
         ensures copy { IfOk result (λ copy. tree_of copy ≡ tree_of self.now) }
         ensures memory { OnlyMemory result }
@@ -332,6 +436,12 @@ impl Value {
     /// # Errors
     ///
     /// `OutOfMemory` if an allocation fails.
+    ///
+    /// # Examples
+    ///
+    /// ```rust
+    /// Value::try_from_str(alloc, text)
+    /// ```
     pub fn try_from_str(alloc: Global, text: &str) -> Result<Value, Error>
         ensures value { IfOk result (λ value. tree_of value ≡ Leaf (String text.now)) }
         ensures memory { OnlyMemory result }
@@ -347,6 +457,15 @@ impl Value {
     ///   allocation fails: nothing was written, and the writer is unchanged.
     /// - `Io` if a write fails (even with `Interrupted`) or accepts no byte, or if the flush fails:
     ///   a prefix of the file was written, and all of it if the flush failed.
+    ///
+    /// # Examples
+    ///
+    /// ```rust
+    /// let settings = Value::from_file(rt, alloc, FILE)?;
+    /// let mut out = Vec::new(alloc);
+    /// settings.to_writer_binary(alloc, &mut out)?;
+    /// Ok(out.len() as u64)
+    /// ```
     pub fn to_writer_binary<W: Write>(&self, alloc: Global, writer: &mut W) -> Result<(), Error>
         ensures sent { SendsValue W.contents self.now result writer.old writer.new }
     {
@@ -356,6 +475,15 @@ impl Value {
 }
 
 /// Returns the kind of the value's first event: that of the scalar, or the start of the collection.
+///
+/// # Examples
+///
+/// ```rust
+/// let value = Value::from_reader(alloc, file)?;
+/// let kind = kind_of_value(&value);
+/// value.destroy();
+/// Ok(kind)
+/// ```
 pub fn kind_of_value(value: &Value) -> EventKind
     ensures { result ≡ kind_of_tree (tree_of value.now) }
 {

@@ -20,6 +20,15 @@ use std::alloc::Global;
 ///
 /// The writer's first error, or `OutOfMemory` if the iterator over the events can't allocate memory
 /// for a start. No event is written after an error.
+///
+/// # Examples
+///
+/// ```rust
+/// let mut writer = SharingWriter::new(alloc, Vec::new(alloc));
+/// let written = write_value(alloc, value, &mut writer);
+/// let file = writer.into_inner();
+/// written.map(|()| file)
+/// ```
 pub fn write_value<W: Writer>(alloc: Global, value: &Value, writer: &mut W) -> Result<(), Error>
     ensures written { WritesValue W.Step writer.old value.now result writer.new }
 {

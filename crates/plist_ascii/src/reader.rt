@@ -47,6 +47,14 @@ impl<R: ByteReader> AsciiReader<R> {
     ghost use Rattle.plist_ascii.specs.AsciiReader.{untaken_bytes, dialect_of, device_of, peeked_byte, place_of, HasEndedAscii};
 
     /// Creates a reader of the lax dialect. Nothing is read before the first item is requested.
+    ///
+    /// # Examples
+    ///
+    /// ```rust
+    /// let mut reader: AsciiReader<R> = AsciiReader::new(alloc, inner);
+    /// let _item: Option<Result<OwnedEvent, Error>> = reader.next();
+    /// reader.into_inner()
+    /// ```
     pub fn new(alloc: Global, inner: R) -> Self
         // Result.
         ensures bytes { untaken_bytes R.remaining result ≡ readable (R.remaining inner) }
@@ -58,7 +66,7 @@ impl<R: ByteReader> AsciiReader<R> {
         AsciiReader::with_dialect(alloc, inner, Dialect::Lax)
     }
 
-    /// Creates a reader of this dialect. Nothing is read before the first item is requested.
+    /// Creates a reader of the given dialect. Nothing is read before the first item is requested.
     ///
     /// In the tight dialect `{a=b}` yields the start of a dictionary, `a`, `b` and an end.
     #[tactic(auto, using(crate::proofs::UnreadBytes::new_unread))]

@@ -17,7 +17,7 @@ pub struct ByteBudget {
 }
 
 impl ByteBudget {
-    /// Creates a budget of this many bytes.
+    /// Creates a budget of the given number of bytes.
     pub fn new(bytes: u64) -> ByteBudget
         ensures items { within_budget result ≡ within_bytes bytes }
     {

@@ -15,15 +15,15 @@ pub trait ByteTest {
     /// The property of a byte that is tested.
     ghost passes: { ℕ → Type 0 };
 
-    /// Returns whether sixteen bytes pass the test.
+    /// Returns `true` if sixteen bytes pass the test.
     fn sixteen(bytes: u8x16) -> bool
         ensures { result ≡ true → EachByte passes bytes };
 
-    /// Returns whether eight bytes pass the test.
+    /// Returns `true` if eight bytes pass the test.
     fn eight(bytes: u8x8) -> bool
         ensures { result ≡ true → EachByte passes bytes };
 
-    /// Returns whether a byte passes the test.
+    /// Returns `true` if a byte passes the test.
     fn one(byte: u8) -> bool
         ensures { result ≡ true → passes byte };
 }
@@ -92,7 +92,7 @@ fn few_pass<T: ByteTest>(bytes: &[u8]) -> bool
     true
 }
 
-/// Returns whether all bytes pass a test.
+/// Returns `true` if all bytes pass a test.
 #[inline(always)]
 pub fn all_pass<T: ByteTest>(bytes: &[u8]) -> bool
     ensures { result ≡ true → EachByte T.passes bytes.now }

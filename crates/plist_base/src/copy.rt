@@ -39,6 +39,16 @@ impl<'w, W: Writer> EventVisitor for EventCopier<'w, W> {
 ///
 /// The error that replaces an event of the source, or the error that the writer returns for an
 /// event. The events that precede it were written.
+///
+/// # Examples
+///
+/// ```rust
+/// let mut reader = BinaryReader::new(alloc, file);
+/// let mut writer = BinaryWriter::new(alloc, Vec::new(alloc));
+/// let done: Result<(), Error> = copy_events(&mut reader, &mut writer);
+/// done?;
+/// Ok(writer.into_inner())
+/// ```
 pub fn copy_events<S: EventSource, W: Writer>(source: &mut S, writer: &mut W) -> Result<(), Error>
     ensures { Copies S.yields W.Step (source.old, writer.old) result (source.new, writer.new) }
 {

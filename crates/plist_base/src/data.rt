@@ -60,6 +60,13 @@ impl Data {
     ///
     /// [`InvalidXmlData::Decode`] if the other characters aren't valid base64, and
     /// [`InvalidXmlData::OutOfMemory`] if an allocation fails.
+    ///
+    /// # Examples
+    ///
+    /// ```rust
+    /// let data = Data::from_xml_format(alloc, "AP 8=").ok()?;
+    /// data.to_xml_format(alloc).ok()
+    /// ```
     pub fn from_xml_format(alloc: Global, text: &str) -> Result<Data, InvalidXmlData>
         ensures data { IfOk result (λ found. data_of_text text.now ≡ Some found) }
         ensures fault { IfErr result (λ error. IsFaultOfText text.now error) }
@@ -79,6 +86,13 @@ impl Data {
     ///
     /// [`ErrorKind::OutOfMemory`](crate::ErrorKind::OutOfMemory), without an offset, if an
     /// allocation fails.
+    ///
+    /// # Examples
+    ///
+    /// ```rust
+    /// let data = Data::from_xml_format(alloc, "AP 8=").ok()?;
+    /// data.to_xml_format(alloc).ok()
+    /// ```
     pub fn to_xml_format(&self, alloc: Global) -> Result<String, Error>
         ensures text { IfOk result (λ text. string_bytes text ≡ data_text self.now) }
         ensures back { IfOk result (λ text. data_of_text (string_bytes text) ≡ Some self.now) }

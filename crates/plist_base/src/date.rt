@@ -92,6 +92,13 @@ impl Date {
 
     /// Converts a Unix second to a date without a fraction. Returns `None` if the second is outside
     /// the range of dates.
+    ///
+    /// # Examples
+    ///
+    /// ```rust
+    /// let value = Value::Date(Date::from_unix_secs(0)?);
+    /// value.as_date()?.to_xml_format(alloc).ok()
+    /// ```
     pub fn from_unix_secs(second: i64) -> Option<Date>
         // Result.
         ensures second { IfSome result (λ d. second_of_bytes d ≡ Some (second -ℤ plist_epoch)) }
@@ -125,7 +132,7 @@ impl Date {
         self.plist_secs() + PLIST_EPOCH
     }
 
-    /// Returns whether this date lies between two seconds.
+    /// Returns `true` if this date lies between two seconds.
     pub fn has_fraction(&self) -> bool
         ensures { result ≡ has_fraction (real_bits self.now) }
     {

@@ -27,6 +27,13 @@ impl Date {
     ///
     /// [`InvalidXmlDate`] if and only if the string doesn't have this form, the calendar doesn't
     /// have the day, or the date in UTC is outside the range of dates.
+    ///
+    /// # Examples
+    ///
+    /// ```rust
+    /// let day = Date::from_xml_format("2001-01-02T00:00:00Z").ok()?;
+    /// Some(day.plist_secs())
+    /// ```
     pub fn from_xml_format(text: &str) -> Result<Date, InvalidXmlDate>
         // Result.
         ensures second { IfOk result (λ date. second_of_bytes date ≡ second_of_text text.now) }
@@ -53,6 +60,13 @@ impl Date {
     /// [`ErrorKind::FractionalDate`] if this date lies between two seconds, else
     /// [`ErrorKind::YearOutOfRange`] if its year isn't from 0 to 9999, else
     /// [`ErrorKind::OutOfMemory`] if an allocation fails. No error has an offset.
+    ///
+    /// # Examples
+    ///
+    /// ```rust
+    /// let value = Value::Date(Date::from_unix_secs(0)?);
+    /// value.as_date()?.to_xml_format(alloc).ok()
+    /// ```
     pub fn to_xml_format(&self, alloc: Global) -> Result<String, Error>
         // Result.
         ensures text { IfOk result (λ text. IsDateText self.now (string_bytes text)) }

@@ -80,6 +80,13 @@ impl Integer {
     /// # Errors
     ///
     /// [`InvalidInteger`] if and only if the string spells no such integer.
+    ///
+    /// # Examples
+    ///
+    /// ```rust
+    /// let number = Integer::from_str("0x10").ok()?;
+    /// number.as_signed()
+    /// ```
     pub fn from_str(text: &str) -> Result<Integer, InvalidInteger>
         ensures number { SpellsInteger text.now result }
     {

@@ -70,6 +70,13 @@ impl<I> LimitedItems<I, ByteBudget> {
     /// Limits the bytes that all strings, including keys, and data have together: the first event
     /// that exceeds the budget is replaced by `OutOfMemory`, without an offset, since the memory
     /// that the caller allows is used up. A string counts by its bytes in UTF-8.
+    ///
+    /// # Examples
+    ///
+    /// ```rust
+    /// let reader = Reader::new(alloc, file);
+    /// Value::from_events(alloc, LimitedItems::within_bytes(reader, 16))
+    /// ```
     pub fn within_bytes(inner: I, bytes: u64) -> Self
         ensures items { items_within_budget result ≡ within_bytes bytes }
         ensures inner { iterator_of result ≡ inner }

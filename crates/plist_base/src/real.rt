@@ -28,6 +28,13 @@ impl RealBits {
     /// number is a `binary64` number.
     ///
     /// Any NaN is converted to a NaN, whose sign and payload are unspecified.
+    ///
+    /// # Examples
+    ///
+    /// ```rust
+    /// let number = value.as_real()?.to_f64();
+    /// Some(Value::Real(RealBits::from_f64(number)))
+    /// ```
     pub fn to_f64(self) -> f64
         ensures value { result ≡ number_of_real self }
     {
@@ -38,6 +45,13 @@ impl RealBits {
     }
 
     /// Encodes a number in eight bytes. All NaNs have the same encoding.
+    ///
+    /// # Examples
+    ///
+    /// ```rust
+    /// let number = value.as_real()?.to_f64();
+    /// Some(Value::Real(RealBits::from_f64(number)))
+    /// ```
     pub fn from_f64(number: f64) -> RealBits
         ensures value { result ≡ real_of number }
     {

@@ -20,6 +20,12 @@ impl Error {
     /// Io (offset 4096): Input/output error (os error 5)
     /// UnknownObjectType(136) (offset 8)
     /// ```
+    ///
+    /// # Examples
+    ///
+    /// ```rust
+    /// let _ = eprintln!(rt; "plist_surface: {}", error.reason());
+    /// ```
     pub fn reason(&self) -> Reason<'_>
         ensures value { error_of_reason result ≡ self.now }
     {

@@ -29,7 +29,8 @@ pub struct Seeking<R> {
 }
 
 impl<R: Read + Seek> Seeking<R> {
-    /// Creates a source over this reader, from its byte 0 on, whatever the reader's position is.
+    /// Creates a source over the given reader, from its byte 0 on, whatever the reader's position
+    /// is.
     ///
     /// It has eight windows of 512 bytes, and allocates nothing. A large file is read faster by
     /// [`Seeking::with_windows`].
@@ -40,13 +41,20 @@ impl<R: Read + Seek> Seeking<R> {
         Seeking::with_memory(inner, None)
     }
 
-    /// Creates a source with windows of 8 KiB over this reader.
+    /// Creates a source with windows of 8 KiB over the given reader.
     ///
     /// It allocates eight windows when it fills the first one. If windows have to be filled again,
     /// it doubles their number, up to 8,192 windows (68 MB). If there are more than eight, their
     /// number is less than twice the number of parts of 8 KiB in the file. If the first allocation
     /// fails, it uses the windows of [`Seeking::new`]. If a later one fails, it continues with the
     /// windows that it has.
+    ///
+    /// # Examples
+    ///
+    /// ```rust
+    /// let file = fs::open(rt, FILE)?;
+    /// Value::from_reader(alloc, Seeking::with_windows(alloc, file))
+    /// ```
     pub fn with_windows(alloc: Global, inner: R) -> Self
         ensures inner { seekable_of result ≡ inner }
         ensures failures { failures_of result ≡ 0 }

@@ -26,7 +26,7 @@ impl Model for Uid {
 }
 
 impl Uid {
-    /// Makes the identifier with this number.
+    /// Makes the identifier with the given number.
     pub fn new(number: u64) -> Uid
         ensures { result ≡ number }
     {

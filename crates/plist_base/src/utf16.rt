@@ -198,7 +198,7 @@ impl<'a> Utf16Str<'a> {
     ghost use Rattle.plist_base.specs.Utf16.{chars_of_utf16, utf8_of_utf16};
     ghost use Rattle.plist_base.specs.Utf16Strings.{chars_left, string_of_utf16};
 
-    /// Returns the string whose units these bytes are, or `None` if a surrogate is unpaired.
+    /// Returns the string with the given bytes as its units, or `None` if a surrogate is unpaired.
     pub fn new(bytes: &'a [u8]) -> Option<Utf16Str<'a>>
         requires { length bytes.now % 2 ≡ 0 }
         ensures string { MatchOption result (wide_text bytes.now ≡ Faulty InvalidUtf16String)
@@ -211,7 +211,7 @@ impl<'a> Utf16Str<'a> {
         None
     }
 
-    /// Returns the string whose units these bytes are. Each surrogate must be paired.
+    /// Returns the string with the given bytes as its units. Each surrogate must be paired.
     #[inline(always)]
     pub fn from_valid(bytes: &'a [u8]) -> Utf16Str<'a>
         requires { IsUtf16 bytes.now }

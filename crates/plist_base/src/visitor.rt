@@ -12,6 +12,22 @@ use std::ops::ControlFlow;
 ///
 /// Only [`EventVisitor::event`] is required. Each of the other methods takes the event that it
 /// names; a fast visitor implements those for the events that are frequent.
+///
+/// # Examples
+///
+/// ```rust
+/// impl EventVisitor for Starts {
+///     // Says nothing of what a call does.
+///     ghost step = { λ _ _ _ _. Unit {0} };
+///
+///     fn event(&mut self, event: Event<'_>) -> ControlFlow<()> {
+///         if let Event::StartArray(_) | Event::StartDictionary(_) = event {
+///             self.count = self.count.saturating_add(1);
+///         }
+///         ControlFlow::Continue(())
+///     }
+/// }
+/// ```
 pub trait EventVisitor {
     ghost use Rattle.std.specs.Prelude.{◌≡◌, ◌<◌, None, IfSome};
     ghost use Rattle.plist_base.specs.ByteTests.{EachByte};

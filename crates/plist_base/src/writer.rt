@@ -52,6 +52,17 @@ pub trait Writer: Sealed {
     }
 
     /// Begins a dictionary. The length is a hint of its number of pairs.
+    ///
+    /// # Examples
+    ///
+    /// ```rust
+    /// writer.write_start_dictionary(Some(2))?;
+    /// writer.write_string(CowStr::Borrowed("second"))?;
+    /// writer.write_integer(Integer::from(reading.second))?;
+    /// writer.write_string(CowStr::Borrowed("level"))?;
+    /// writer.write_integer(Integer::from(reading.level))?;
+    /// writer.write_end_collection()
+    /// ```
     fn write_start_dictionary(&mut self, length: Option<u64>) -> Result<(), Error>
         ensures { Step self.old (StartDictionary length) (answer_of result) self.new }
     {

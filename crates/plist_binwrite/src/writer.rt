@@ -27,6 +27,15 @@ use std::marker::PhantomData;
 /// `WriterFailed`. After `PlistTooLarge` and `OutOfMemory` no byte of the property list was
 /// written. After `Io` a prefix of its file was written, and all of it if the flush failed. No
 /// error has an offset.
+///
+/// # Examples
+///
+/// ```rust
+/// let mut writer = BinaryWriter::new(alloc, Vec::new(alloc));
+/// let done = writer.write(Event::String(CowStr::Borrowed("text")));
+/// let length = writer.into_inner().len() as u64;
+/// done.map(|()| length)
+/// ```
 pub type BinaryWriter<W> = FileWriter<W, EqualScalars>;
 
 /// Writes binary property lists, one after another. The [`Sharing`] `S` decides which equal trees
@@ -61,6 +70,15 @@ impl<W: Write, S: Sharing> FileWriter<W, S> {
     }
 
     /// Returns the inner writer. Buffered events are dropped.
+    ///
+    /// # Examples
+    ///
+    /// ```rust
+    /// let mut writer = SharingWriter::new(alloc, Vec::new(alloc));
+    /// let written = write_value(alloc, value, &mut writer);
+    /// let file = writer.into_inner();
+    /// written.map(|()| file)
+    /// ```
     pub fn into_inner(self) -> W
         ensures inner { result ≡ sink_of self }
     {

@@ -180,8 +180,8 @@ impl<'e> EventTable<'e> {
         self.entries.shape_at(index)
     }
 
-    /// Returns whether a tree begins at this index. This is `false` if the event is an end, and if
-    /// the index is past the last event.
+    /// Returns `true` if a tree begins at the given index. This is `false` if the event is an end,
+    /// and if the index is past the last event.
     pub fn has_item(&self, index: usize) -> bool
         ensures yes { result ≡ true → HasItem (plain_events self.now) index }
         ensures no { result ≡ false → LacksItem (plain_events self.now) index }

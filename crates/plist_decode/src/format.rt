@@ -96,6 +96,13 @@ fn xml_place<S: Source>(source: &mut S, start: u64) -> Result<Option<u64>, Error
 /// # Errors
 ///
 /// `Io`, with the offset of the failed read.
+///
+/// # Examples
+///
+/// ```rust
+/// let format = format_of(&mut fs::read(rt, FILE)?)?;
+/// Ok(format!(in alloc; "{format:?}")?)
+/// ```
 pub fn format_of<S: Source>(source: &mut S) -> Result<Format, Error>
     ensures { ReadsMeaning S.known S.failures format_of source.old
         result source.new }

@@ -25,8 +25,18 @@ impl<'a> Archive<'a> {
     ///
     /// # Errors
     ///
-    /// `NotAnArchive` unless the property list is a dictionary whose `$objects` is an array and
-    /// whose `$top` is a dictionary.
+    /// `NotAnArchive` unless the property list is a dictionary with an array at `$objects` and a
+    /// dictionary at `$top`.
+    ///
+    /// # Examples
+    ///
+    /// ```rust
+    /// let opened = Archive::open(archive)?;
+    /// match opened.top("root") {
+    ///     Some(uid) => Ok(Some(opened.tree(alloc, uid)?)),
+    ///     None => Ok(None),
+    /// }
+    /// ```
     pub fn open(root: &'a Value) -> Result<Archive<'a>, KeyedError>
         ensures archive { IfOk result (λ archive. IsArchiveOf root.now (objects_of archive)
             (names_of archive)) }
@@ -46,6 +56,16 @@ impl<'a> Archive<'a> {
 
     /// Returns the Uid at a key of `$top`, or `None` if the key is missing or its value isn't a
     /// Uid. It allocates nothing.
+    ///
+    /// # Examples
+    ///
+    /// ```rust
+    /// let opened = Archive::open(archive)?;
+    /// match opened.top("root") {
+    ///     Some(uid) => Ok(Some(opened.tree(alloc, uid)?)),
+    ///     None => Ok(None),
+    /// }
+    /// ```
     pub fn top(&self, key: &str) -> Option<Uid>
         ensures found { IfSome result (IsUidAt key.now (names_of self.now)) }
         ensures missing { IsNone result → (uid : ℕ) → ¬ (IsUidAt key.now (names_of self.now) uid) }
@@ -58,6 +78,14 @@ impl<'a> Archive<'a> {
 
     /// Returns the object that a Uid names, with its Uids unchanged, or `None` if the archive has
     /// no such object. It allocates nothing.
+    ///
+    /// # Examples
+    ///
+    /// ```rust
+    /// let root = archive.get(archive.top("root")?)?;
+    /// let name = root.as_dictionary()?.get("name")?.as_uid()?;
+    /// archive.get(*name)
+    /// ```
     pub fn get(&self, uid: Uid) -> Option<&'a Value>
         ensures { option_copied result ≡ slice_get (objects_of self.now) uid }
     {
@@ -87,6 +115,16 @@ impl<'a> Archive<'a> {
     /// - `UidOutOfRange` for a Uid that names no object.
     /// - `RecursiveUid` for a Uid that is reached while its own object is open.
     /// - `OutOfMemory` if an allocation fails.
+    ///
+    /// # Examples
+    ///
+    /// ```rust
+    /// let opened = Archive::open(archive)?;
+    /// match opened.top("root") {
+    ///     Some(uid) => Ok(Some(opened.tree(alloc, uid)?)),
+    ///     None => Ok(None),
+    /// }
+    /// ```
     pub fn tree(&self, alloc: Global, uid: Uid) -> Result<Value, KeyedError>
         ensures value { IfOk result (λ v. resolved_tree (map tree_of (objects_of self.now)) uid
             ≡ Ok (tree_of v)) }

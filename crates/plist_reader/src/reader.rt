@@ -150,6 +150,17 @@ impl<R: Source> Reader<R> {
 
     /// Creates a reader over a source. Nothing is read before the first item is requested. ASCII is
     /// read in the lax dialect, in which an LF doesn't end a bare string.
+    ///
+    /// # Examples
+    ///
+    /// ```rust
+    /// let mut counts = Counts::none();
+    /// let mut reader = Reader::new(alloc, source);
+    /// while let Some(item) = reader.next() {
+    ///     counts.take(item)?;
+    /// }
+    /// Ok(counts)
+    /// ```
     pub fn new(alloc: Global, source: R) -> Self
         ensures items { reader_items R.known result
             ≡ option_map items_of_input (R.known source) }
@@ -160,8 +171,8 @@ impl<R: Source> Reader<R> {
         Reader::with_dialect(alloc, source, Dialect::Lax)
     }
 
-    /// Creates a reader that reads ASCII in this dialect, and a binary source as [`Reader::new`]
-    /// does.
+    /// Creates a reader that reads ASCII in the given dialect, and a binary source as
+    /// [`Reader::new`] does.
     pub fn with_dialect(alloc: Global, source: R, dialect: Dialect) -> Self
         ensures items { reader_items R.known result
             ≡ option_map (items_of_dialect dialect) (R.known source) }
@@ -175,9 +186,27 @@ impl<R: Source> Reader<R> {
         }
     }
 
-    /// Creates a reader under these limits: the first event that exceeds the limit of items, or
+    /// Creates a reader under the given limits: the first event that exceeds the limit of items, or
     /// else that of the depth, is replaced by `LimitReached`, without an offset. Under limits a
     /// reader has ended after its first error of any kind.
+    ///
+    /// # Examples
+    ///
+    /// ```rust
+    /// let limits = Limits {
+    ///     depth: 64,
+    ///     items: 100_000,
+    /// };
+    /// let mut reader = Reader::with_limits(alloc, file, limits);
+    /// let mut strings: u64 = 0;
+    /// while let Some(item) = reader.next() {
+    ///     let event = item?;
+    ///     if matches!(event, Event::String(_)) {
+    ///         strings = strings.saturating_add(1);
+    ///     }
+    /// }
+    /// Ok(strings)
+    /// ```
     pub fn with_limits(alloc: Global, source: R, limits: Limits) -> Self
         ensures items { reader_items R.known result
             ≡ option_map (λ bytes. limited_items limits (items_of_input bytes)) (R.known source) }

@@ -21,4 +21,13 @@ use plist_binwrite::FileWriter;
 /// `WriterFailed`. After `PlistTooLarge` and `OutOfMemory` no byte of the property list was
 /// written. After `Io` a prefix of its file was written, and all of it if the flush failed. No
 /// error has an offset.
+///
+/// # Examples
+///
+/// ```rust
+/// let mut writer = SharingWriter::new(alloc, Vec::new(alloc));
+/// let written = write_value(alloc, value, &mut writer);
+/// let file = writer.into_inner();
+/// written.map(|()| file)
+/// ```
 pub type SharingWriter<W> = FileWriter<W, EqualTrees>;

@@ -1,6 +1,8 @@
 //! Keyed archives.
 
 use crate::events::print_items;
+use crate::examples::print_result;
+use crate::stream_examples::name_in;
 use crate::traits::{is_debug, is_display, is_error};
 use plist::{Builder, Value};
 use plist_base::{Error, Event, Uid, Writer};
@@ -93,7 +95,16 @@ fn print_root<W: Write>(alloc: Global, out: &mut W, root: &Value) -> Result<(), 
     }
 }
 
+// Prints the name of an archive's root.
+fn print_name<W: Write>(out: &mut W, root: &Value) -> Result<(), Error> {
+    let Ok(archive) = Archive::open(root) else {
+        return Ok(());
+    };
+    print_result(out, "name_in", &name_in(archive))
+}
+
 pub fn print<W: Write>(alloc: Global, out: &mut W) -> Result<(), Error> {
     let root = example(alloc)?;
-    print_root(alloc, out, &root)
+    print_root(alloc, out, &root)?;
+    print_name(out, &root)
 }

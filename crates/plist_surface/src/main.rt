@@ -10,12 +10,14 @@ mod dictionaries;
 mod entries;
 mod errors;
 mod events;
+mod examples;
 mod files;
 mod globs;
 mod paths;
 mod readers;
 mod scalars;
 mod sources;
+mod stream_examples;
 mod traits;
 mod values;
 mod writers;
@@ -38,6 +40,8 @@ fn print<R: Files + AllocGlobal, W: Write>(
     values::print(alloc, out)?;
     dictionaries::print(alloc, out)?;
     archives::print(alloc, out)?;
+    examples::print(rt, alloc, out)?;
+    stream_examples::print(alloc, out)?;
     files::print(rt, alloc, out)
 }
 

@@ -10,7 +10,7 @@ use std::alloc::Global;
 use std::io::{Read, Write};
 
 // An array that contains one array twice, which contains an empty array twice.
-const SHARED: &[u8] = b"bplist00\xa2\x01\x01\xa2\x02\x02\xa0\x08\x0b\x0e\0\0\0\0\0\0\x01\x01\
+pub const SHARED: &[u8] = b"bplist00\xa2\x01\x01\xa2\x02\x02\xa0\x08\x0b\x0e\0\0\0\0\0\0\x01\x01\
     \0\0\0\0\0\0\0\x03\0\0\0\0\0\0\0\0\0\0\0\0\0\0\0\x0f";
 
 // An array that contains itself.

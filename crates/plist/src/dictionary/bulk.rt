@@ -17,6 +17,12 @@ use std::alloc::Global;
 impl Dictionary {
     /// Keeps the pairs for which the closure returns `true`, in their order, and drops the others.
     /// The closure is called once for each pair, in their order.
+    ///
+    /// # Examples
+    ///
+    /// ```rust
+    /// settings.retain(|_key, value| value.as_string().is_some());
+    /// ```
     pub fn retain<F: Fn(&String, &Value) -> bool>(&mut self, keep: F)
         requires { F.IsAlwaysCallable keep }
         ensures kept { Retains F.Fn keep (pairs_of self.old) (pairs_of self.new) }
@@ -31,6 +37,13 @@ impl Dictionary {
     ///
     /// `OutOfMemory` if an allocation fails. The pairs before the one that couldn't be stored stay
     /// inserted then; that pair and those after it are dropped.
+    ///
+    /// # Examples
+    ///
+    /// ```rust
+    /// settings.extend(others)?;
+    /// Ok(settings.len())
+    /// ```
     pub fn extend<I: IntoIterator<Item = (String, Value)>>(&mut self, more: I) -> Result<(), Error>
         requires asked { IterableEnds I.into_iter_gives I.IntoIter.can_next I.IntoIter.remaining
             more }
@@ -41,12 +54,18 @@ impl Dictionary {
         self.pairs.extend(more)
     }
 
-    /// Makes a dictionary from these pairs, inserted in their order. The caller has to prove that
-    /// the iterator ends.
+    /// Makes a dictionary from the given pairs, inserted in their order. The caller has to prove
+    /// that the iterator ends.
     ///
     /// # Errors
     ///
     /// `OutOfMemory` if an allocation fails. All pairs are dropped then.
+    ///
+    /// # Examples
+    ///
+    /// ```rust
+    /// Dictionary::from_pairs(alloc, settings.clone()?)
+    /// ```
     pub fn from_pairs<I: IntoIterator<Item = (String, Value)>>(
         alloc: Global,
         pairs: I,

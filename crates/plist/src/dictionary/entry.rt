@@ -10,7 +10,7 @@ ghost use Rattle.plist.specs.Dictionaries.{pairs_of};
 use crate::{Dictionary, Value};
 use std::mem;
 
-/// The entry of a key in a dictionary: the key's pair, or a vacant entry if the key isn't there.
+/// The entry of a key in a dictionary: the key's pair, or a vacant entry if the key is missing.
 #[derive(Drop)]
 pub enum Entry<'a> {
     /// The key isn't there.
@@ -40,6 +40,17 @@ impl Dictionary {
 
     /// Returns the entry of the key. It allocates no memory; only the insert of a vacant entry
     /// does.
+    ///
+    /// # Examples
+    ///
+    /// ```rust
+    /// for key in ["b", "c"] {
+    ///     let _value = settings
+    ///         .entry(key.to_string(alloc)?)
+    ///         .or_insert(Value::Boolean(false))?;
+    /// }
+    /// Ok(())
+    /// ```
     pub fn entry(&mut self, key: String) -> Entry<'_>
         // Result.
         ensures now { entry_pairs result ≡ pairs_of self.old }
@@ -169,7 +180,18 @@ impl<'a> Entry<'a> {
     ///
     /// # Errors
     ///
-    /// The errors are those of [`VacantEntry::insert`].
+    /// Any error of [`VacantEntry::insert`].
+    ///
+    /// # Examples
+    ///
+    /// ```rust
+    /// for key in ["b", "c"] {
+    ///     let _value = settings
+    ///         .entry(key.to_string(alloc)?)
+    ///         .or_insert(Value::Boolean(false))?;
+    /// }
+    /// Ok(())
+    /// ```
     pub fn or_insert(self, value: Value) -> Result<&'a mut Value, (String, Value)>
         ensures value { IfOk result (λ borrowed. borrowed.now
             ≡ unwrap_or (entry_value self.entry) value) }
@@ -187,11 +209,18 @@ impl<'a> Entry<'a> {
     }
 
     /// Does what [`Entry::or_insert`] does, but with the value that the closure returns. The
-    /// closure is called only if the key isn't there.
+    /// closure is called only if the key is missing.
     ///
     /// # Errors
     ///
-    /// The errors are those of [`VacantEntry::insert`].
+    /// Any error of [`VacantEntry::insert`].
+    ///
+    /// # Examples
+    ///
+    /// ```rust
+    /// let flag = settings.entry(key).or_insert_with(|| Value::Boolean(true))?;
+    /// Ok(flag.as_boolean() == Some(true))
+    /// ```
     pub fn or_insert_with<F: FnOnce() -> Value>(
         self,
         value: F,

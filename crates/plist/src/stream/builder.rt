@@ -19,6 +19,17 @@ use std::alloc::Global;
 /// `UnexpectedEventType` before the root is complete, and with `ExpectedEndOfEventStream` after
 /// that. If an allocation fails, the builder has failed: its contents are dropped, and each later
 /// call returns `WriterFailed`.
+///
+/// # Examples
+///
+/// ```rust
+/// let mut builder = Builder::new(alloc);
+/// builder.write_start_dictionary(None)?;
+/// builder.write_string(CowStr::Borrowed("Enabled"))?;
+/// builder.write_boolean(true)?;
+/// builder.write_end_collection()?;
+/// builder.finish()
+/// ```
 #[derive(Drop)]
 pub struct Builder {
     alloc: Global,

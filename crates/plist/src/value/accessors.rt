@@ -16,6 +16,16 @@ impl Value {
     ghost use Rattle.plist.specs.MutAccessors.{LendsArray, LendsDictionary};
 
     /// Returns the array, or `None` if the value isn't one.
+    ///
+    /// # Examples
+    ///
+    /// ```rust
+    /// let mut sum: u64 = 0;
+    /// for item in value.as_array()? {
+    ///     sum = sum.saturating_add(item.as_unsigned_integer()?);
+    /// }
+    /// Some(sum)
+    /// ```
     pub fn as_array(&self) -> Option<&Vec<Value>>
         ensures value { option_map (λ a. item_trees a.now.items) result
             ≡ array_in (tree_of self.now) }
@@ -28,6 +38,14 @@ impl Value {
     }
 
     /// Returns a mutable reference to the array, or `None` if the value isn't one.
+    ///
+    /// # Examples
+    ///
+    /// ```rust
+    /// let items = settings.get_mut("Offsets")?.as_array_mut()?;
+    /// items.push(Value::from(7_i64)).ok()?;
+    /// Some(items.len() as u64)
+    /// ```
     pub fn as_array_mut(&mut self) -> Option<&mut Vec<Value>>
         ensures value { option_map (λ a. item_trees a.now.items) result
             ≡ array_in (tree_of self.old) }
@@ -41,6 +59,12 @@ impl Value {
     }
 
     /// Returns the dictionary, or `None` if the value isn't one.
+    ///
+    /// # Examples
+    ///
+    /// ```rust
+    /// value.as_dictionary()?.get(key)?.as_signed_integer()
+    /// ```
     pub fn as_dictionary(&self) -> Option<&Dictionary>
         ensures value { option_map (λ d. pair_trees (pairs_of d.now)) result
             ≡ dictionary_in (tree_of self.now) }
@@ -53,6 +77,14 @@ impl Value {
     }
 
     /// Returns a mutable reference to the dictionary, or `None` if the value isn't one.
+    ///
+    /// # Examples
+    ///
+    /// ```rust
+    /// let pairs = settings.as_dictionary_mut()?;
+    /// *pairs.get_mut("Name")? = Value::String(name);
+    /// Some(())
+    /// ```
     pub fn as_dictionary_mut(&mut self) -> Option<&mut Dictionary>
         ensures value { option_map (λ d. pair_trees (pairs_of d.now)) result
             ≡ dictionary_in (tree_of self.old) }
@@ -66,6 +98,15 @@ impl Value {
     }
 
     /// Returns the Boolean, or `None` if the value isn't one.
+    ///
+    /// # Examples
+    ///
+    /// ```rust
+    /// match settings.get("Enabled") {
+    ///     Some(value) => value.as_boolean() == Some(true),
+    ///     None => false,
+    /// }
+    /// ```
     pub fn as_boolean(&self) -> Option<bool>
         ensures { result ≡ boolean_in (tree_of self.now) }
     {
@@ -76,6 +117,12 @@ impl Value {
     }
 
     /// Returns the bytes of data, or `None` if the value isn't data.
+    ///
+    /// # Examples
+    ///
+    /// ```rust
+    /// icon.as_data()?.first().copied()
+    /// ```
     pub fn as_data(&self) -> Option<&[u8]>
         ensures { option_copied result ≡ data_in (tree_of self.now) }
     {
@@ -86,6 +133,13 @@ impl Value {
     }
 
     /// Returns the date, or `None` if the value isn't one.
+    ///
+    /// # Examples
+    ///
+    /// ```rust
+    /// let value = Value::Date(Date::from_unix_secs(0)?);
+    /// value.as_date()?.to_xml_format(alloc).ok()
+    /// ```
     pub fn as_date(&self) -> Option<Date>
         ensures { result ≡ date_in (tree_of self.now) }
     {
@@ -96,6 +150,13 @@ impl Value {
     }
 
     /// Returns the bytes of a real, or `None` if the value isn't one.
+    ///
+    /// # Examples
+    ///
+    /// ```rust
+    /// let number = value.as_real()?.to_f64();
+    /// Some(Value::Real(RealBits::from_f64(number)))
+    /// ```
     pub fn as_real(&self) -> Option<RealBits>
         ensures { result ≡ real_in (tree_of self.now) }
     {
@@ -106,6 +167,16 @@ impl Value {
     }
 
     /// Returns the number if the value is an integer that fits into an `i64`, and otherwise `None`.
+    ///
+    /// # Examples
+    ///
+    /// ```rust
+    /// let settings = Value::from_reader(alloc, file).ok()?;
+    /// settings
+    ///     .as_dictionary()?
+    ///     .get("Version")?
+    ///     .as_signed_integer()
+    /// ```
     pub fn as_signed_integer(&self) -> Option<i64>
         // No `Integer` is below -2^63, so it only has to be below 2^63.
         ensures fits { IsSome result
@@ -119,6 +190,16 @@ impl Value {
     }
 
     /// Returns the number if the value is an integer that isn't negative, and otherwise `None`.
+    ///
+    /// # Examples
+    ///
+    /// ```rust
+    /// let mut sum: u64 = 0;
+    /// for item in value.as_array()? {
+    ///     sum = sum.saturating_add(item.as_unsigned_integer()?);
+    /// }
+    /// Some(sum)
+    /// ```
     pub fn as_unsigned_integer(&self) -> Option<u64>
         ensures fits { IsSome result
             ↔ IsSomeAnd (integer_in (tree_of self.now)) (λ n. pos 0 ≤ℤ n) }
@@ -131,6 +212,12 @@ impl Value {
     }
 
     /// Returns the string, or `None` if the value isn't one.
+    ///
+    /// # Examples
+    ///
+    /// ```rust
+    /// settings.get("Name")?.as_string()
+    /// ```
     pub fn as_string(&self) -> Option<&str>
         ensures { option_copied result ≡ text_in (tree_of self.now) }
     {
@@ -154,6 +241,12 @@ impl Value {
     }
 
     /// Returns the Uid, or `None` if the value isn't one.
+    ///
+    /// # Examples
+    ///
+    /// ```rust
+    /// Some(reference.as_uid()?.get())
+    /// ```
     pub fn as_uid(&self) -> Option<&Uid>
         ensures { option_copied result ≡ uid_in (tree_of self.now) }
     {

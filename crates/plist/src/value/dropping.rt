@@ -33,6 +33,15 @@ impl Value {
     /// When a value goes out of scope, the arrays in it are dropped recursively, and at about
     /// 100,000 levels of arrays the call stack overflows. Call this method instead for a value that
     /// may be that deep, such as one that was read from an untrusted file without [`Limits`].
+    ///
+    /// # Examples
+    ///
+    /// ```rust
+    /// let value = Value::from_reader(alloc, file)?;
+    /// let kind = kind_of_value(&value);
+    /// value.destroy();
+    /// Ok(kind)
+    /// ```
     pub fn destroy(self) {
         match self.into_children() {
             None => {}
