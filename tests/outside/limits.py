@@ -6,7 +6,8 @@ bytes; others do so with a UTF-16 string and with data. The limits are 64 collec
 and a number of bytes. If the strings and data of the value have more bytes than this number, the call
 must return `OutOfMemory`, and otherwise the value. Its peak memory may exceed this number by at most
 the sum of 2 MiB, the size of the longest string or data of the file, and the peak memory for an empty
-array. While a UTF-16 string is read, both its units and its UTF-8 bytes are in memory.
+array. While a UTF-16 string is read, both its units and its UTF-8 bytes are in memory: of "é" four
+bytes for each unit of two, and of "€" five.
 
 Usage: limits.py [PROGRAM]
 
@@ -58,6 +59,10 @@ def runs():
     yield "a string of 64 MiB", shared(text(64 << 20), 1), 64 << 20, mebibyte, REACHED
     yield "data of 64 MiB", shared(data(64 << 20), 1), 64 << 20, mebibyte, REACHED
     yield "a wide string of 64 MiB", shared(wide(32 << 20), 1), 128 << 20, mebibyte, REACHED
+    yield ("99,998 references to a wide string of 1 MiB with three bytes a unit in UTF-8",
+           shared(wide(mebibyte // 2, "€"), 99_998), 5 * mebibyte // 2, most, REACHED)
+    yield ("a wide string of 64 MiB with three bytes a unit in UTF-8", shared(wide(32 << 20, "€"), 1), 160 << 20,
+           mebibyte, REACHED)
 
 
 def main():

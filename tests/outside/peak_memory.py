@@ -67,8 +67,8 @@ def text(count):
     return with_length(5, count) + b"x" * count
 
 
-def wide_text(units):
-    return with_length(6, units) + "é".encode("utf-16-be") * units
+def wide_text(units, unit="é"):
+    return with_length(6, units) + unit.encode("utf-16-be") * units
 
 
 def shared(content, times):

@@ -1,8 +1,11 @@
 -- Values under limits.
 use Rattle.std.proofs.lemmas.Bool.Decides.{nat_tests}
 use Rattle.std.proofs.Common.{◌≡◌, ℕ, ◌+◌, ◌-◌, ◌≤◌, ◌<◌, Bool, true, false, cond, List, [], ◌∷◌, ◌++◌, length, map, Option, None, Some, Result, Ok, Err, ◌↔◌, refl, sym, ap, ◌∙◌, subst, arith, append_assoc, append-nil, ◌&&◌, nat_le, nat_lt, IfOk, option_map}
+use Rattle.std.specs.Iterator.{Yields}
 use Rattle.std.specs.Prelude.{⊤}
 use Rattle.plist_base.specs.declared.byte_budget.ByteBudget.{ByteBudget}
+use Rattle.plist_base.specs.declared.error.Error.{Error}
+use Rattle.plist_base.specs.declared.event.Event.{Event}
 use Rattle.plist_base.specs.declared.limited_items.LimitedItems.{LimitedItems}
 use Rattle.plist_base.specs.declared.limits.Limit.{Limit}
 use Rattle.plist_base.specs.declared.limits.Limit.TheVariants as limit
@@ -16,10 +19,10 @@ use Rattle.plist_base.specs.Faults.{Fault, OutOfMemory, fault_without_offset}
 use Rattle.plist_base.specs.Limits.{GivesLimited, IsLimitReached, items_admitted, event_or_limit, level_after, limit_at, limited_from, limited_items, opens, limited_by}
 use Rattle.plist_base.specs.Trees.{Tree, Leaf, Array, Dictionary, Trees, NoTrees, TreeAnd, Members, NoMembers, MemberAnd}
 use Rattle.plist_base.specs.Bracketing.{AreAlike, bracketing, bracketing_of_items, bracketing_of_pairs, without_length}
-use Rattle.plist.specs.Collecting.{Collects}
+use Rattle.plist.specs.Collecting.{Collects, CollectsWithin, events_taken, item_by}
 use Rattle.plist.specs.ValueOfItems.{PredictsItems}
 use Rattle.plist.specs.LastWins.{last_wins}
-use Rattle.plist.specs.LimitedValues.{IsWithinBudget, IsWithinLimits, NestsWithin, ItemsNestWithin, PairsNestWithin}
+use Rattle.plist.specs.LimitedValues.{FitBudget, FitLimits, IsWithinBudget, IsWithinLimits, NestsWithin, ItemsNestWithin, PairsNestWithin}
 use Rattle.plist.proofs.Allowances.{Given, allowed-shows, run-inside, run-passes}
 use Rattle.plist.proofs.KeysOnce.{last-nests}
 use Rattle.plist.proofs.LastWinsSizes.{fewer-bytes, fewer-events}
@@ -233,7 +236,7 @@ built-within inner_gives limits limited (Ok tree) fresh
     events yields same in
     let h = tree-within limits events whole came alike in
     let fewer = fewer-events whole in
-    rw last (h.0, (omega arith, (whole, refl, h.1)))
+    rw last (h.0, omega arith)
 
 pub built-within-budget : {I : Type 0} (inner_gives : I → Given → I → Type 0) (limits : Limits)
     (bytes : ℕ) (budgeted : LimitedItems (LimitedItems I LimitCounter) ByteBudget) (answer : Result Tree Fault)
@@ -259,4 +262,59 @@ built-within-budget inner_gives limits bytes budgeted (Ok tree) within fresh
     let fewer = fewer-events whole in
     let less = alike-light events (bracketing whole) bytes alike (light bytes events fits) in
     let lighter = fewer-bytes whole in
-    rw last (h.0, ((omega arith, omega arith), (whole, refl, (few, less))))
+    rw last (h.0, (omega arith, omega arith))
+
+-- ---- the items that are taken
+
+-- the events before the first fault are those of the first of the items
+before-fault : {I : Type 0} (gives : I → Given → I → Type 0) (old rest : I)
+    (taken : List (Result Event Error)) → Yields gives old taken rest
+    → (first : List (Result Event Error)) × (left : I) × Yields gives old first left
+    × (map (item_by event_of) first ≡ map Ok (events_taken (map (item_by event_of) taken)))
+before-fault gives old rest [] yields = ([], old, refl, refl)
+before-fault gives old rest (Err error ∷ taken) yields = ([], old, refl, refl)
+before-fault gives old rest (Ok event ∷ taken) (mid, step, more) =
+    let h = before-fault gives mid rest taken more in
+    (Ok event ∷ h.0, h.1, (mid, step, h.2), ap (λ l. Ok (event_of event) ∷ l) h.3)
+
+-- no more events are taken than the limits allow
+pub taken-within : {I : Type 0} (inner_gives : I → Given → I → Type 0) (limits : Limits)
+    (limited : LimitedItems I LimitCounter) (answer : Result Tree Fault)
+    → items_admitted limited ≡ limited_items limits
+    → Collects event_of (GivesLimited inner_gives) limited answer
+    → CollectsWithin event_of (GivesLimited inner_gives) limited (FitLimits limits) answer
+taken-within inner_gives limits limited answer fresh (after, (taken, rest, yields, built)) =
+    let events = events_taken (map (item_by event_of) taken) in
+    let first = before-fault (GivesLimited inner_gives) limited rest taken yields in
+    let came : limited_items limits (map Ok events)
+    ≡ map Ok events = ap (λ f. f (map Ok events)) (sym fresh)
+    ∙ run-passes limited_by IsLimitReached (λ _. refl) (λ _ _ _. refl) inner_gives limited first.1
+    first.0 events first.2 first.3 in
+    let long = few limits 0 0 events (omega arith) (passes limits 0 0 events came) in
+    (after, taken, rest, yields, built, omega arith)
+
+-- no more events and bytes are taken than the limits and the budget allow
+pub taken-within-budget : {I : Type 0} (inner_gives : I → Given → I → Type 0) (limits : Limits)
+    (bytes : ℕ) (budgeted : LimitedItems (LimitedItems I LimitCounter) ByteBudget)
+    (answer : Result Tree Fault) → items_within_budget budgeted ≡ within_bytes bytes
+    → items_admitted (iterator_of budgeted) ≡ limited_items limits
+    → Collects event_of (GivesWithinBudget (GivesLimited inner_gives)) budgeted answer
+    → CollectsWithin event_of (GivesWithinBudget (GivesLimited inner_gives)) budgeted
+    (FitBudget limits bytes) answer
+taken-within-budget inner_gives limits bytes budgeted answer within fresh
+    (after, (taken, rest, yields, built)) =
+    let events = events_taken (map (item_by event_of) taken) in
+    let first = before-fault (GivesWithinBudget (GivesLimited inner_gives)) budgeted rest taken
+    yields in
+    let fits : within_bytes bytes (map Ok events)
+    ≡ map Ok events = ap (λ f. f (map Ok events)) (sym within)
+    ∙ run-passes within_budget IsBudgetUsedUp (λ _. refl) (λ _ _ _. refl) (GivesLimited inner_gives)
+    budgeted first.1 first.0 events first.2 first.3 in
+    let inside = run-inside within_budget IsBudgetUsedUp (λ _. refl) (λ _ _ _. refl)
+    (GivesLimited inner_gives) budgeted first.1 first.0 events first.2 first.3 in
+    let came : limited_items limits (map Ok events)
+    ≡ map Ok events = ap (λ f. f (map Ok events)) (sym fresh)
+    ∙ run-passes limited_by IsLimitReached (λ _. refl) (λ _ _ _. refl) inner_gives
+    (iterator_of budgeted) (iterator_of first.1) first.0 events inside first.3 in
+    let long = few limits 0 0 events (omega arith) (passes limits 0 0 events came) in
+    (after, taken, rest, yields, built, (omega arith, light bytes events fits))

@@ -60,6 +60,12 @@ IsBuiltFrom stops ends items (Err fault) =
     × (EndsInError stops events items fault
     ⊎ (EndsInRefusal stops unfinished events items fault ⊎ EndsUnfinished ends events items fault))
 
+-- the events before the first fault
+abbrev pub events_taken : List Item → List PlainEvent
+events_taken [] = []
+events_taken (Ok event ∷ items) = event ∷ events_taken items
+events_taken (Err fault ∷ items) = []
+
 module _ {E I : Type 0} (plain : E → PlainEvent)
     (next_gives : I → Option (Result E Error) → I → Type 0) (iter : I) where
   -- A value is built from an iterator's items, with this result. The iterator isn't called again
@@ -72,6 +78,14 @@ module _ {E I : Type 0} (plain : E → PlainEvent)
   -- a value is built from an iterator's items, with this result
   abbrev pub Collects : Result Tree Fault → Type 0
   Collects answer = (after : I) × CollectsTo answer after
+
+  -- a value is built from an iterator's items, with this result, and `P` is true of the events that
+  -- were taken for it
+  abbrev pub CollectsWithin : (P : List PlainEvent → Type 0) → Result Tree Fault → Type 0
+  CollectsWithin P answer =
+      (after : I) × (taken : List (Result E Error)) × (left : I) × Yields next_gives iter taken left
+      × IsBuiltFrom (after ≡ left) (next_gives left None after) (map (item_by plain) taken) answer
+      × P (events_taken (map (item_by plain) taken))
 
 -- the item is an event, which is added
 abbrev pub TakesOne : Built → Item → Built → Type 0

@@ -7,10 +7,11 @@ ghost use Rattle.plist.specs.Collecting.{built_tree};
 ghost use Rattle.plist.specs.Accessors.{array_in, data_in, dictionary_in, text_in};
 ghost use Rattle.plist.specs.ValueOfItems.{AnswersIterable, CollectsIterable, ReadsBackIn, ReadsItems, DetermineTrees};
 ghost use Rattle.plist_pairs.specs.Bulk.{IterableEnds};
-ghost use Rattle.plist.specs.FromReader.{IsReadInDialect, IsReadWithin, IsReadWithinBudget, IsReadAsAscii, IsReadingFault, budgeted_input};
+ghost use Rattle.plist.specs.FromReader.{IsReadInDialect, IsReadWithin, IsReadWithinBudget, IsReadAsAscii, IsAsciiReadingFault, IsReadingFault, NeverFails, NeverFailsReading, budgeted_input};
 ghost use Rattle.plist_decode.specs.declared.format.Format.TheVariants.{Ascii};
 ghost use Rattle.plist_base.specs.Limits.{limited_items};
 ghost use Rattle.plist_reader.specs.Reader.{items_in_format, items_of_dialect, items_of_input};
+ghost use Rattle.plist_base.specs.Faults.{IsNotIo};
 ghost use Rattle.plist_base.specs.Outcomes.{IfFault, OnlyMemory};
 ghost use Rattle.plist_base.specs.Trees.{Leaf, String};
 ghost use Rattle.plist.specs.LastWins.{AreLastValues, TreePairs, last_values, last_wins};
@@ -249,6 +250,8 @@ impl Value {
         ensures read { IsReadInDialect Dialect.Lax R.known R.failures source
             (built_tree result) }
         ensures fault { IfFault result (IsReadingFault false) }
+        ensures never_io { NeverFails R.failures
+            → IfFault result (λ fault. IsNotIo fault.kind) }
         ensures reads_back { ReadsBackIn (R.known source) (built_tree result) }
     {
         Value::from_reader_with_dialect(alloc, source, Dialect::Lax)
@@ -274,6 +277,8 @@ impl Value {
         ensures value { ReadsItems (items_of_dialect dialect) (R.known source) result }
         ensures read { IsReadInDialect dialect R.known R.failures source (built_tree result) }
         ensures fault { IfFault result (IsReadingFault false) }
+        ensures never_io { NeverFails R.failures
+            → IfFault result (λ fault. IsNotIo fault.kind) }
         ensures reads_back { ReadsBackIn (R.known source) (built_tree result) }
     {
         let mut reader = Reader::with_dialect(alloc, source, dialect);
@@ -315,6 +320,8 @@ impl Value {
             (R.known source) result }
         ensures read { IsReadWithin limits R.known R.failures source (built_tree result) }
         ensures fault { IfFault result (IsReadingFault true) }
+        ensures never_io { NeverFails R.failures
+            → IfFault result (λ fault. IsNotIo fault.kind) }
         ensures within { IfOk (built_tree result) (IsWithinLimits limits) }
     {
         let reader = Reader::new(alloc, source);
@@ -353,6 +360,8 @@ impl Value {
         ensures read { IsReadWithinBudget limits bytes R.known R.failures source
             (built_tree result) }
         ensures fault { IfFault result (IsReadingFault true) }
+        ensures never_io { NeverFails R.failures
+            → IfFault result (λ fault. IsNotIo fault.kind) }
         ensures within { IfOk (built_tree result) (IsWithinBudget limits bytes) }
     {
         let reader = Reader::new(alloc, source);
@@ -381,6 +390,9 @@ impl Value {
         ensures value { ReadsItems (items_in_format Dialect.Lax Ascii) (R.remaining reader)
             result }
         ensures read { IsReadAsAscii R.remaining R.failures reader Dialect.Lax (built_tree result) }
+        ensures fault { IfFault result IsAsciiReadingFault }
+        ensures never_io { NeverFailsReading R.failures
+            → IfFault result (λ fault. IsNotIo fault.kind) }
     {
         Value::from_reader_ascii_with_dialect(alloc, reader, Dialect::Lax)
     }
@@ -405,6 +417,9 @@ impl Value {
     ) -> Result<Value, Error>
         ensures value { ReadsItems (items_in_format dialect Ascii) (R.remaining reader) result }
         ensures read { IsReadAsAscii R.remaining R.failures reader dialect (built_tree result) }
+        ensures fault { IfFault result IsAsciiReadingFault }
+        ensures never_io { NeverFailsReading R.failures
+            → IfFault result (λ fault. IsNotIo fault.kind) }
     {
         collect(alloc, AsciiReader::with_dialect(alloc, reader, dialect))
     }

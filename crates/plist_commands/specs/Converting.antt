@@ -1,21 +1,23 @@
 -- What is written for a source's property list if no value is made of it, and what is buffered for
 -- that, whatever the source returns.
-use Rattle.std.specs.Prelude.{◌≡◌, ◌⊎◌, ℕ, Bool, true, false, List, map, Option, None, Some, Result, Ok, Err, IfErr, IfOk, IfSome, MatchResult}
+use Rattle.std.specs.Prelude.{◌≡◌, ◌⊎◌, ℕ, Bool, true, false, List, map, Option, None, Some, Result, Ok, Err, IfErr, IfOk, IfSome, MatchResult, ⊤}
 use Rattle.std.specs.Option.{option_map, option_map_or}
 use Rattle.plist_base.specs.Bracketing.{bracketing, without_length, AreAlike, AreTreeEvents}
 use Rattle.plist_base.specs.declared.error.Error.{Error}
 use Rattle.plist_base.specs.declared.source.Source.{Ghosts}
 use Rattle.plist_base.specs.Events.{PlainEvent, Item}
-use Rattle.plist_base.specs.Faults.{OutOfMemory, fault_without_offset, fault_of, offset_of}
+use Rattle.plist_base.specs.Faults.{Fault, OutOfMemory, fault_without_offset, fault_of, offset_of}
 use Rattle.plist_base.specs.Trees.{Tree}
 use Rattle.plist_base.specs.Visits.{YieldsAll, YieldsPlain, PlainItem}
 use Rattle.plist_base.specs.Writing.{Answer}
+use Rattle.plist_ascii.specs.declared.dialect.Dialect.TheVariants.{Lax}
 use Rattle.plist_reader.specs.declared.reader.Reader.{Reader}
 use Rattle.plist_reader.specs.Reader.{reader_source, Gives, IsNewReader, items_of_input}
 use Rattle.plist_print.specs.Printing.{CountsReads}
 use Rattle.plist.specs.ValueOfItems.{AreItemsOfTree, IsReadIfKnown}
 use Rattle.plist.specs.LastWins.{last_wins}
-use Rattle.plist.specs.SendingValues.{SendsTree}
+use Rattle.plist.specs.FromReader.{IsReadFromFile}
+use Rattle.plist.specs.SendingValues.{IsUnstored, SendsTree}
 use Rattle.plist_commands.specs.declared.convert.FastPath.{FastPath}
 use Rattle.plist_commands.specs.declared.convert.FastPath.TheVariants.{NotApplicable, Sent}
 
@@ -110,3 +112,20 @@ abbrev pub ConvertsSource : {S : Type 0} (known : S → Option (List ℕ)) (fail
 ConvertsSource known failed source answer sends =
     (read : Result Bool Error) × (held : List PlainEvent)
     × ReadsSource known failed source read held × ComesOfReading (sends held) read answer
+
+-- ---- the conversion of a file by its value
+
+-- the result of storing a value with this tree: `Ok`, or why it isn't stored
+abbrev pub StoresTree : Tree → Answer → Type 0
+StoresTree tree (Ok done) = ⊤
+StoresTree tree (Err fault) = IsUnstored tree fault
+
+-- the result of a conversion, given what was read: that of storing the tree, or the fault
+abbrev pub StoresRead : Result Tree Fault → Answer → Type 0
+StoresRead (Ok tree) answer = StoresTree tree answer
+StoresRead (Err fault) answer = answer ≡ Err fault
+
+-- a file was read in the lax dialect if it is ASCII, and this is the result of storing what was read
+abbrev pub ConvertsValue : (F : Type 0) → Answer → Type 0
+ConvertsValue F answer =
+    (read : Result Tree Fault) × IsReadFromFile F Lax read × StoresRead read answer

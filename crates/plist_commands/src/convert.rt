@@ -8,7 +8,8 @@ ghost use Rattle.plist_binwrite.specs.Files.{least_files};
 ghost use Rattle.plist_binwrite.specs.SendingAs.{SendsAs};
 ghost use Rattle.plist_buffer.specs.EventBuffers.{buffered_events};
 ghost use Rattle.plist_reader.specs.Reader.{items_of_input};
-ghost use Rattle.plist_commands.specs.Converting.{CollectsItems, Converts, ConvertsSource, HoldsTree, IfOkIs, ReadsSource};
+ghost use Rattle.plist_base.specs.Writing.{answer_of};
+ghost use Rattle.plist_commands.specs.Converting.{CollectsItems, Converts, ConvertsSource, ConvertsValue, HoldsTree, IfOkIs, ReadsSource};
 ghost use Rattle.plist_commands.specs.CollectorSteps.{IsEmpty, collected};
 ghost use Rattle.plist_commands.specs.declared.convert.FastPath.TheVariants.{Sent};
 
@@ -128,11 +129,17 @@ fn stream_to<R: Files, S: Source>(
 }
 
 // Writes the property list of a file to another one, by making its value.
-fn convert_value<R: Files>(rt: &R, alloc: Global, from: &str, to: &str) -> Result<(), Error> {
-    let value = Value::from_file(rt, alloc, from)?;
-    let stored = value.to_file_binary(rt, alloc, to);
-    value.destroy();
-    stored
+fn convert_value<R: Files>(rt: &R, alloc: Global, from: &str, to: &str) -> Result<(), Error>
+    ensures read { ConvertsValue R.File (answer_of result) }
+{
+    match Value::from_file(rt, alloc, from) {
+        Ok(value) => {
+            let stored = value.to_file_binary(rt, alloc, to);
+            value.destroy();
+            stored
+        }
+        Err(error) => Err(error),
+    }
 }
 
 /// Writes the property list of a file to another one, or to the same file. The other file is

@@ -3,6 +3,7 @@ use Rattle.plist_ascii.specs.AsciiReader.{ascii_items_to_come}
 use Rattle.plist_ascii.specs.Ascii.{items_of_ascii}
 use Rattle.plist_decode.specs.Formats.{input_front}
 use Rattle.plist.specs.Collecting.{built_tree}
+use Rattle.plist.proofs.ReadFaults.{ascii-never, ascii-tells}
 use Rattle.plist.proofs.RemainingItems.{of-items, ascii-start, ascii-shows}
 use Rattle.plist.proofs.value.Value.from_reader_ascii_with_dialect.Goals as goal
 
@@ -26,3 +27,13 @@ returns-clause-read g c = (
   c.with_dialect.ensures.bytes,
   c.collect.ensures.value,
 )
+
+pub returns-clause-fault : goal.returns-clause-fault
+returns-clause-fault g c =
+    ascii-tells g.R.ByteReader.remaining g.R.ByteReader.failures c.with_dialect.result
+    c.collect.result c.collect.ensures.value
+
+pub returns-clause-never_io : goal.returns-clause-never_io
+returns-clause-never_io g c never =
+    ascii-never g.R.ByteReader.remaining g.R.ByteReader.failures never c.with_dialect.result
+    c.collect.result c.collect.ensures.value

@@ -3,7 +3,7 @@ use Rattle.plist_reader.specs.Reader.{Gives, items_of_dialect, reader_items}
 use Rattle.plist.specs.Collecting.{built_tree}
 use Rattle.plist.proofs.BuiltVisits.{collects_items}
 use Rattle.plist.proofs.PredictedItems.{as-seen}
-use Rattle.plist.proofs.ReadFaults.{reader-tells}
+use Rattle.plist.proofs.ReadFaults.{reader-never, reader-tells}
 use Rattle.plist.proofs.RemainingItems.{of-items, reads-back, reader-shows}
 use Rattle.plist.proofs.value.Value.from_reader_with_dialect.Goals as goal
 
@@ -35,6 +35,14 @@ pub returns-clause-fault : goal.returns-clause-fault
 returns-clause-fault g c =
     reader-tells g.R.Source.known g.R.Source.failures c.with_dialect-reader.result
     c.collect_visited.result c.with_dialect-reader.ensures.limited
+    (collects_items (Gives g.R.Source.known g.R.Source.failures) c.with_dialect-reader.result
+    (built_tree c.collect_visited.result)
+    (c.collect_visited.new.source, c.collect_visited.ensures))
+
+pub returns-clause-never_io : goal.returns-clause-never_io
+returns-clause-never_io g c never =
+    reader-never g.R.Source.known g.R.Source.failures never c.with_dialect-reader.result
+    c.collect_visited.result
     (collects_items (Gives g.R.Source.known g.R.Source.failures) c.with_dialect-reader.result
     (built_tree c.collect_visited.result)
     (c.collect_visited.new.source, c.collect_visited.ensures))

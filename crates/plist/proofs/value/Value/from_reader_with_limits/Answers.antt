@@ -3,9 +3,9 @@ use Rattle.plist_base.specs.Limits.{items_admitted, limited_items}
 use Rattle.std.proofs.Common.{ap, ◌∙◌, option_map}
 use Rattle.plist_reader.specs.Reader.{Gives, items_of_input, reader_items}
 use Rattle.plist.specs.Collecting.{built_tree}
-use Rattle.plist.proofs.ReadFaults.{limited-tells}
+use Rattle.plist.proofs.ReadFaults.{limited-never, limited-tells}
 use Rattle.plist.proofs.RemainingItems.{joined, of-items, reader-shows}
-use Rattle.plist.proofs.LimitedValues.{built-within, limited-shows}
+use Rattle.plist.proofs.LimitedValues.{built-within, limited-shows, taken-within}
 use Rattle.plist.proofs.value.Value.from_reader_with_limits.Goals as goal
 
 pub returns-clause-value : goal.returns-clause-value
@@ -32,10 +32,16 @@ returns-clause-read g c = (
     c.new.ensures.items,
     ap (λ reader. reader.state) c.new.ensures.inner ∙ c.new-reader.ensures.new,
   ),
-  c.collect.ensures.value,
+  taken-within (Gives g.R.Source.known g.R.Source.failures) c.args.limits c.new.result
+      (built_tree c.collect.result) c.new.ensures.items c.collect.ensures.value,
 )
 
 pub returns-clause-fault : goal.returns-clause-fault
 returns-clause-fault g c =
     limited-tells g.R.Source.known g.R.Source.failures c.new.result c.collect.result
+    c.collect.ensures.value
+
+pub returns-clause-never_io : goal.returns-clause-never_io
+returns-clause-never_io g c never =
+    limited-never g.R.Source.known g.R.Source.failures never c.new.result c.collect.result
     c.collect.ensures.value
