@@ -185,7 +185,8 @@ def values(calls):
     simple = joined(SIMPLE)
     inputs = [(BINARY, joined(VALUE)), (ASCII, joined(ASCII_VALUE)), (TRUE_FILE, "true"),
               (b"", "UnexpectedEndOfEventStream")]
-    for name in ("from_reader", "from_reader_with_limits", "from_reader_within", "from_file"):
+    for name in ("from_reader", "from_reader_with_limits", "from_reader_within", "from_file",
+                 "from_file_within"):
         for content, words in inputs:
             calls.sweep(name, content, words, {WANT})
     calls.sweep("value_of_binary", BINARY, joined(VALUE), {WANT})

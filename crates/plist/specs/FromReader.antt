@@ -123,6 +123,13 @@ abbrev pub IsReadFromFileWithin : (F : Type 0) → Limits → Result Tree Fault 
 IsReadFromFileWithin F limits answer =
     IfOpened F answer (λ source. IsReadWithin limits (λ _. None) failures_of source answer)
 
+-- the result is built from the items of a file, under these limits and within this budget of bytes
+abbrev pub IsReadFromFileWithinBudget : (F : Type 0) → Limits → (bytes : ℕ) → Result Tree Fault
+    → Type 0
+IsReadFromFileWithinBudget F limits bytes answer =
+    IfOpened F answer
+    (λ source. IsReadWithinBudget limits bytes (λ _. None) failures_of source answer)
+
 -- why a file has no value
 abbrev pub IsFileFault : (limited : Bool) → Fault → Type 0
 IsFileFault limited fault = (fault ≡ fault_without_offset Io) ⊎ IsReadingFault limited fault

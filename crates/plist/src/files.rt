@@ -6,9 +6,9 @@ ghost use Rattle.std.specs.Io.KnownBytes.{Keeps, WriteAppends};
 ghost use Rattle.plist_base.specs.Outcomes.{IfFault, OnlyDevice};
 ghost use Rattle.plist_base.specs.Seeking.{failures_of};
 ghost use Rattle.plist.specs.Collecting.{built_tree};
-ghost use Rattle.plist.specs.LimitedValues.{IsWithinLimits};
+ghost use Rattle.plist.specs.LimitedValues.{IsWithinBudget, IsWithinLimits};
 ghost use Rattle.plist.specs.Outputs.{WritesFirst, contents_of};
-ghost use Rattle.plist.specs.FromReader.{IsReadFromFile, IsReadFromFileWithin, IsFileFault};
+ghost use Rattle.plist.specs.FromReader.{IsReadFromFile, IsReadFromFileWithin, IsReadFromFileWithinBudget, IsFileFault};
 ghost use Rattle.plist.specs.SendingValues.{IsUnstored, SendsValue};
 ghost use Rattle.plist.specs.ValueTrees.{tree_of};
 
@@ -216,6 +216,32 @@ impl Value {
     {
         let source = open_source(rt, alloc, path)?;
         Value::from_reader_with_limits(alloc, source, limits)
+    }
+
+    /// Like [`Value::from_file_with_limits`], but also fails once the strings, including keys, and
+    /// the data have more than the given number of bytes together.
+    ///
+    /// Use it for a file that anyone may have sent: the value has no more events, levels and bytes
+    /// than the caller allows, whatever the file contains.
+    ///
+    /// # Errors
+    ///
+    /// - `OutOfMemory` if an allocation fails, and for the first string or data that exceeds the
+    ///   budget, as in [`Value::from_reader_within`].
+    /// - Any error of [`Value::from_file_with_limits`].
+    pub fn from_file_within<R: Files>(
+        rt: &R,
+        alloc: Global,
+        path: &str,
+        limits: Limits,
+        bytes: u64,
+    ) -> Result<Value, Error>
+        ensures read { IsReadFromFileWithinBudget R.File limits bytes (built_tree result) }
+        ensures fault { IfFault result (IsFileFault true) }
+        ensures within { IfOk (built_tree result) (IsWithinBudget limits bytes) }
+    {
+        let source = open_source(rt, alloc, path)?;
+        Value::from_reader_within(alloc, source, limits, bytes)
     }
 
     /// Writes the value as a binary property list to the file of this name, and syncs the file. If

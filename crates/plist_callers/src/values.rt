@@ -1,8 +1,10 @@
 //! Proved callers of values: the value of bytes, why there is none, what a builder returns, a
 //! dictionary's copy, and a value's copy, which is equal to it.
 
-ghost use Rattle.std.specs.Prelude.{◌≡◌, Err, IfOk, IfSome, false, true};
+ghost use Rattle.std.specs.Prelude.{◌≡◌, ◌≤◌, ◌^◌, Err, IfOk, IfSome, false, true};
 ghost use Rattle.plist_decode.specs.declared.format.Format.TheVariants.{Ascii};
+ghost use Rattle.plist_base.specs.Bracketing.{bracketing};
+ghost use Rattle.plist_base.specs.Budgets.{total_bytes};
 ghost use Rattle.plist_base.specs.Faults.{WriterFailed, fault_without_offset};
 ghost use Rattle.plist_reader.specs.Reader.{items_in_format, items_of_dialect, items_of_input};
 ghost use Rattle.plist.specs.Collecting.{built_tree};
@@ -48,6 +50,19 @@ pub fn shallow_file<R: Files>(rt: &R, alloc: Global, path: &str) -> Result<Value
         items: 100_000,
     };
     Value::from_file_with_limits(rt, alloc, path, limits)
+}
+
+/// Returns the value of a file, which nests at most 64 collections, and whose strings and data have
+/// at most 16 MiB.
+pub fn light_file<R: Files>(rt: &R, alloc: Global, path: &str) -> Result<Value, Error>
+    ensures shallow { IfOk result (λ value. NestsWithin (tree_of value) 64) }
+    ensures light { IfOk result (λ value. total_bytes (bracketing (tree_of value)) ≤ 2 ^ 24) }
+{
+    let limits = Limits {
+        depth: 64,
+        items: 100_000,
+    };
+    Value::from_file_within(rt, alloc, path, limits, 1 << 24)
 }
 
 /// Returns whether a builder that has returned a value has no other value, which is always true.

@@ -8,14 +8,13 @@ mod findings;
 mod keys;
 
 use crate::findings::{Finding, check};
-use plist::stream::Seeking;
 use plist::{Dictionary, Error, Limits, Value};
 use std::alloc::Global;
 use std::env::Env;
 use std::io::Write;
 use std::process::ExitCode;
 use std::rt::Files;
-use std::{env, fmt, fs};
+use std::{env, fmt};
 
 // No file may exceed these limits, which are larger than any job needs.
 const LIMITS: Limits = Limits {
@@ -47,8 +46,7 @@ impl Worst {
 
 // Reads the value of a file.
 fn read<R: Files>(rt: &R, alloc: Global, path: &str) -> Result<Value, Error> {
-    let file = fs::open(rt, path)?;
-    Value::from_reader_within(alloc, Seeking::with_windows(alloc, file), LIMITS, BYTES)
+    Value::from_file_within(rt, alloc, path, LIMITS, BYTES)
 }
 
 // Prints the findings for a job.

@@ -153,9 +153,10 @@ impl<'a> Unread<'a> {
     }
 
     // Returns whether each call that reads a file returns the device's error.
-    fn is_in_calls<F: Files>(&self, files: &F, alloc: Global) -> [bool; 3] {
+    fn is_in_calls<F: Files>(&self, files: &F, alloc: Global) -> [bool; 4] {
         let limits = Limits { depth: 9, items: 9 };
         [
+            self.is_in(Value::from_file_within(files, alloc, self.path, limits, 9)),
             self.is_in(Value::from_file_with_limits(files, alloc, self.path, limits)),
             self.is_in(Value::from_file(files, alloc, self.path)),
             self.is_in(convert_file(files, alloc, self.path, OTHER)),
@@ -177,7 +178,7 @@ impl<'a> Unread<'a> {
     // Checks that each call opens its file once, and returns the device's error.
     fn expect_of_calls<R: Files>(&self, rt: &(impl Abort + AllocGlobal), watched: &Watched<'_, R>) {
         let found = self.is_in_calls(watched, rt.alloc());
-        same(rt, "the device's errors", &found, &[true; 3]);
+        same(rt, "the device's errors", &found, &[true; 4]);
         for command in [
             Command::Print(self.path),
             Command::Convert(self.path, OTHER),
@@ -186,7 +187,7 @@ impl<'a> Unread<'a> {
             let found = self.is_in_command(watched, rt.alloc(), command);
             same(rt, "the error, and what is printed", &found, &(true, 0));
         }
-        same(rt, "the files that were opened", &watched.opened.get(), &6);
+        same(rt, "the files that were opened", &watched.opened.get(), &7);
     }
 }
 
@@ -265,10 +266,11 @@ fn a_name_may_end_in_a_blank(rt: HostRuntime) {
         is_done(Value::Boolean(true).to_file_binary(&rt, alloc, path)),
         is_done(Value::from_file(&rt, alloc, path)),
         is_done(Value::from_file_with_limits(&rt, alloc, path, limits)),
+        is_done(Value::from_file_within(&rt, alloc, path, limits, 9)),
         is_done(convert_file(&rt, alloc, path, path)),
         is_done(rt.perform(alloc, Command::Print(path), &mut out)),
     ];
-    same(&rt, "the calls", &found, &[true; 5]);
+    same(&rt, "the calls", &found, &[true; 6]);
     let answer = rt.perform(alloc, Command::Keyed(path, "root"), &mut out);
     let is_no_archive = is_of_archive(answer);
     let wanted = (true, b"Boolean true\n".as_slice());
