@@ -154,6 +154,9 @@ data = open(sys.argv[1], "rb").read()
 limits = dict(max_depth=None, max_events=None, max_bytes=None)
 value = [b"some data, number %d" % number for number in range(200_000)]
 calls = {"loads": lambda: sizhetom.loads(data, **limits), "dumps": lambda: sizhetom.dumps(value)}
+# The call stack, which counts for the limit, grows when deep lists are deleted. It may do so before.
+deep = sizhetom.loads(data, **limits)
+del deep
 used = int(open("/proc/self/statm").read().split()[0]) * resource.getpagesize()
 resource.setrlimit(resource.RLIMIT_AS, (used + int(sys.argv[2]), used + int(sys.argv[2])))
 try:
