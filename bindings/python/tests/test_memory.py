@@ -175,7 +175,7 @@ class LittleMemory(unittest.TestCase):
         with tempfile.NamedTemporaryFile() as file:
             file.write(levels(300_000))
             file.flush()
-            for call, room in itertools.product(("loads", "dumps"), range(0, 200 << 20, 10 << 20)):
+            for call, room in itertools.product(("loads", "dumps"), range(0, 200 << 20, 20 << 20)):
                 words = [sys.executable, "-c", LIMITED, file.name, str(room), call]
                 ended = subprocess.run(words, capture_output=True, text=True)
                 self.assertEqual(ended.returncode, 0, (call, room, ended.stderr))
