@@ -154,6 +154,9 @@ data = open(sys.argv[1], "rb").read()
 limits = dict(max_depth=None, max_events=None, max_bytes=None)
 value = [b"some data, number %d" % number for number in range(200_000)]
 calls = {"loads": lambda: sizhetom.loads(data, **limits), "dumps": lambda: sizhetom.dumps(value)}
+# The call stack, which counts for the limit, grows when deep lists are deleted. It may do so before.
+deep = sizhetom.loads(data, **limits)
+del deep
 used = int(open("/proc/self/statm").read().split()[0]) * resource.getpagesize()
 resource.setrlimit(resource.RLIMIT_AS, (used + int(sys.argv[2]), used + int(sys.argv[2])))
 try:
@@ -172,7 +175,7 @@ class LittleMemory(unittest.TestCase):
         with tempfile.NamedTemporaryFile() as file:
             file.write(levels(300_000))
             file.flush()
-            for call, room in itertools.product(("loads", "dumps"), range(0, 200 << 20, 10 << 20)):
+            for call, room in itertools.product(("loads", "dumps"), range(0, 200 << 20, 20 << 20)):
                 words = [sys.executable, "-c", LIMITED, file.name, str(room), call]
                 ended = subprocess.run(words, capture_output=True, text=True)
                 self.assertEqual(ended.returncode, 0, (call, room, ended.stderr))
