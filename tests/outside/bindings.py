@@ -11,7 +11,8 @@ the Rust crate writes of it.
 
 `bindings/guarded.c` calls the functions with unreadable pages around their arrays, and with random
 limits and capacities. `bindings/tables.py` compares the numbers of the header with the enums of
-`plist_base`. `make check` of `bindings/c` and `cargo test` of `bindings/rust` run, too.
+`plist_base`. `make check` of `bindings/c`, `cargo test` of `bindings/rust`, the tests of
+`bindings/python` and `plistlib_tests.py` run, too.
 
 Usage: bindings.py [FILES [SEED [WORKERS]]]      100000 files, and as many workers as processors
 
@@ -32,6 +33,7 @@ import struct
 import subprocess
 import sys
 import tempfile
+from concurrent import futures
 
 import bounded
 import mutations
@@ -120,7 +122,12 @@ def run_their_own_tests(folder):
     run(["make", "--quiet", "-C", BINDINGS / "c", "check"])
     words, variables = cargo(folder, "test")
     run(words, BINDINGS / "rust", env=variables, stdout=subprocess.DEVNULL)
-    print("the tests of the C and Rust bindings passed")
+    if (folder / "python").exists():
+        package = {**os.environ, "PYTHONPATH": str(folder / "python")}
+        run([sys.executable, "-m", "unittest", "discover", "-q", "-s", BINDINGS / "python/tests"], env=package)
+    if (HERE / "plistlib_tests.py").exists():
+        run([sys.executable, HERE / "plistlib_tests.py"])
+    print("the tests of each binding passed")
 
 
 def doubling(levels):
@@ -150,6 +157,11 @@ def run_out_of_memory(folder):
         if (ended.returncode, ended.stderr) != (status, error):
             raise ValueError(f"{program} ended with {ended.returncode} and {ended.stderr!r} when memory was exhausted")
     print("the examples ended as they should when memory was exhausted")
+
+
+def run_tests(folder):
+    run_their_own_tests(folder)
+    run_out_of_memory(folder)
 
 
 # ---- the expected answers
@@ -402,12 +414,13 @@ def main():
         counts["different"] += 1
         print(text)
     with tempfile.TemporaryDirectory() as name:
-        programs = built(pathlib.Path(name))
-        run_their_own_tests(pathlib.Path(name))
-        run_out_of_memory(pathlib.Path(name))
-        with multiprocessing.Pool(workers) as pool:
+        folder = pathlib.Path(name)
+        programs = built(folder)
+        with multiprocessing.Pool(workers) as pool, futures.ThreadPoolExecutor(1) as own:
+            tests = own.submit(run_tests, folder)
             shares = [(files // workers + (i < files % workers), seed * 1000 + i, programs) for i in range(workers)]
             counts += sum(pool.map(work, shares, chunksize=1), collections.Counter())
+            tests.result()
     for name, count in sorted(counts.items()):
         print(f"{name}: {count}")
     return 1 if counts["different"] else 0

@@ -10,7 +10,7 @@ const LEAST_RECORDS: u64 = 64;
 const LEAST_BYTES: u64 = 256;
 
 /// By how much memory grows that is full, since the input is then read again from its start.
-const GROWTH: u64 = 4;
+const GROWTH: u64 = 8;
 
 /// The events of a property list that is exactly one value, with their strings and data.
 ///
