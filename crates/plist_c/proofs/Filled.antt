@@ -20,10 +20,10 @@ use Rattle.plist_c.specs.declared.filler.Filler.{Filler}
 use Rattle.plist_c.specs.declared.flat.Outcome.{Outcome}
 use Rattle.plist_c.specs.declared.flat.ReadLimits.{ReadLimits}
 use Rattle.plist_c.specs.declared.read.Start.{Start}
-use Rattle.plist_c.specs.declared.stop.Stop.{Stop}
-use Rattle.plist_c.specs.declared.stop.Stop.TheVariants as stop
-use Rattle.plist_c.specs.Outcomes.{Names, outcome_of}
-use Rattle.plist_c.specs.Reading.{Demand, EndsAtFault, EndsFull, EndsWhole, Holds, Reads, limits_of}
+use Rattle.plist_c.specs.declared.stop.Halt.{Halt}
+use Rattle.plist_c.specs.declared.stop.Halt.TheVariants as stop
+use Rattle.plist_c.specs.Outcomes.{Names, plain_outcome}
+use Rattle.plist_c.specs.Reading.{Demand, EndsAtFault, EndsFull, EndsWhole, StoresEvents, Reads, limits_of}
 use Rattle.plist_c.specs.Rooms.{Memory}
 use Rattle.plist_c.specs.inner.Filling.{FillsEvent, IsSameFiller, IsStopOf, StoresNone, Stops, Takes, limit_of, memory_of}
 use Rattle.plist_c.specs.inner.Ordering.{CanComeNext, IsStopOfOrder, OrdersEvent, asked_in}
@@ -95,7 +95,7 @@ module _ (start : Start) (done : List PlainEvent) (filler : Filler) (here : IsAt
 
   -- the parts of what is read
   reads_as : (items more : List Item) (memory : Memory) → remaining items ≡ more
-      → Holds done outcome memory
+      → StoresEvents done outcome memory
       → EndsWhole (demand_of (asked_in start.order)) done more outcome
       ⊎ (EndsFull (demand_of (asked_in start.order)) done more start.limits outcome memory
       ⊎ EndsAtFault (demand_of (asked_in start.order)) done more outcome)
@@ -123,7 +123,7 @@ module _ (start : Start) (done : List PlainEvent) (filler : Filler) (here : IsAt
   -- ---- the source ended
 
   reads_end : (items : List Item) → items ≡ []
-      → outcome ≡ outcome_of filler.count filler.used (fault_of_end (asked_in filler.order.now))
+      → outcome ≡ plain_outcome filler.count filler.used (fault_of_end (asked_in filler.order.now))
       → IsReadAs items (memory_of filler)
   reads_end items none is =
       reads_as items [] (memory_of filler)
@@ -132,7 +132,7 @@ module _ (start : Start) (done : List PlainEvent) (filler : Filler) (here : IsAt
       (by (asked_in start.order) (asked_in filler.order.now) here.ordered is)
     where
       by : (first now : Asked) → OrderedBy first done now
-          → outcome ≡ outcome_of filler.count filler.used (fault_of_end now)
+          → outcome ≡ plain_outcome filler.count filler.used (fault_of_end now)
           → EndsWhole (demand_of first) done [] outcome
           ⊎ (EndsFull (demand_of first) done [] start.limits outcome (memory_of filler)
           ⊎ EndsAtFault (demand_of first) done [] outcome)
@@ -185,7 +185,7 @@ module _ (start : Start) (done : List PlainEvent) (filler : Filler) (here : IsAt
       (items : List Item) (begin : items ≡ Ok event ∷ rest) where
     -- what the new filler has stored
     held_new : outcome.events ≡ new.count → outcome.bytes ≡ new.used
-        → Holds done outcome (memory_of new)
+        → StoresEvents done outcome (memory_of new)
     held_new count used = held_as done new outcome count used (held_still done filler new none here.held)
 
     -- the limit that the event exceeds, if any, under the limits from the start
@@ -215,7 +215,7 @@ module _ (start : Start) (done : List PlainEvent) (filler : Filler) (here : IsAt
         (inr (inr (fault, names fault new.count new.used outcome no_offset is, ends)))
 
     -- the event is refused for its place
-    refused : (order : Asked) → asked_in filler.order.now ≡ order → (reason : Stop)
+    refused : (order : Asked) → asked_in filler.order.now ≡ order → (reason : Halt)
         → IsStopOfOrder order event reason → (fault : Fault)
         → ((now : List Expect) → IsOrderStop now event reason
         → (here : IsExpected done now)
@@ -260,7 +260,7 @@ module _ (start : Start) (done : List PlainEvent) (filler : Filler) (here : IsAt
     why_surplus found [] is here = rw is (refused_at_end done event here)
     why_surplus found (top ∷ rest) stops here = absurd stops
 
-    reads_stop : (reason : Stop) → IsStopOf filler event reason
+    reads_stop : (reason : Halt) → IsStopOf filler event reason
         → outcome ≡ outcome_of_stop reason new.count new.used → IsReadAs items (memory_of new)
     reads_stop (stop.Limit limit) exceeded is =
         let fault = fault_without_offset (LimitReached limit) in

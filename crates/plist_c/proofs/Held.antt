@@ -5,8 +5,8 @@ use Rattle.plist_c.specs.declared.filler.Filler.{Filler}
 use Rattle.plist_c.specs.declared.flat.FlatEvent.{FlatEvent}
 use Rattle.plist_c.specs.declared.flat.Outcome.{Outcome}
 use Rattle.plist_c.specs.Flat.{AreUtf8Events, IsUtf8Event, bytes_of, flat_events, flat_of}
-use Rattle.plist_c.specs.Outcomes.{outcome_of}
-use Rattle.plist_c.specs.Reading.{Holds}
+use Rattle.plist_c.specs.Outcomes.{plain_outcome}
+use Rattle.plist_c.specs.Reading.{StoresEvents}
 use Rattle.plist_c.specs.Rooms.{Memory}
 use Rattle.plist_c.specs.inner.Filling.{StoresNone, StoresOne, memory_of}
 
@@ -40,7 +40,7 @@ utf8_more (first ∷ events) event are is = (are.0, utf8_more events event are.1
 
 -- what a filler has stored
 abbrev pub HeldBy : List PlainEvent → Filler → Type 0
-HeldBy done filler = Holds done (outcome_of filler.count filler.used 0) (memory_of filler)
+HeldBy done filler = StoresEvents done (plain_outcome filler.count filler.used 0) (memory_of filler)
 
 -- one more event is stored
 pub held_more : (done : List PlainEvent) (event : PlainEvent) (old new : Filler)
@@ -80,7 +80,7 @@ held_still done old new none held = rw (none.count, none.used, none.events, none
 -- the outcome counts what is stored
 pub held_as : (done : List PlainEvent) (filler : Filler) (outcome : Outcome)
     → outcome.events ≡ filler.count → outcome.bytes ≡ filler.used → HeldBy done filler
-    → Holds done outcome (memory_of filler)
+    → StoresEvents done outcome (memory_of filler)
 held_as done filler outcome count used held = record {
   count = count ∙ held.count;
   used = used ∙ held.used;

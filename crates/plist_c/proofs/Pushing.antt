@@ -18,10 +18,10 @@ use Rattle.plist_c.specs.declared.flat.Outcome.{Outcome}
 use Rattle.plist_c.specs.declared.write.Rejection.{Rejection}
 use Rattle.plist_c.specs.declared.write.Rejection.TheVariants as rejection
 use Rattle.plist_c.specs.Files.{AreRecordsOf, EndsAtRecord, EndsEarly, IsOutOfOrder, LacksRoom, Writes, WritesFile}
-use Rattle.plist_c.specs.Outcomes.{Names, outcome_of}
+use Rattle.plist_c.specs.Outcomes.{Names, plain_outcome}
 use Rattle.plist_c.specs.Records.{IsRecordOf}
 use Rattle.plist_c.specs.Rooms.{Memory}
-use Rattle.plist_c.specs.inner.Writing.{HasPushed, IsRejection, PushesRecord, WritesEvents, outcome_of_rejection}
+use Rattle.plist_c.specs.inner.Writing.{HasPushed, IsRejection, PushesRecord, WritesBuffered, outcome_of_rejection}
 
 -- ---- whole values
 
@@ -161,7 +161,7 @@ module _ (files : FileKind) (given : Memory) (pending : EventBuffer)
     (here : HasPushed given.bytes given.events pending) (outcome : Outcome) (old new : List ℕ) where
   -- the records end too early
   pub written_early : is_whole pending ≡ false
-      → outcome ≡ outcome_of (length given.events) 0 23 → new ≡ old
+      → outcome ≡ plain_outcome (length given.events) 0 23 → new ≡ old
       → Writes files given outcome old new
   written_early part is same =
       inr (
@@ -176,7 +176,7 @@ module _ (files : FileKind) (given : Memory) (pending : EventBuffer)
 
   -- what writing the buffered events does is what writing the records does
   pub written : is_whole pending ≡ true
-      → WritesEvents files (buffered_events pending) (length given.events) (old, new) outcome
+      → WritesBuffered files (buffered_events pending) (length given.events) (old, new) outcome
       → Writes files given outcome old new
   written whole writes = by writes
     where
@@ -186,7 +186,7 @@ module _ (files : FileKind) (given : Memory) (pending : EventBuffer)
       of_tree : (says : Tree → Type 0) → IsOfTree (buffered_events pending) says → says the_tree.0
       of_tree says is = is.1 the_tree.0 (alike _ _ pending here ∙ the_tree.1)
 
-      by : WritesEvents files (buffered_events pending) (length given.events) (old, new) outcome
+      by : WritesBuffered files (buffered_events pending) (length given.events) (old, new) outcome
           → Writes files given outcome old new
       by (inl (made, is, inl (fits, copied, is_outcome))) = inl (
         the_tree.0,

@@ -11,7 +11,7 @@ use Rattle.plist_share.specs.SharedFiles.{shared_files}
 use Rattle.plist_c.specs.declared.flat.FlatEvent.{FlatEvent}
 use Rattle.plist_c.specs.declared.flat.Outcome.{Outcome}
 use Rattle.plist_c.specs.declared.record.Flaw.{Flaw}
-use Rattle.plist_c.specs.Outcomes.{Names, outcome_of}
+use Rattle.plist_c.specs.Outcomes.{Names, plain_outcome}
 use Rattle.plist_c.specs.Records.{HasFlaw, IsRecordOf, flaw_number}
 use Rattle.plist_c.specs.Rooms.{Memory}
 
@@ -40,7 +40,7 @@ IsOutOfOrder events event fault =
 abbrev pub RefusesRecord : (bytes : List ℕ) → List PlainEvent → FlatEvent → Outcome → Type 0
 RefusesRecord bytes events flat outcome =
     ((flaw : Flaw) × HasFlaw bytes flat flaw
-    × (outcome ≡ outcome_of outcome.events 0 (flaw_number flaw)))
+    × (outcome ≡ plain_outcome outcome.events 0 (flaw_number flaw)))
     ⊎ ((event : PlainEvent) × (fault : Fault) × IsRecordOf bytes flat event
     × IsOutOfOrder events event fault × Names fault outcome × (outcome.bytes ≡ 0))
 
@@ -62,7 +62,7 @@ AreRecordsOfTree given tree =
 abbrev pub EndsEarly : Memory → Outcome → Type 0
 EndsEarly given outcome =
     (events : List PlainEvent) × AreRecordsOf given.bytes given.events events
-    × (AreTreeEvents events → ⊥) × (outcome ≡ outcome_of (length given.events) 0 23)
+    × (AreTreeEvents events → ⊥) × (outcome ≡ plain_outcome (length given.events) 0 23)
 
 module _ (files : FileKind) where
   -- the caller's memory begins with a file of the tree
@@ -70,15 +70,15 @@ module _ (files : FileKind) where
   WritesFile given outcome old new =
       (tree : Tree) × (file : List ℕ) × AreRecordsOfTree given tree × files.IsFile tree file
       × (new ≡ file ++ drop (length file) old) × (length file ≤ length old)
-      × (outcome ≡ outcome_of (length given.events) (length file) 0)
+      × (outcome ≡ plain_outcome (length given.events) (length file) 0)
 
   -- the file of the tree is longer than the caller's memory, or has 2^64 bytes or more
   abbrev pub LacksRoom : Memory → Outcome → (old : List ℕ) → Type 0
   LacksRoom given outcome old =
       (tree : Tree) × AreRecordsOfTree given tree
       × (((file : List ℕ) × files.IsFile tree file × (length old < length file)
-      × (outcome ≡ record (outcome_of (length given.events) (length file) 31) { detail = 1 }))
-      ⊎ ((2 ^ 64 ≤ files.size tree) × (outcome ≡ outcome_of (length given.events) 0 27)))
+      × (outcome ≡ record (plain_outcome (length given.events) (length file) 31) { detail = 1 }))
+      ⊎ ((2 ^ 64 ≤ files.size tree) × (outcome ≡ plain_outcome (length given.events) 0 27)))
 
   -- A file of the records' tree is written into the caller's memory, or the memory is unchanged and
   -- the outcome says why. Memory may always run out.

@@ -5,8 +5,8 @@ use Rattle.plist_c.specs.declared.flat.Outcome.{Outcome}
 use Rattle.plist_c.specs.Numbers.{fault_detail, fault_expected, fault_number}
 
 -- the outcome with these numbers, and 0 in all other fields
-abbrev pub outcome_of : (events bytes fault : ℕ) → Outcome
-outcome_of events bytes fault = record {
+abbrev pub plain_outcome : (events bytes fault : ℕ) → Outcome
+plain_outcome events bytes fault = record {
   events = events;
   bytes = bytes;
   fault = fault;
@@ -17,8 +17,8 @@ outcome_of events bytes fault = record {
 }
 
 -- the outcome has this offset, or none
-abbrev pub HasOffset : Option ℕ → Outcome → Type 0
-HasOffset place outcome = MatchOption place ((outcome.has_offset ≡ 0) × (outcome.offset ≡ 0))
+abbrev pub StatesOffset : Option ℕ → Outcome → Type 0
+StatesOffset place outcome = MatchOption place ((outcome.has_offset ≡ 0) × (outcome.offset ≡ 0))
     (λ offset. (outcome.has_offset ≡ 1) × (outcome.offset ≡ offset))
 
 -- the outcome names this fault
@@ -26,4 +26,4 @@ pub record Names (fault : Fault) (outcome : Outcome) : Type 0 where
   pub number : outcome.fault ≡ fault_number fault.kind
   pub detail : outcome.detail ≡ fault_detail fault.kind
   pub expected : outcome.expected ≡ fault_expected fault.kind
-  pub offset : HasOffset fault.offset outcome
+  pub offset : StatesOffset fault.offset outcome

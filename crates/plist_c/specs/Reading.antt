@@ -16,7 +16,7 @@ use Rattle.plist_c.specs.Outcomes.{Names}
 use Rattle.plist_c.specs.Rooms.{Memory, full_for, full_number}
 
 -- the memory begins with the records and the bytes of these events, and the outcome counts them
-pub record Holds (events : List PlainEvent) (outcome : Outcome) (memory : Memory) : Type 0 where
+pub record StoresEvents (events : List PlainEvent) (outcome : Outcome) (memory : Memory) : Type 0 where
   pub count : outcome.events ≡ length events
   pub used : outcome.bytes ≡ length (bytes_of events)
   pub records : take outcome.events memory.events ≡ flat_events 0 events
@@ -40,14 +40,14 @@ any_events = record {
 
 -- the events begin a value, and this is the fault with which `Value::from_reader` refuses the
 -- remaining items after them
-abbrev pub RefusesNext : List PlainEvent → List Item → Fault → Type 0
-RefusesNext events more fault =
+abbrev pub RefusesRest : List PlainEvent → List Item → Fault → Type 0
+RefusesRest events more fault =
     (unfinished : Unfinished) × IsNested unfinished × AreAlike (events_so_far unfinished) events
     × IsFaultOfNext unfinished events more fault
 
 -- the events have to be those of exactly one value
 abbrev pub one_value : Demand
-one_value = record { AreWhole = AreTreeEvents; CanFollow = CanContinue; EndsWith = RefusesNext }
+one_value = record { AreWhole = AreTreeEvents; CanFollow = CanContinue; EndsWith = RefusesRest }
 
 module _ (demand : Demand) where
   -- no item follows the events, and they are whole
@@ -78,7 +78,7 @@ module _ (demand : Demand) where
     pub events : List PlainEvent
     pub more : List Item
     pub parts : items ≡ map Ok events ++ more
-    pub held : Holds events outcome memory
+    pub held : StoresEvents events outcome memory
     pub ended : EndsWhole events more outcome
         ⊎ (EndsFull events more limits outcome memory ⊎ EndsAtFault events more outcome)
 

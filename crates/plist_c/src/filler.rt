@@ -6,7 +6,7 @@ ghost use Rattle.plist_c.specs.Flat.{IsUtf8Event, flat_integer, flat_of, flat_re
 
 use crate::flat::{FlatEvent, ReadLimits};
 use crate::order::Order;
-use crate::stop::{Full, Stop};
+use crate::stop::{Full, Halt};
 use plist_base::{Event, EventShape, EventVisitor, Integer, Limit, RealBits};
 use std::ops::ControlFlow;
 
@@ -26,7 +26,7 @@ pub(crate) struct Filler<'a> {
     // How many bytes are stored.
     pub(crate) used: usize,
     // Why the last event wasn't taken, once the filler has returned `Break`.
-    pub(crate) stop: Stop,
+    pub(crate) stop: Halt,
 }
 
 // Returns the record of a start.
@@ -223,7 +223,7 @@ impl<'a> Filler<'a> {
 
     // Stores the record and the bytes of an event, or returns why it isn't taken.
     #[inline(always)]
-    fn take(&mut self, event: &Event<'_>) -> Result<(), Stop>
+    fn take(&mut self, event: &Event<'_>) -> Result<(), Halt>
         ensures same { IsSameFiller self.old self.new }
         ensures taken { OnOk result (Takes self.old (event_of event.now) self.new) }
         ensures refused { IfErr result (IsStopOf self.old (event_of event.now)) }
@@ -231,7 +231,7 @@ impl<'a> Filler<'a> {
     {
         let level = match self.level_after(event) {
             Ok(level) => level,
-            Err(limit) => return Err(Stop::Limit(limit)),
+            Err(limit) => return Err(Halt::Limit(limit)),
         };
         self.order.take(event)?;
         let content = content_of(event);
@@ -242,7 +242,7 @@ impl<'a> Filler<'a> {
                 self.level = level;
                 Ok(())
             }
-            Err(full) => Err(Stop::Full(full)),
+            Err(full) => Err(Halt::Full(full)),
         }
     }
 }

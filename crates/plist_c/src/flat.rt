@@ -49,11 +49,11 @@ pub struct Outcome {
 
 impl Outcome {
     ghost use Rattle.std.specs.Prelude.{◌≡◌};
-    ghost use Rattle.plist_c.specs.Outcomes.{outcome_of};
+    ghost use Rattle.plist_c.specs.Outcomes.{plain_outcome};
 
     /// Returns the outcome of a call that ended without a fault.
     pub(crate) fn new(events: usize, bytes: usize) -> Outcome
-        ensures { result ≡ outcome_of events bytes 0 }
+        ensures { result ≡ plain_outcome events bytes 0 }
     {
         Outcome {
             events,
@@ -68,7 +68,7 @@ impl Outcome {
 
     /// Returns the outcome of a call that ended with the fault of this number, which has no detail.
     pub(crate) fn with_fault(events: usize, bytes: usize, fault: u64) -> Outcome
-        ensures { result ≡ outcome_of events bytes fault }
+        ensures { result ≡ plain_outcome events bytes fault }
     {
         Outcome {
             fault,

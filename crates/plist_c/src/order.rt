@@ -3,7 +3,7 @@
 ghost use Rattle.std.specs.Prelude.{◌≡◌};
 ghost use Rattle.plist.specs.Building.{kind_expected as kind_of_expect};
 
-use crate::stop::Stop;
+use crate::stop::Halt;
 use plist_base::{Event, EventKind};
 use plist_buffer::expects::{Expect, Transition};
 use std::alloc::{AllocError, Global};
@@ -91,7 +91,7 @@ impl Order {
     /// Takes the next event, or returns why it can't come next. It fails with `OutOfMemory` if an
     /// allocation fails.
     #[inline(always)]
-    pub(crate) fn take(&mut self, event: &Event<'_>) -> Result<(), Stop>
+    pub(crate) fn take(&mut self, event: &Event<'_>) -> Result<(), Halt>
         ensures taken { OnOk result (OrdersEvent (asked_in self.old) (event_of event.now)
             (asked_in self.new)) }
         ensures refused { IfErr result (IsStopOfOrder (asked_in self.old) (event_of event.now)) }
@@ -101,16 +101,16 @@ impl Order {
         }
         let found = EventKind::of_event(event);
         let Some(top) = self.top else {
-            return Err(Stop::Surplus { found });
+            return Err(Halt::Surplus { found });
         };
         let change = top.change_by(event);
         if let Transition::Refused = change {
             let expected = kind_expected(top);
-            return Err(Stop::Misplaced { expected, found });
+            return Err(Halt::Misplaced { expected, found });
         }
         match self.change(top, change) {
             Ok(()) => Ok(()),
-            Err(_) => Err(Stop::OutOfMemory),
+            Err(_) => Err(Halt::OutOfMemory),
         }
     }
 }

@@ -9,7 +9,7 @@ use crate::filler::Filler;
 use crate::flat::{FlatEvent, Outcome, ReadLimits};
 use crate::numbers::{fault_detail, fault_expected, fault_number};
 use crate::order::Order;
-use crate::stop::Stop;
+use crate::stop::Halt;
 use plist_base::{Error, EventSource, Visited};
 use plist_reader::Reader;
 use std::alloc::Global;
@@ -38,7 +38,7 @@ fn outcome_of_error(error: &Error, filler: &Filler<'_>) -> Outcome
 }
 
 // Says how a visit ended, and what a filler has stored.
-fn outcome_of(visited: &Result<Visited, Error>, filler: &Filler<'_>) -> Outcome
+fn outcome_of_visit(visited: &Result<Visited, Error>, filler: &Filler<'_>) -> Outcome
     ensures { SaysWhy visited.now filler.now result }
 {
     match visited {
@@ -73,10 +73,10 @@ fn fill<S: EventSource>(
         bytes,
         count: 0,
         used: 0,
-        stop: Stop::OutOfMemory,
+        stop: Halt::OutOfMemory,
     };
     let visited = source.visit(&mut filler);
-    outcome_of(&visited, &filler)
+    outcome_of_visit(&visited, &filler)
 }
 
 /// Reads the property list of an input, which has to be exactly one value, into the caller's

@@ -21,7 +21,7 @@ pub(crate) enum Full {
 
 /// Why an event isn't taken.
 #[derive(Clone, Copy)]
-pub(crate) enum Stop {
+pub(crate) enum Halt {
     /// The event exceeds a limit.
     Limit(Limit),
     /// The event can't follow the preceding ones.
@@ -53,31 +53,31 @@ fn full_number(full: Full) -> u64
     }
 }
 
-impl Stop {
+impl Halt {
     /// Returns the outcome of a call that stopped for this reason, after this many events and bytes.
     pub(crate) fn outcome(self, events: usize, bytes: usize) -> Outcome
         ensures { result ≡ outcome_of_stop self events bytes }
     {
         let mut outcome = Outcome::new(events, bytes);
         match self {
-            Stop::Limit(limit) => {
+            Halt::Limit(limit) => {
                 outcome.fault = 30;
                 outcome.detail = limit_number(limit);
             }
-            Stop::Misplaced { expected, found } => {
+            Halt::Misplaced { expected, found } => {
                 outcome.fault = 21;
                 outcome.detail = kind_number(found);
                 outcome.expected = kind_number(expected);
             }
-            Stop::Surplus { found } => {
+            Halt::Surplus { found } => {
                 outcome.fault = 22;
                 outcome.detail = kind_number(found);
             }
-            Stop::Full(full) => {
+            Halt::Full(full) => {
                 outcome.fault = 31;
                 outcome.detail = full_number(full);
             }
-            Stop::OutOfMemory => outcome.fault = 25,
+            Halt::OutOfMemory => outcome.fault = 25,
         }
         outcome
     }

@@ -4,7 +4,7 @@ ghost use Rattle.std.specs.Prelude.{◌≡◌, ◌⊎◌, [], false, IfErr, OnOk
 ghost use Rattle.plist_buffer.specs.EventBuffers.{buffered_events, is_whole};
 ghost use Rattle.plist_c.specs.Files.{EndsAtRecord, Writes, files_of};
 ghost use Rattle.plist_c.specs.Records.{flaw_number as number_of_flaw};
-ghost use Rattle.plist_c.specs.inner.Writing.{HasPushed, IsRejection, PushesRecord, Stores, WritesEvents, outcome_of_rejection};
+ghost use Rattle.plist_c.specs.inner.Writing.{HasPushed, IsRejection, PushesRecord, Stores, WritesBuffered, outcome_of_rejection};
 
 use crate::flat::{FlatEvent, Outcome};
 use crate::numbers::kind_number;
@@ -143,7 +143,7 @@ fn write_file<S: Sharing>(
     file: &mut [u8],
 ) -> Outcome
     requires { is_whole pending.now ≡ true }
-    ensures { WritesEvents S.kind (buffered_events pending.now) count (file.old, file.new) result }
+    ensures { WritesBuffered S.kind (buffered_events pending.now) count (file.old, file.new) result }
 {
     let mut made = Vec::new(alloc);
     match S::write_file(alloc, pending.events(), &mut made) {

@@ -8,8 +8,8 @@ use Rattle.plist_base.specs.declared.limits.Limit.{Limit}
 use Rattle.plist_c.specs.declared.filler.Filler.{Filler}
 use Rattle.plist_c.specs.declared.flat.FlatEvent.{FlatEvent}
 use Rattle.plist_c.specs.declared.stop.Full.{Full}
-use Rattle.plist_c.specs.declared.stop.Stop.{Stop}
-use Rattle.plist_c.specs.declared.stop.Stop.TheVariants as stop
+use Rattle.plist_c.specs.declared.stop.Halt.{Halt}
+use Rattle.plist_c.specs.declared.stop.Halt.TheVariants as stop
 use Rattle.plist_c.specs.Flat.{IsUtf8Event, flat_of}
 use Rattle.plist_c.specs.Reading.{limits_of}
 use Rattle.plist_c.specs.Rooms.{Memory, full_for}
@@ -61,7 +61,7 @@ pub record Takes (old : Filler) (event : PlainEvent) (new : Filler) : Type 0 whe
   pub stored : StoresOne old event new
 
 -- this says why the event isn't taken
-abbrev pub IsStopOf : Filler → PlainEvent → Stop → Type 0
+abbrev pub IsStopOf : Filler → PlainEvent → Halt → Type 0
 IsStopOf old event (stop.Limit limit) = limit_of old event ≡ Some limit
 IsStopOf old event (stop.Full full) =
     (limit_of old event ≡ None) × CanComeNext (asked_in old.order.now) event
@@ -70,7 +70,7 @@ IsStopOf old event stop.OutOfMemory = ⊤
 IsStopOf old event reason = (limit_of old event ≡ None) × IsStopOfOrder (asked_in old.order.now) event reason
 
 -- the event isn't taken for this reason, and nothing is stored
-pub record Stops (old : Filler) (event : PlainEvent) (reason : Stop) (new : Filler) : Type 0 where
+pub record Stops (old : Filler) (event : PlainEvent) (reason : Halt) (new : Filler) : Type 0 where
   pub why : IsStopOf old event reason
   pub stop : new.stop ≡ reason
   pub stored : StoresNone old new
@@ -79,4 +79,4 @@ pub record Stops (old : Filler) (event : PlainEvent) (reason : Stop) (new : Fill
 abbrev pub FillsEvent : Filler → PlainEvent → Flow → Filler → Type 0
 FillsEvent old event (Continue more) new = IsSameFiller old new × Takes old event new
 FillsEvent old event (Break stop) new =
-    IsSameFiller old new × ((reason : Stop) × Stops old event reason new)
+    IsSameFiller old new × ((reason : Halt) × Stops old event reason new)

@@ -4,7 +4,7 @@ use Rattle.plist_base.specs.Events.{PlainEvent}
 use Rattle.plist_buffer.specs.declared.expects.Expect.{Expect}
 use Rattle.plist_buffer.specs.Expects.{step}
 use Rattle.plist_c.specs.declared.order.Order.{Order}
-use Rattle.plist_c.specs.declared.stop.Stop.{Stop}
+use Rattle.plist_c.specs.declared.stop.Halt.{Halt}
 use Rattle.plist_c.specs.inner.Stops.{IsOrderStop}
 
 -- the stack with this top, given what is below it
@@ -46,6 +46,6 @@ CanComeNext None event = ⊤
 CanComeNext (Some stack) event = (rest : List Expect) × (step stack event ≡ Some rest)
 
 -- this says why the event can't come next, if the order is asked for
-abbrev pub IsStopOfOrder : Option (List Expect) → PlainEvent → Stop → Type 0
+abbrev pub IsStopOfOrder : Option (List Expect) → PlainEvent → Halt → Type 0
 IsStopOfOrder None event reason = ⊥
 IsStopOfOrder (Some stack) event reason = IsOrderStop stack event reason

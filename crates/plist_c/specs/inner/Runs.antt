@@ -12,7 +12,7 @@ use Rattle.plist_buffer.specs.declared.expects.Expect.TheVariants.{OneValue}
 use Rattle.plist_c.specs.declared.filler.Filler.{Filler}
 use Rattle.plist_c.specs.declared.flat.Outcome.{Outcome}
 use Rattle.plist_c.specs.declared.read.Start.{Start}
-use Rattle.plist_c.specs.Outcomes.{Names, outcome_of}
+use Rattle.plist_c.specs.Outcomes.{Names, plain_outcome}
 use Rattle.plist_c.specs.Reading.{Demand, Reads, any_events, limits_of, one_value}
 use Rattle.plist_c.specs.Rooms.{Memory}
 use Rattle.plist_c.specs.inner.Ordering.{asked_in, may_end}
@@ -25,7 +25,7 @@ fault_of_end order = if may_end order then 0 else 23
 -- the outcome says why the visit ended, and counts what the filler has stored
 abbrev pub SaysWhy : Result Visited Error → Filler → Outcome → Type 0
 SaysWhy (Ok Ended) filler outcome =
-    outcome ≡ outcome_of filler.count filler.used (fault_of_end (asked_in filler.order.now))
+    outcome ≡ plain_outcome filler.count filler.used (fault_of_end (asked_in filler.order.now))
 SaysWhy (Ok Stopped) filler outcome =
     outcome ≡ outcome_of_stop filler.stop filler.count filler.used
 SaysWhy (Err error) filler outcome =

@@ -8,13 +8,13 @@ use Rattle.plist_buffer.specs.declared.expects.Transition.TheVariants.{Refused}
 use Rattle.plist_buffer.specs.Expects.{transition_of}
 use Rattle.plist.specs.Building.{kind_expected}
 use Rattle.plist_c.specs.declared.flat.Outcome.{Outcome}
-use Rattle.plist_c.specs.declared.stop.Stop.{Stop}
-use Rattle.plist_c.specs.declared.stop.Stop.TheVariants as stop
+use Rattle.plist_c.specs.declared.stop.Halt.{Halt}
+use Rattle.plist_c.specs.declared.stop.Halt.TheVariants as stop
 use Rattle.plist_c.specs.Numbers.{fault_detail, fault_expected, fault_number}
 use Rattle.plist_c.specs.Rooms.{full_number}
 
 -- the event can't come next where this stack is expected, and this says why; memory may run out
-abbrev pub IsOrderStop : List Expect → PlainEvent → Stop → Type 0
+abbrev pub IsOrderStop : List Expect → PlainEvent → Halt → Type 0
 IsOrderStop [] event (stop.Surplus found) = found ≡ kind_of_event event
 IsOrderStop (top ∷ rest) event (stop.Misplaced expected found) =
     (transition_of top event ≡ Refused) × (expected ≡ kind_expected top)
@@ -40,7 +40,7 @@ outcome_of_fault fault events bytes = outcome_with events bytes
     (fault_number fault.kind) (fault_detail fault.kind) (fault_expected fault.kind)
 
 -- the outcome of a call that stopped for this reason
-abbrev pub outcome_of_stop : Stop → (events bytes : ℕ) → Outcome
+abbrev pub outcome_of_stop : Halt → (events bytes : ℕ) → Outcome
 outcome_of_stop (stop.Limit limit) events bytes =
     outcome_of_fault (fault_without_offset (LimitReached limit)) events bytes
 outcome_of_stop (stop.Misplaced expected found) events bytes =

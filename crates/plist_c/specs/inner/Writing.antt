@@ -11,18 +11,18 @@ use Rattle.plist_c.specs.declared.flat.Outcome.{Outcome}
 use Rattle.plist_c.specs.declared.write.Rejection.{Rejection}
 use Rattle.plist_c.specs.declared.write.Rejection.TheVariants as rejection
 use Rattle.plist_c.specs.Files.{AreRecordsOf}
-use Rattle.plist_c.specs.Outcomes.{outcome_of}
+use Rattle.plist_c.specs.Outcomes.{plain_outcome}
 use Rattle.plist_c.specs.Records.{HasFlaw, IsRecordOf, flaw_number}
 use Rattle.plist_c.specs.inner.Stops.{outcome_of_fault}
 
 -- the outcome of a call that rejects the record at an index
 abbrev pub outcome_of_rejection : Rejection → (index : ℕ) → Outcome
-outcome_of_rejection (rejection.Flawed flaw) index = outcome_of index 0 (flaw_number flaw)
+outcome_of_rejection (rejection.Flawed flaw) index = plain_outcome index 0 (flaw_number flaw)
 outcome_of_rejection (rejection.Misplaced expected found) index =
     outcome_of_fault (fault_without_offset (UnexpectedEventType expected found)) index 0
 outcome_of_rejection (rejection.Surplus found) index =
     outcome_of_fault (fault_without_offset (ExpectedEndOfEventStream found)) index 0
-outcome_of_rejection rejection.OutOfMemory index = outcome_of index 0 25
+outcome_of_rejection rejection.OutOfMemory index = plain_outcome index 0 25
 
 -- the record is that of an event, which was buffered
 abbrev pub PushesRecord : (bytes : List ℕ) → FlatEvent → (before after : EventBuffer) → Type 0
@@ -53,16 +53,16 @@ pub record HasPushed (bytes : List ℕ) (records : List FlatEvent) (pending : Ev
 abbrev pub Stores : (made : List ℕ) (count : ℕ) (old : List ℕ) → Outcome → (new : List ℕ) → Type 0
 Stores made count old outcome new =
     ((length made ≤ length old) × (new ≡ made ++ drop (length made) old)
-    × (outcome ≡ outcome_of count (length made) 0))
+    × (outcome ≡ plain_outcome count (length made) 0))
     ⊎ ((length old < length made) × (new ≡ old)
-    × (outcome ≡ record (outcome_of count (length made) 31) { detail = 1 }))
+    × (outcome ≡ record (plain_outcome count (length made) 31) { detail = 1 }))
 
 -- what writing the file of these events into the caller's memory does
-abbrev pub WritesEvents : FileKind → List PlainEvent → (count : ℕ) → (memory : List ℕ × List ℕ)
+abbrev pub WritesBuffered : FileKind → List PlainEvent → (count : ℕ) → (memory : List ℕ × List ℕ)
     → Outcome → Type 0
-WritesEvents files events count memory outcome =
+WritesBuffered files events count memory outcome =
     ((made : List ℕ) × IsOfTree events (λ tree. files.IsFile tree made)
     × Stores made count memory.0 outcome memory.1)
     ⊎ ((memory.1 ≡ memory.0)
-    × ((IsOfTree events (λ tree. 2 ^ 64 ≤ files.size tree) × (outcome ≡ outcome_of count 0 27))
+    × ((IsOfTree events (λ tree. 2 ^ 64 ≤ files.size tree) × (outcome ≡ plain_outcome count 0 27))
     ⊎ (outcome.fault ≡ 25)))
