@@ -2,7 +2,7 @@
 
 use crate::values::read;
 use crate::writers::print_bytes;
-use plist::Value;
+use plist::{Limits, Value};
 use plist_base::Error;
 use std::alloc::Global;
 use std::fs;
@@ -15,6 +15,10 @@ pub fn stored<R: Files>(rt: &R, alloc: Global, value: &Value, path: &str) -> Res
 
 pub fn loaded<R: Files>(rt: &R, alloc: Global, path: &str) -> Result<Value, Error> {
     Value::from_file(rt, alloc, path)
+}
+
+pub fn loaded_within<R: Files>(rt: &R, alloc: Global, path: &str) -> Result<Value, Error> {
+    Value::from_file_within(rt, alloc, path, Limits { depth: 1, items: 9 }, 1)
 }
 
 fn print_file<R: Files + AllocGlobal, W: Write>(rt: &R, out: &mut W) -> Result<(), Error> {
@@ -33,6 +37,17 @@ fn print_equality<R: Files, W: Write>(
     let same = again == *value;
     drop(again);
     Ok(writeln!(out, "read again: {same}")?)
+}
+
+// Prints the error for a file whose strings have more bytes than the budget.
+fn print_too_long<R: Files, W: Write>(rt: &R, alloc: Global, out: &mut W) -> Result<(), Error> {
+    match loaded_within(rt, alloc, "written.plist") {
+        Ok(value) => {
+            drop(value);
+            Ok(())
+        }
+        Err(error) => Ok(writeln!(out, "within one byte: {error}")?),
+    }
 }
 
 // Prints the error for a missing file.
@@ -68,5 +83,6 @@ pub fn print<R: Files + AllocGlobal, W: Write>(
     let printed = print_stored(rt, alloc, out, &value);
     drop(value);
     printed?;
+    print_too_long(rt, alloc, out)?;
     print_missing(rt, alloc, out)
 }
