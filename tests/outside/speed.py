@@ -245,8 +245,8 @@ def scattered_settings(size):
     return renumbered(settings_by_plistlib(size), True)
 
 
-SHAPES = {"integers": integers, "distinct texts": distinct_texts, "repeated texts": repeated_texts,
-          "settings": settings, "blobs": blobs, "texts beyond ASCII": texts_beyond_ascii,
+SHAPES = {"integers": integers, "distinct strings": distinct_texts, "repeated strings": repeated_texts,
+          "settings": settings, "blobs": blobs, "strings beyond ASCII": texts_beyond_ascii,
           "settings by plistlib": settings_by_plistlib, "settings, renumbered": renumbered_settings,
           "settings, scattered": scattered_settings, "a keyed archive": keyed_archive}
 if shutil.which("plistutil"):

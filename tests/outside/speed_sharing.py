@@ -50,7 +50,7 @@ def repeated_subtrees(size):
 
 
 SHAPES = {"settings": speed.settings, "repeated subtrees": repeated_subtrees,
-          "repeated texts": speed.repeated_texts, "distinct texts": speed.distinct_texts}
+          "repeated strings": speed.repeated_texts, "distinct strings": speed.distinct_texts}
 LEVELS = {"10^5 levels": 10**5, "10^6 levels": 10**6}
 
 
