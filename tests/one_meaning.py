@@ -19,7 +19,7 @@ ALLOWED = {
     "Item": (None, ASSOCIATED), "Err": (None, ASSOCIATED), "Output": (None, ASSOCIATED),
     "IntoIter": ({"plist", "plist_pairs"}, ASSOCIATED), "Iter": ({"plist", "plist_pairs"}, NAMED),
     "Values": ({"plist", "plist_pairs"}, NAMED),
-    "Failure": ({"plist_commands", "plist_keytree"}, PROGRAM),
+    "Failure": ({"plist_commands", "plist_filter", "plist_keytree"}, PROGRAM),
     "Printer": ({"plist_print", "plist_keytree"}, PROGRAM),
     "Head": ({"plist_base", "plist_decode"}, SEEN), "Trailer": ({"plist_base", "plist_decode"}, SEEN),
 }
