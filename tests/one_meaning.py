@@ -13,11 +13,14 @@ TOP = TOP if TOP.is_dir() else TOP.parent.parent
 ASSOCIATED = "the associated type that a trait of std requires"
 NAMED = "`plist::dictionary` names that of `plist_pairs`, with its values"
 SEEN = "what contracts see of the type"
+PROGRAM = "programs have their own types of this name, which no other crate sees"
 # the names that may be defined twice, each with the crates that define it, and the reason
 ALLOWED = {
     "Item": (None, ASSOCIATED), "Err": (None, ASSOCIATED), "Output": (None, ASSOCIATED),
     "IntoIter": ({"plist", "plist_pairs"}, ASSOCIATED), "Iter": ({"plist", "plist_pairs"}, NAMED),
     "Values": ({"plist", "plist_pairs"}, NAMED),
+    "Failure": ({"plist_commands", "plist_filter", "plist_keytree"}, PROGRAM),
+    "Printer": ({"plist_print", "plist_keytree"}, PROGRAM),
     "Head": ({"plist_base", "plist_decode"}, SEEN), "Trailer": ({"plist_base", "plist_decode"}, SEEN),
 }
 WORD = re.compile(r"\s*((?:(?:abbrev|unfoldable|opaque|pub|data|record)\s+)*)([^\W\d][\w'-]*)\s*(?=[:({])(.*)")
