@@ -146,7 +146,13 @@ def visits(calls):
     twice = file_of("a6010102020303 5161 420102 1005 080f1114", 4, 22)
     kinds = ["StartArray", "String", "String", "Data", "Data", "Integer", "Integer", "EndCollection"]
     wants = {WANT}
-    calls.sweep("visiting BinaryReader", twice, "".join(f"{kind} " for kind in kinds), wants)
+    for name in ("visiting BinaryReader", "visiting Reader"):
+        calls.sweep(name, twice, "".join(f"{kind} " for kind in kinds), wants)
+    # in ASCII, strings without escapes are borrowed from the buffer, and none is copied
+    kinds = ["StartArray", "String", "String", "String", "EndCollection"]
+    for name in ("visiting Reader", "handing AsciiReader"):
+        calls.still(name, b"( 'a quoted string', a_bare_string, \"and another one\" )",
+                    "".join(f"{kind} " for kind in kinds))
 
 
 def failures(count):
@@ -395,7 +401,60 @@ def still_scalars(calls):
     calls.still("Date", "1900-02-29T00:00:00Z", f"None {others}")
 
 
+# ---- calls with enough memory
+
+def far(calls):
+    for name in ("far file", "far file with windows", "shrinking file", "shrinking file with windows"):
+        for most in (1, 100, 1 << 20):
+            calls.prints(name, str(most), "right")
+
+
+def file_of_objects(objects, root):
+    """Returns a file with these objects, and references and offsets of two and four bytes."""
+    places = list(itertools.accumulate(map(len, objects), initial=8))
+    table = b"".join(place.to_bytes(4, "big") for place in places[:-1])
+    numbers = b"".join(number.to_bytes(8, "big") for number in (len(objects), root, places[-1]))
+    return b"bplist00" + b"".join(objects) + table + bytes(6) + b"\4\2" + numbers
+
+
+def array_of(numbers):
+    return b"\xaf\x11" + len(numbers).to_bytes(2, "big") + b"".join(n.to_bytes(2, "big") for n in numbers)
+
+
+def counted(calls):
+    count = 5000
+    # strings of twenty bytes, which aren't cached, and the same ones in another order
+    texts = [b"\x5f\x10\x14" + f"text number {n:08}".encode() for n in range(count)]
+    others = [n * 2503 % count for n in range(count)]
+    # arrays of sixteen strings each
+    groups = [array_of(range(n, n + 16)) for n in range(0, count - 16, 16)]
+    inner = range(count, count + len(groups))
+    # the objects, the number of events, and how many objects are looked at in advance
+    inputs = [([*texts, array_of(range(count))], count, 0), ([*texts, array_of(others)], count, count),
+              ([*texts, array_of([7] * count)], count, 0),
+              ([*texts, *groups, array_of(inner)], 18 * len(groups), 0)]
+    for objects, events, ahead in inputs:
+        file = file_of_objects(objects, len(objects) - 1)
+        events += 2
+        # With nothing buffered: the size, the magic and the trailer; for each object a read of its offset; for
+        # each event a read of a reference, one of at most 26 bytes of the object, and one of its content.
+        reads = 10 + len(objects) + 3 * events
+        asked = 100 + 4 * len(objects) + (2 + 26 + 20) * events
+        calls.counts("reads of bytes", file, [events], [reads, asked, 4 * events + len(objects) + 100])
+        # With everything buffered: the size, the magic, the trailer and the first offset; for each event a
+        # look at the object, and for each run of references one at the references.
+        looks = events + events // 4 + 20 + ahead
+        calls.counts("reads of buffered bytes", file, [events], [10, 100, looks])
+    file = file_of_objects(inputs[0][0], count)
+    # A buffer of 65,536 bytes is written if the next bytes don't fit, and these bytes may be written directly.
+    for name, size in (("BinaryWriter", len(file)), ("SharingWriter", len(file)), ("value", len(file)),
+                       ("printer", 40 * count)):
+        calls.counts(f"writes of a {name}", file, [], [2 * (size // 60_000) + 4, size])
+
+
 def run(calls):
+    far(calls)
+    counted(calls)
     readers(calls)
     writers(calls)
     buffers(calls)

@@ -27,7 +27,7 @@ import call_tables
 HERE = pathlib.Path(__file__).resolve().parent
 CRATES = HERE.parent / "crates"
 STANDS_ON = ("plist_base plist_binread plist_buffer plist_binwrite plist_share "
-             "plist_ascii plist_reader plist_support plist plist_keyed plist_callers "
+             "plist_ascii plist_reader plist_support plist plist_keyed plist_print plist_callers "
              "plist_uses hex")
 
 
@@ -155,6 +155,30 @@ class Calls:
         if found != ample or asked > most:
             self.bad(f"{call}: {found!r} for {ample!r}, {asked} bytes of memory, of at most {most}")
         self.all["calls that allocate little"] += 1
+
+    def prints(self, name, given, wanted):
+        """With enough memory, the call prints this."""
+        self.add("once", name, given, lambda call, runs: self.test_prints(call, runs, wanted))
+
+    def test_prints(self, call, runs, wanted):
+        found, _, _ = next(runs)
+        if found != wanted:
+            self.bad(f"{call}: {found!r} for {wanted!r}")
+        self.all["calls with enough memory"] += 1
+
+    def counts(self, name, given, exact, most):
+        """The call prints `ok` and numbers: first the exact ones, and then some that are at most so great."""
+        self.add("once", name, given, lambda call, runs: self.test_counts(call, runs, exact, most))
+
+    def test_counts(self, call, runs, exact, most):
+        found, _, _ = next(runs)
+        answer, *numbers = found.split(" ")
+        numbers = list(map(int, numbers))
+        split = len(exact)
+        few = all(number <= bound for number, bound in zip(numbers[split:], most, strict=True))
+        if answer != "ok" or numbers[:split] != exact or not few:
+            self.bad(f"{call[:60]}: {found!r} for {exact} and at most {most}")
+        self.all["calls that are counted"] += 1
 
     def look_at(self, calls):
         for (call, test), runs in zip(self.tests, calls, strict=True):
