@@ -20,7 +20,7 @@ import tarfile
 TOP = pathlib.Path(__file__).resolve().parents[2]
 # The crates of tests and examples, which aren't compared.
 LEFT_OUT = set("""plist_vectors plist_program_tests plist_examples plist_support plist_uses
-plist_settings plist_merge plist_launchd plist_keytree plist_filter plist_surface plist_callers""".split())
+plist_settings plist_merge plist_keytree plist_filter plist_surface plist_callers""".split())
 QUOTED = r"""b?"(?:\\.|[^"\\])*"|b?'(?:\\.|[^'\\])'"""
 WORD = re.compile(QUOTED + r"|\w+|\S")
 BODY = ""
