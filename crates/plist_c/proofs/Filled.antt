@@ -1,15 +1,14 @@
 -- What is read when a visit has ended.
-use Rattle.std.proofs.Common.{◌≡◌, ◌⊎◌, inl, inr, ℕ, ◌+◌, List, [], ◌∷◌, ◌++◌, Option, None, Some, Result, Ok, Err, length, map, refl, sym, ap, ◌∙◌, subst}
+use Rattle.std.proofs.Common.{◌≡◌, ◌⊎◌, inl, inr, ℕ, ◌+◌, List, [], ◌∷◌, ◌++◌, Option, None, Some, Result, Ok, Err, map, refl, sym, ap, ◌∙◌, subst}
 use Rattle.std.specs.Prelude.{⊤}
-use Rattle.std.specs.declared.ops.ControlFlow.TheVariants.{Break, Continue}
+use Rattle.std.specs.declared.ops.ControlFlow.TheVariants.{Continue}
 use Rattle.plist_base.specs.declared.error.Error.{Error}
 use Rattle.plist_base.specs.declared.error.EventKind.{EventKind}
 use Rattle.plist_base.specs.declared.limits.Limit.{Limit}
-use Rattle.plist_base.specs.declared.limits.Limits.{Limits}
 use Rattle.plist_base.specs.declared.visitor.Visited.{Visited}
 use Rattle.plist_base.specs.declared.visitor.Visited.TheVariants.{Ended, Stopped}
-use Rattle.plist_base.specs.Events.{PlainEvent, Item, shape_of, text_or_data}
-use Rattle.plist_base.specs.Faults.{Fault, FaultKind, MatchFault, ExpectedEndOfEventStream, LimitReached, OutOfMemory, UnexpectedEndOfEventStream, UnexpectedEventType, fault_of, fault_without_offset}
+use Rattle.plist_base.specs.Events.{PlainEvent, Item, shape_of}
+use Rattle.plist_base.specs.Faults.{Fault, MatchFault, ExpectedEndOfEventStream, LimitReached, OutOfMemory, UnexpectedEndOfEventStream, UnexpectedEventType, fault_of, fault_without_offset}
 use Rattle.plist_base.specs.Limits.{event_or_limit, level_after, limit_at, limited_from, limited_items}
 use Rattle.plist_base.specs.Visits.{HandsOver, HandsOverAll, PlainItem, Visits, YieldsAll}
 use Rattle.plist_base.proofs.Refusals.{MatchFault-weaker}
@@ -23,9 +22,9 @@ use Rattle.plist_c.specs.declared.read.Start.{Start}
 use Rattle.plist_c.specs.declared.stop.Halt.{Halt}
 use Rattle.plist_c.specs.declared.stop.Halt.TheVariants as stop
 use Rattle.plist_c.specs.Outcomes.{Names, plain_outcome}
-use Rattle.plist_c.specs.Reading.{Demand, EndsAtFault, EndsFull, EndsWhole, StoresEvents, Reads, limits_of}
+use Rattle.plist_c.specs.Reading.{EndsAtFault, EndsFull, EndsWhole, StoresEvents, Reads, limits_of}
 use Rattle.plist_c.specs.Rooms.{Memory}
-use Rattle.plist_c.specs.inner.Filling.{FillsEvent, IsSameFiller, IsStopOf, StoresNone, Stops, Takes, limit_of, memory_of}
+use Rattle.plist_c.specs.inner.Filling.{FillsEvent, IsSameFiller, IsStopOf, StoresNone, limit_of, memory_of}
 use Rattle.plist_c.specs.inner.Ordering.{CanComeNext, IsStopOfOrder, OrdersEvent, asked_in}
 use Rattle.plist_c.specs.inner.Runs.{BeginWith, Fills, IsNewOrder, SaysWhy, demand_of, fault_of_end}
 use Rattle.plist_c.specs.inner.Stops.{IsOrderStop, outcome_of_fault, outcome_of_stop}

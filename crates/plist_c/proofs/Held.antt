@@ -1,13 +1,11 @@
 -- The records and the bytes of the events that were stored so far.
-use Rattle.std.proofs.Common.{◌≡◌, ℕ, ◌+◌, List, [], ◌∷◌, ◌++◌, length, take, refl, sym, ap, ◌∙◌, append_assoc, append-nil, arith, length-append}
+use Rattle.std.proofs.Common.{◌≡◌, ℕ, ◌+◌, List, [], ◌∷◌, ◌++◌, length, take, sym, ap, ◌∙◌, append_assoc, append-nil, arith, length-append}
 use Rattle.plist_base.specs.Events.{PlainEvent, text_or_data}
 use Rattle.plist_c.specs.declared.filler.Filler.{Filler}
-use Rattle.plist_c.specs.declared.flat.FlatEvent.{FlatEvent}
 use Rattle.plist_c.specs.declared.flat.Outcome.{Outcome}
 use Rattle.plist_c.specs.Flat.{AreUtf8Events, IsUtf8Event, bytes_of, flat_events, flat_of}
 use Rattle.plist_c.specs.Outcomes.{plain_outcome}
 use Rattle.plist_c.specs.Reading.{StoresEvents}
-use Rattle.plist_c.specs.Rooms.{Memory}
 use Rattle.plist_c.specs.inner.Filling.{StoresNone, StoresOne, memory_of}
 
 bytes_more : (events : List PlainEvent) (event : PlainEvent)

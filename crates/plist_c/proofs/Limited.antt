@@ -1,14 +1,10 @@
 -- The items that limits admit, after the events that were taken so far.
-use Rattle.std.proofs.Common.{◌≡◌, ℕ, ◌+◌, List, [], ◌∷◌, ◌++◌, Option, None, Some, Ok, Err, map, refl, sym, ap, ◌∙◌}
+use Rattle.std.proofs.Common.{◌≡◌, ℕ, ◌+◌, List, [], ◌∷◌, ◌++◌, Option, None, Ok, map, sym, ap, ◌∙◌}
 use Rattle.plist_base.specs.declared.limits.Limit.{Limit}
 use Rattle.plist_base.specs.declared.limits.Limits.{Limits}
 use Rattle.plist_base.specs.Events.{PlainEvent, Item, shape_of}
-use Rattle.plist_base.specs.Faults.{LimitReached, fault_without_offset}
 use Rattle.plist_base.specs.Limits.{event_or_limit, level_after, limit_at, limited_from, limited_items}
 use Rattle.plist.proofs.PredictedItems.{event-more}
-use Rattle.plist_c.specs.declared.filler.Filler.{Filler}
-use Rattle.plist_c.specs.Reading.{limits_of}
-use Rattle.plist_c.specs.inner.Filling.{Takes}
 
 -- the first item after `admitted` events
 pub limited_first : (limits : Limits) (admitted level : ℕ) (event : PlainEvent) (rest : List Item)

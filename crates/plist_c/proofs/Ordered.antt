@@ -1,14 +1,13 @@
 -- What is expected after the events that were taken so far, if their order is asked for.
-use Rattle.std.proofs.Common.{◌≡◌, List, [], ◌∷◌, ◌++◌, Option, None, Some, option_and_then, refl, sym, ap, ◌∙◌}
-use Rattle.std.proofs.lemmas.Option.{none-some, same_Some}
+use Rattle.std.proofs.Common.{◌≡◌, List, [], ◌∷◌, ◌++◌, Some, option_and_then, refl, sym, ap, ◌∙◌}
+use Rattle.std.proofs.lemmas.Option.{same_Some}
 use Rattle.plist_base.specs.Bracketing.{AreAlike, AreTreeEvents, CanContinue, bracketing}
-use Rattle.plist_base.specs.Events.{PlainEvent, Item, kind_of_event}
+use Rattle.plist_base.specs.Events.{PlainEvent, kind_of_event}
 use Rattle.plist_base.specs.Faults.{FaultKind, ExpectedEndOfEventStream, UnexpectedEventType}
 use Rattle.plist_base.specs.Trees.{Tree}
 use Rattle.plist_base.proofs.Lengths.{alike_with, continue_alike}
 use Rattle.plist_buffer.specs.declared.expects.Expect.{Expect}
 use Rattle.plist_buffer.specs.declared.expects.Expect.TheVariants.{OneValue}
-use Rattle.plist_buffer.specs.declared.expects.Transition.{Transition}
 use Rattle.plist_buffer.specs.declared.expects.Transition.TheVariants.{Refused}
 use Rattle.plist_buffer.specs.Expects.{expected_after, step, transition_of}
 use Rattle.plist_buffer.proofs.Grammar.{all_taken, bracketed, can_continue, steps_snoc, wanted_alike}

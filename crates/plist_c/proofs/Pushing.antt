@@ -1,7 +1,7 @@
 -- Records whose events are buffered, one after another.
-use Rattle.std.proofs.Common.{◌≡◌, ◌⊎◌, inl, inr, ℕ, Bool, true, false, List, [], ◌∷◌, ◌++◌, Option, None, Some, length, map, refl, sym, ap, ◌∙◌, subst, slice_get, take, drop, get_or, is_none, ◌+◌, ◌<◌, ◌≤◌, ◌^◌}
+use Rattle.std.proofs.Common.{◌≡◌, ◌⊎◌, inl, inr, ℕ, true, false, List, [], ◌∷◌, ◌++◌, Option, None, Some, length, map, refl, sym, ap, ◌∙◌, slice_get, take, get_or, is_none, ◌+◌, ◌<◌, ◌≤◌, ◌^◌}
 use Rattle.std.proofs.lemmas.List.{map-append, take_more}
-use Rattle.plist_base.specs.Bracketing.{AreAlike, AreTreeEvents, CanContinue, bracketing, without_length}
+use Rattle.plist_base.specs.Bracketing.{AreAlike, AreTreeEvents, bracketing, without_length}
 use Rattle.plist_base.specs.Events.{PlainEvent, kind_of_event}
 use Rattle.plist_base.specs.Faults.{ExpectedEndOfEventStream, UnexpectedEventType, fault_without_offset}
 use Rattle.plist_base.specs.Trees.{Tree}
@@ -17,8 +17,8 @@ use Rattle.plist_c.specs.declared.flat.FlatEvent.{FlatEvent}
 use Rattle.plist_c.specs.declared.flat.Outcome.{Outcome}
 use Rattle.plist_c.specs.declared.write.Rejection.{Rejection}
 use Rattle.plist_c.specs.declared.write.Rejection.TheVariants as rejection
-use Rattle.plist_c.specs.Files.{AreRecordsOf, EndsAtRecord, EndsEarly, IsOutOfOrder, LacksRoom, Writes, WritesFile}
-use Rattle.plist_c.specs.Outcomes.{Names, plain_outcome}
+use Rattle.plist_c.specs.Files.{AreRecordsOf, EndsAtRecord, Writes}
+use Rattle.plist_c.specs.Outcomes.{plain_outcome}
 use Rattle.plist_c.specs.Records.{IsRecordOf}
 use Rattle.plist_c.specs.Rooms.{Memory}
 use Rattle.plist_c.specs.inner.Writing.{HasPushed, IsRejection, PushesRecord, WritesBuffered, outcome_of_rejection}

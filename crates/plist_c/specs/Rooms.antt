@@ -1,5 +1,5 @@
 -- The caller's memory, and whether it has room for an event.
-use Rattle.std.specs.Prelude.{◌≡◌, ℕ, ◌+◌, nat_le, nat_lt, if◌then◌else◌, List, length, Option, None, Some}
+use Rattle.std.specs.Prelude.{ℕ, ◌+◌, nat_le, nat_lt, if◌then◌else◌, List, length, Option, None, Some}
 use Rattle.plist_c.specs.declared.flat.FlatEvent.{FlatEvent}
 use Rattle.plist_c.specs.declared.flat.ReadLimits.{ReadLimits}
 use Rattle.plist_c.specs.declared.stop.Full.{Full}

@@ -152,7 +152,7 @@ fn content_of<'e>(event: &'e Event<'_>) -> &'e [u8]
 }
 
 impl<'a> Filler<'a> {
-    ghost use Rattle.std.specs.Prelude.{◌≡◌, ◌+◌, ◌∷◌, ◌++◌, ◌<◌, ◌≤◌, [], None, Some, IfErr, IfOk, OnErr, OnOk, length, take};
+    ghost use Rattle.std.specs.Prelude.{◌≡◌, ◌+◌, ◌<◌, ◌≤◌, [], None, Some, IfErr, IfOk, OnErr, OnOk, length, take};
     ghost use Rattle.plist_base.specs.Events.{event_of, shape_of, text_or_data};
     ghost use Rattle.plist_base.specs.Limits.{level_after};
     ghost use Rattle.plist_c.specs.inner.Filling.{IsSameFiller, IsStopOf, StoresBytes, StoresNone, Takes, full_of, limit_of};

@@ -9,7 +9,7 @@ ghost use Rattle.plist_c.specs.inner.Writing.{HasPushed, IsRejection, PushesReco
 use crate::flat::{FlatEvent, Outcome};
 use crate::numbers::kind_number;
 use crate::record::{Flaw, event_of};
-use plist_base::{Error, ErrorKind, EventKind};
+use plist_base::{ErrorKind, EventKind};
 use plist_binwrite::{EqualScalars, Sharing};
 use plist_buffer::event_buffer::{EventBuffer, PushError};
 use plist_share::EqualTrees;

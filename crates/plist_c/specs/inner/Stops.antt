@@ -1,9 +1,8 @@
 -- Why an event isn't taken.
-use Rattle.std.specs.Prelude.{◌≡◌, ℕ, List, [], ◌∷◌, Option, None, Some, ⊤}
+use Rattle.std.specs.Prelude.{◌≡◌, ℕ, List, [], ◌∷◌, ⊤}
 use Rattle.plist_base.specs.Events.{PlainEvent, kind_of_event}
 use Rattle.plist_base.specs.Faults.{Fault, ExpectedEndOfEventStream, LimitReached, OutOfMemory, UnexpectedEventType, fault_without_offset}
 use Rattle.plist_buffer.specs.declared.expects.Expect.{Expect}
-use Rattle.plist_buffer.specs.declared.expects.Transition.{Transition}
 use Rattle.plist_buffer.specs.declared.expects.Transition.TheVariants.{Refused}
 use Rattle.plist_buffer.specs.Expects.{transition_of}
 use Rattle.plist.specs.Building.{kind_expected}
