@@ -92,6 +92,12 @@ module _ (start : Start) (done : List PlainEvent) (filler : Filler) (here : IsAt
   IsReadAs items memory = Reads (demand_of (asked_in start.order)) start.limits
       (limited_items (limits_of start.limits) (map Ok done ++ items)) outcome memory
 
+  -- the events begin a tree, if their order is asked for
+  begins_as : (first now : Asked) → OrderedBy first done now → (demand_of first).CanBegin done
+  begins_as None now ordered = tt
+  begins_as (Some first) None ordered = absurd ordered
+  begins_as (Some first) (Some now) ordered = ordered.begins
+
   -- the parts of what is read
   reads_as : (items more : List Item) (memory : Memory) → remaining items ≡ more
       → StoresEvents done outcome memory
@@ -103,6 +109,7 @@ module _ (start : Start) (done : List PlainEvent) (filler : Filler) (here : IsAt
     events = done;
     more = more;
     parts = here.limited items ∙ ap (λ l. map Ok done ++ l) is;
+    begins = begins_as (asked_in start.order) (asked_in filler.order.now) here.ordered;
     held = held;
     ended = ended;
   }
@@ -135,7 +142,7 @@ module _ (start : Start) (done : List PlainEvent) (filler : Filler) (here : IsAt
           → EndsWhole (demand_of first) done [] outcome
           ⊎ (EndsFull (demand_of first) done [] start.limits outcome (memory_of filler)
           ⊎ EndsAtFault (demand_of first) done [] outcome)
-      by None None ordered is = inl (ap (λ o. o.fault) is, refl, tt)
+      by None None ordered is = inl (rw is refl, refl, tt)
       by None (Some now) ordered is = absurd (cc)
       by (Some first) None ordered is = absurd ordered
       by (Some first) (Some now) ordered is = of_stack now refl
@@ -145,7 +152,7 @@ module _ (start : Start) (done : List PlainEvent) (filler : Filler) (here : IsAt
               ⊎ (EndsFull (demand_of (Some first)) done [] start.limits outcome (memory_of filler)
               ⊎ EndsAtFault (demand_of (Some first)) done [] outcome)
           of_stack [] over = inl (
-            ap (λ o. o.fault) is ∙ rw over refl,
+            rw (is, over) refl,
             refl,
             whole_events done now ordered over,
           )
@@ -292,8 +299,7 @@ module _ (start : Start) (done : List PlainEvent) (filler : Filler) (here : IsAt
             none.bytes,
             sym here.limits,
           ) lacks,
-          ap (λ o. o.fault) is,
-          ap (λ o. o.detail) is,
+          rw is refl,
         )))
     reads_stop stop.OutOfMemory stops is =
         at_fault (remaining items) refl (fault_without_offset OutOfMemory) refl is tt

@@ -1,10 +1,10 @@
 -- What is expected after the events that were taken so far, if their order is asked for.
-use Rattle.std.proofs.Common.{◌≡◌, List, [], ◌∷◌, ◌++◌, Some, option_and_then, refl, sym, ap, ◌∙◌}
+use Rattle.std.proofs.Common.{◌≡◌, true, append_assoc, List, [], ◌∷◌, ◌++◌, Some, option_and_then, refl, sym, ap, ◌∙◌}
 use Rattle.std.proofs.lemmas.Option.{same_Some}
 use Rattle.plist_base.specs.Bracketing.{AreAlike, AreTreeEvents, CanContinue, bracketing}
 use Rattle.plist_base.specs.Events.{PlainEvent, kind_of_event}
 use Rattle.plist_base.specs.Faults.{FaultKind, ExpectedEndOfEventStream, UnexpectedEventType}
-use Rattle.plist_base.specs.Trees.{Tree}
+use Rattle.plist_base.specs.Trees.{Boolean, Leaf, Tree}
 use Rattle.plist_base.proofs.Lengths.{alike_with, continue_alike}
 use Rattle.plist_buffer.specs.declared.expects.Expect.{Expect}
 use Rattle.plist_buffer.specs.declared.expects.Expect.TheVariants.{OneValue}
@@ -12,18 +12,35 @@ use Rattle.plist_buffer.specs.declared.expects.Transition.TheVariants.{Refused}
 use Rattle.plist_buffer.specs.Expects.{expected_after, step, transition_of}
 use Rattle.plist_buffer.proofs.Grammar.{all_taken, bracketed, can_continue, steps_snoc, wanted_alike}
 use Rattle.plist.specs.Building.{Unfinished, NotBegun, Within, Complete, IsNested, events_so_far, expected_within, if_refused, kind_expected, refusal_at, refusal_of}
+use Rattle.plist_c.specs.Reading.{CanBeginTree}
 use Rattle.plist.proofs.Following.{complete, continues-accepted, expected, stack_of, taken_before}
+
+-- no event begins a tree
+pub begins_none : CanBeginTree []
+begins_none = (bracketing (Leaf (Boolean true)), Leaf (Boolean true), refl)
+
+-- events and one that can follow them begin a tree
+pub begins_next : (done : List PlainEvent) (event : PlainEvent) → CanContinue done event
+    → CanBeginTree (done ++ event ∷ [])
+begins_next done event (more, tree, alike) = (more, tree, rw append_assoc alike)
 
 -- the events begin a value, and this stack is expected after them
 pub record IsExpected (done : List PlainEvent) (stack : List Expect) : Type 0 where
   pub unfinished : Unfinished
   pub nested : IsNested unfinished
   pub alike : AreAlike (events_so_far unfinished) done
+  pub begins : CanBeginTree done
   pub after : expected_after done ≡ Some stack
 
 pub expected_first : (stack : List Expect) → stack ≡ OneValue ∷ [] → IsExpected [] stack
 expected_first stack is =
-    record { unfinished = NotBegun; nested = tt; alike = refl; after = ap Some (sym is) }
+    record {
+      unfinished = NotBegun;
+      nested = tt;
+      alike = refl;
+      begins = begins_none;
+      after = ap Some (sym is);
+    }
 
 -- the stack after one more event
 stack_more : (done : List PlainEvent) (event : PlainEvent) (stack after : List Expect)
@@ -50,6 +67,7 @@ expected_more done event stack after here to =
       unfinished = w.0;
       nested = w.2;
       alike = w.3 ∙ alike_with (events_so_far u) done (event ∷ []) here.alike;
+      begins = begins_next done event (comes_next done event stack after here to);
       after = stack_more done event stack after here.after to;
     }
 

@@ -21,6 +21,7 @@ use Rattle.plist_c.specs.Files.{AreRecordsOf, EndsAtRecord, Writes}
 use Rattle.plist_c.specs.Outcomes.{plain_outcome}
 use Rattle.plist_c.specs.Records.{IsRecordOf}
 use Rattle.plist_c.specs.Rooms.{Memory}
+use Rattle.plist_c.proofs.Ordered.{begins_next, begins_none}
 use Rattle.plist_c.specs.inner.Writing.{HasPushed, IsRejection, PushesRecord, WritesBuffered, outcome_of_rejection}
 
 -- ---- whole values
@@ -57,7 +58,8 @@ are_more bytes (one ∷ records) (first ∷ events) flat event are is =
 
 pub pushed_none : (bytes : List ℕ) (pending : EventBuffer) → buffered_events pending ≡ []
     → HasPushed bytes [] pending
-pushed_none bytes pending none = record { events = []; are = tt; held = none }
+pushed_none bytes pending none =
+    record { events = []; are = tt; begins = begins_none; held = none }
 
 pub pushed_more : (bytes : List ℕ) (records : List FlatEvent) (flat : FlatEvent)
     (before after : EventBuffer) → HasPushed bytes records before
@@ -65,6 +67,8 @@ pub pushed_more : (bytes : List ℕ) (records : List FlatEvent) (flat : FlatEven
 pushed_more bytes records flat before after here (event, is, part, accepts) = record {
   events = here.events ++ event ∷ [];
   are = are_more bytes records here.events flat event here.are is;
+  begins = begins_next here.events event ((continue_alike (buffered_events before) here.events
+      (ap (map without_length) here.held ∙ alike_without_length here.events) event).0 accepts.0);
   held = accepts.1.0 ∙ ap (λ l. l ++ without_length event ∷ []) here.held
       ∙ sym (map-append without_length here.events (event ∷ []));
 }
@@ -110,15 +114,17 @@ pub rejected_at : (given : Memory) (index : ℕ) (flat : FlatEvent) (pending : E
     (reason : Rejection) → HasPushed given.bytes (take index given.events) pending
     → slice_get given.events index ≡ Some flat → IsRejection given.bytes flat pending reason
     → EndsAtRecord given (outcome_of_rejection reason index)
-    ⊎ ((outcome_of_rejection reason index).fault ≡ 25)
+    ⊎ (outcome_of_rejection reason index
+    ≡ plain_outcome (outcome_of_rejection reason index).events 0 25)
 rejected_at given index flat pending (rejection.Flawed flaw) here is flawed =
-    inl (here.events, flat, here.are, is, inl (flaw, flawed, refl))
+    inl (here.events, flat, here.are, here.begins, is, inl (flaw, flawed, refl))
 rejected_at given index flat pending (rejection.Misplaced expected found) here is why =
     let (event, of_event, part, misplaced_event) = why in
     inl (
       here.events,
       flat,
       here.are,
+      here.begins,
       is,
       inr (
         event,
@@ -140,6 +146,7 @@ rejected_at given index flat pending (rejection.Surplus found) here is why =
       here.events,
       flat,
       here.are,
+      here.begins,
       is,
       inr (
         event,
@@ -169,6 +176,7 @@ module _ (files : FileKind) (given : Memory) (pending : EventBuffer)
         inr (inr (inl (
           here.events,
           here.are,
+          here.begins,
           no_tree_of_part _ _ pending here part,
           is,
         ))),
@@ -213,7 +221,11 @@ module _ (files : FileKind) (given : Memory) (pending : EventBuffer)
           inr (of_tree (λ tree. 2 ^ 64 ≤ files.size tree) large, is_outcome),
         ),
       )
-      by (inr (same, inr memory)) = inr (same, inr (inr (inr memory)))
+      by (inr (same, inr memory)) = inr (
+        same,
+        inr (inr (inr (memory
+            ∙ ap (λ n. plain_outcome n 0 25) (sym (ap (λ (o : Outcome). o.events) memory))))),
+      )
 
 -- ---- the file that is made
 

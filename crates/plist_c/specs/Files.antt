@@ -12,6 +12,7 @@ use Rattle.plist_c.specs.declared.flat.FlatEvent.{FlatEvent}
 use Rattle.plist_c.specs.declared.flat.Outcome.{Outcome}
 use Rattle.plist_c.specs.declared.record.Flaw.{Flaw}
 use Rattle.plist_c.specs.Outcomes.{Names, plain_outcome}
+use Rattle.plist_c.specs.Reading.{CanBeginTree}
 use Rattle.plist_c.specs.Records.{HasFlaw, IsRecordOf, flaw_number}
 use Rattle.plist_c.specs.Rooms.{Memory}
 
@@ -44,11 +45,11 @@ RefusesRecord bytes events flat outcome =
     ⊎ ((event : PlainEvent) × (fault : Fault) × IsRecordOf bytes flat event
     × IsOutOfOrder events event fault × Names fault outcome × (outcome.bytes ≡ 0))
 
--- the first record that is wrong follows those of events; the outcome has its index
+-- the first record that is wrong follows those of a tree's first events; the outcome has its index
 abbrev pub EndsAtRecord : Memory → Outcome → Type 0
 EndsAtRecord given outcome =
     (events : List PlainEvent) × (flat : FlatEvent)
-    × AreRecordsOf given.bytes (take outcome.events given.events) events
+    × AreRecordsOf given.bytes (take outcome.events given.events) events × CanBeginTree events
     × (slice_get given.events outcome.events ≡ Some flat)
     × RefusesRecord given.bytes events flat outcome
 
@@ -58,10 +59,10 @@ AreRecordsOfTree given tree =
     (events : List PlainEvent) × AreRecordsOf given.bytes given.events events
     × AreAlike events (bracketing tree)
 
--- the records are those of events that aren't those of a tree, and the outcome says so
+-- the records are those of the first events of a tree, but not of all, and the outcome says so
 abbrev pub EndsEarly : Memory → Outcome → Type 0
 EndsEarly given outcome =
-    (events : List PlainEvent) × AreRecordsOf given.bytes given.events events
+    (events : List PlainEvent) × AreRecordsOf given.bytes given.events events × CanBeginTree events
     × (AreTreeEvents events → ⊥) × (outcome ≡ plain_outcome (length given.events) 0 23)
 
 module _ (files : FileKind) where
@@ -86,4 +87,5 @@ module _ (files : FileKind) where
   Writes given outcome old new =
       WritesFile given outcome old new
       ⊎ ((new ≡ old) × (LacksRoom given outcome old
-      ⊎ (EndsAtRecord given outcome ⊎ (EndsEarly given outcome ⊎ (outcome.fault ≡ 25)))))
+      ⊎ (EndsAtRecord given outcome ⊎ (EndsEarly given outcome
+      ⊎ (outcome ≡ plain_outcome outcome.events 0 25)))))

@@ -1,10 +1,11 @@
 -- What a call reads into the caller's memory.
 use Rattle.std.specs.Prelude.{◌≡◌, ◌⊎◌, ℕ, List, [], ◌∷◌, ◌++◌, Some, Ok, Err, length, map, take, ⊤}
 use Rattle.plist_base.specs.declared.limits.Limits.{Limits}
-use Rattle.plist_base.specs.Bracketing.{AreAlike, AreTreeEvents, CanContinue}
+use Rattle.plist_base.specs.Bracketing.{bracketing, AreAlike, AreTreeEvents, CanContinue}
 use Rattle.plist_base.specs.Events.{PlainEvent, Item, text_or_data}
 use Rattle.plist_base.specs.Faults.{Fault, MatchFault}
 use Rattle.plist_base.specs.Limits.{limited_items}
+use Rattle.plist_base.specs.Trees.{Tree}
 use Rattle.plist_reader.specs.Reader.{items_of_input}
 use Rattle.plist.specs.Building.{Unfinished, IsNested, events_so_far}
 use Rattle.plist.specs.ValueOfItems.{IsFaultOfNext}
@@ -12,7 +13,7 @@ use Rattle.plist_c.specs.declared.flat.Outcome.{Outcome}
 use Rattle.plist_c.specs.declared.flat.ReadLimits.{ReadLimits}
 use Rattle.plist_c.specs.declared.stop.Full.{Full}
 use Rattle.plist_c.specs.Flat.{AreUtf8Events, bytes_of, flat_events}
-use Rattle.plist_c.specs.Outcomes.{Names}
+use Rattle.plist_c.specs.Outcomes.{Names, plain_outcome}
 use Rattle.plist_c.specs.Rooms.{Memory, full_for, full_number}
 
 -- the memory begins with the records and the bytes of these events, and the outcome counts them
@@ -23,9 +24,15 @@ pub record StoresEvents (events : List PlainEvent) (outcome : Outcome) (memory :
   pub bytes : take outcome.bytes memory.bytes ≡ bytes_of events
   pub utf8 : AreUtf8Events events
 
--- What is asked of the events: which are whole, which event can follow some, and which fault ends
--- them before the remaining items.
+-- the events are the first ones of a tree, apart from lengths
+abbrev pub CanBeginTree : List PlainEvent → Type 0
+CanBeginTree events =
+    (more : List PlainEvent) × (tree : Tree) × AreAlike (events ++ more) (bracketing tree)
+
+-- What is asked of the events: which can begin, which are whole, which event can follow some, and
+-- which fault ends them before the remaining items.
 pub record Demand : Type 1 where
+  pub CanBegin : List PlainEvent → Type 0
   pub AreWhole : List PlainEvent → Type 0
   pub CanFollow : List PlainEvent → PlainEvent → Type 0
   pub EndsWith : List PlainEvent → List Item → Fault → Type 0
@@ -33,6 +40,7 @@ pub record Demand : Type 1 where
 -- any events are whole, and only an item that is a fault ends them
 abbrev pub any_events : Demand
 any_events = record {
+  CanBegin = λ events. ⊤;
   AreWhole = λ events. ⊤;
   CanFollow = λ events event. ⊤;
   EndsWith = λ events more fault. (rest : List Item) × (more ≡ Err fault ∷ rest);
@@ -47,13 +55,19 @@ RefusesRest events more fault =
 
 -- the events have to be those of exactly one value
 abbrev pub one_value : Demand
-one_value = record { AreWhole = AreTreeEvents; CanFollow = CanContinue; EndsWith = RefusesRest }
+one_value = record {
+  CanBegin = CanBeginTree;
+  AreWhole = AreTreeEvents;
+  CanFollow = CanContinue;
+  EndsWith = RefusesRest;
+}
 
 module _ (demand : Demand) where
   -- no item follows the events, and they are whole
   abbrev pub EndsWhole : (events : List PlainEvent) (more : List Item) → Outcome → Type 0
   EndsWhole events more outcome =
-      (outcome.fault ≡ 0) × (more ≡ []) × demand.AreWhole events
+      (outcome ≡ plain_outcome outcome.events outcome.bytes 0) × (more ≡ [])
+      × demand.AreWhole events
 
   -- an event follows that has no room
   abbrev pub EndsFull : (events : List PlainEvent) (more : List Item) → ReadLimits → Outcome
@@ -63,7 +77,9 @@ module _ (demand : Demand) where
       × demand.CanFollow events event
       × (full_for limits memory outcome.events outcome.bytes (length (text_or_data event))
       ≡ Some full)
-      × (outcome.fault ≡ 31) × (outcome.detail ≡ full_number full)
+      × (outcome ≡ record (plain_outcome outcome.events outcome.bytes 31) {
+        detail = full_number full;
+      })
 
   -- a fault ends the events; it is never `Io`, and `OutOfMemory` is always possible
   abbrev pub EndsAtFault : (events : List PlainEvent) (more : List Item) → Outcome → Type 0
@@ -78,6 +94,7 @@ module _ (demand : Demand) where
     pub events : List PlainEvent
     pub more : List Item
     pub parts : items ≡ map Ok events ++ more
+    pub begins : demand.CanBegin events
     pub held : StoresEvents events outcome memory
     pub ended : EndsWhole events more outcome
         ⊎ (EndsFull events more limits outcome memory ⊎ EndsAtFault events more outcome)

@@ -3,6 +3,7 @@
 ghost use Rattle.std.specs.Prelude.{◌≡◌, ◌⊎◌, [], false, IfErr, OnOk, true};
 ghost use Rattle.plist_buffer.specs.EventBuffers.{buffered_events, is_whole};
 ghost use Rattle.plist_c.specs.Files.{EndsAtRecord, Writes, files_of};
+ghost use Rattle.plist_c.specs.Outcomes.{plain_outcome};
 ghost use Rattle.plist_c.specs.Records.{flaw_number as number_of_flaw};
 ghost use Rattle.plist_c.specs.inner.Writing.{HasPushed, IsRejection, PushesRecord, Stores, WritesBuffered, outcome_of_rejection};
 
@@ -111,7 +112,7 @@ fn push_records(
     ensures pushed { OnOk result (HasPushed bytes.now records.now pending.new) }
     ensures rejected { IfErr result (λ outcome.
         (EndsAtRecord (record { events = records.now; bytes = bytes.now }) outcome)
-        ⊎ (outcome.fault ≡ 25)) }
+        ⊎ (outcome ≡ plain_outcome outcome.events 0 25)) }
 {
     for (index, flat) in records.iter().enumerate() {
         if let Err(rejection) = push_record(alloc, flat, bytes, pending) {

@@ -12,6 +12,7 @@ use Rattle.plist_c.specs.declared.write.Rejection.{Rejection}
 use Rattle.plist_c.specs.declared.write.Rejection.TheVariants as rejection
 use Rattle.plist_c.specs.Files.{AreRecordsOf}
 use Rattle.plist_c.specs.Outcomes.{plain_outcome}
+use Rattle.plist_c.specs.Reading.{CanBeginTree}
 use Rattle.plist_c.specs.Records.{HasFlaw, IsRecordOf, flaw_number}
 use Rattle.plist_c.specs.inner.Stops.{outcome_of_fault}
 
@@ -47,6 +48,7 @@ pub record HasPushed (bytes : List ℕ) (records : List FlatEvent) (pending : Ev
   where
     pub events : List PlainEvent
     pub are : AreRecordsOf bytes records events
+    pub begins : CanBeginTree events
     pub held : buffered_events pending ≡ map without_length events
 
 -- the file is copied if there is room for it, and otherwise nothing is
@@ -65,4 +67,4 @@ WritesBuffered files events count memory outcome =
     × Stores made count memory.0 outcome memory.1)
     ⊎ ((memory.1 ≡ memory.0)
     × ((IsOfTree events (λ tree. 2 ^ 64 ≤ files.size tree) × (outcome ≡ plain_outcome count 0 27))
-    ⊎ (outcome.fault ≡ 25)))
+    ⊎ (outcome ≡ plain_outcome count 0 25)))
