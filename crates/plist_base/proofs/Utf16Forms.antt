@@ -6,7 +6,7 @@ use Rattle.std.specs.Int.{byte_at, bytes_high_first}
 use Rattle.std.specs.Char.{encode_utf8}
 use Rattle.std.specs.List.{list_any, range_with_len, sum_by}
 use Rattle.std.proofs.lemmas.List.{length-append, take_all, take_more}
-use Rattle.std.proofs.lemmas.List.Sums.{sum_by-append, sum_by-cons, sum_by_push}
+use Rattle.std.proofs.lemmas.List.Sums.{sum_by-append, sum_by_push}
 use Rattle.std.proofs.lemmas.Str.{length-encode}
 use Rattle.plist_base.specs.inner.UnitShares.{utf8_share}
 use Rattle.std.specs.Option.{unwrap_or}
@@ -14,7 +14,7 @@ use Rattle.std.specs.Str.{encode_utf8_all}
 use Rattle.std.proofs.Math.Utf8.{scalar, scalar_cases, scalars}
 use Rattle.std.proofs.lemmas.Bool.{cases_lt, lt-ltb, le-ltb, le-leb, lt-leb, and_parts}
 use Rattle.std.proofs.lemmas.List.FromFn.{fill_by_all, get_or-map-range_with_len}
-use Rattle.std.proofs.lemmas.Str.{chars-encodes, utf16_chars-nil, utf16_chars_lone, utf16_chars_pair}
+use Rattle.std.proofs.lemmas.Str.{chars-encodes, len_utf8_bounds, utf16_chars-nil, utf16_chars_lone, utf16_chars_pair}
 use Rattle.std.proofs.str.Utf16.{IsPair, lone_unit_char_high, lone_unit_char_low, lone_unit_char_surrogate, one_unit, pair_units, two_units, utf16_chars-drop_all}
 use Rattle.plist_base.specs.ByteTests.{EachByte}
 use Rattle.plist_base.specs.Container.{number_at, number_of, numbers_spelled}
@@ -410,17 +410,45 @@ shares_all bytes at valid all =
     rw (take_all at (numbers_spelled 2 bytes) (omega (arith, all, units_length bytes)))
     (again (numbers_spelled 2 bytes) (units_small bytes small) valid.paired).size
 
-share_some : (unit : ℕ) → 1 ≤ utf8_share unit
-share_some unit = grind arith
+-- a character with its units before others
+bytes_more : (c : ℕ) (own us : List ℕ) → utf16_chars (own ++ us) ≡ Some c ∷ utf16_chars us
+    → length own ≤ length (encode_utf8 c)
+    → length us ≤ length (encode_utf8_all (utf16_lossy_chars us))
+    → length (own ++ us) ≤ length (encode_utf8_all (utf16_lossy_chars (own ++ us)))
+bytes_more c own us is enough rest = rw is (omega (
+  arith,
+  enough,
+  rest,
+  length-append own us,
+  length-append (encode_utf8 c) (encode_utf8_all (utf16_lossy_chars us)),
+))
 
-shares_some : (units : List ℕ) → length units ≤ sum_by utf8_share units
-shares_some [] = omega arith
-shares_some (u ∷ us) = omega (arith, share_some u, shares_some us, sum_by-cons utf8_share u us)
+bytes_lone : (u : ℕ) (us : List ℕ) → (u < 55296) ⊎ (57344 ≤ u)
+    → length us ≤ length (encode_utf8_all (utf16_lossy_chars us))
+    → length (u ∷ us) ≤ length (encode_utf8_all (utf16_lossy_chars (u ∷ us)))
+bytes_lone u us outside =
+    bytes_more u (u ∷ []) us (lone u us outside) (omega (arith, length-encode u, len_utf8_bounds u))
+
+-- each unit adds at least one byte
+bytes_enough : (us : List ℕ) → has_unpaired_surrogate us ≡ false
+    → length us ≤ length (encode_utf8_all (utf16_lossy_chars us))
+bytes_enough [] paired = omega arith
+bytes_enough (u ∷ []) paired = elim (first_unit u [] paired) [
+  | Lone outside ↦ bytes_lone u [] outside (omega arith)
+  | Paired pair ↦ absurd (omega (arith, pair.2))
+]
+bytes_enough (u ∷ v ∷ us) paired = elim (first_unit u (v ∷ us) paired) [
+  | Lone outside ↦ bytes_lone u (v ∷ us) outside (bytes_enough (v ∷ us)
+      (paired_more u (u ∷ []) (v ∷ us) (lone u (v ∷ us) outside) paired))
+  | Paired pair ↦
+      let code = surrogate_pair_char u v in
+      let is = utf16_chars_pair u v us pair in
+      bytes_more code (u ∷ v ∷ []) us is (omega (arith, len_pair code (omega arith)))
+      (bytes_enough us (paired_more code (u ∷ v ∷ []) us is paired))
+]
 
 -- a string has at least as many bytes in UTF-8 as units
-pub no_fewer_bytes : (bytes : List ℕ) → IsUtf16 bytes → length bytes / 2 ≤ length (utf8_of_utf16 bytes)
-no_fewer_bytes bytes valid =
-    let units = numbers_spelled 2 bytes in
-    let all = take_all (length bytes / 2) units (omega (arith, units_length bytes)) in
-    let sum = shares_all bytes (length bytes / 2) valid (omega arith) in
-    omega (arith, units_length bytes, shares_some units, ap (sum_by utf8_share) all, sum)
+pub no_fewer_bytes : (bytes : List ℕ) → ArePaired bytes
+    → length bytes / 2 ≤ length (utf8_of_utf16 bytes)
+no_fewer_bytes bytes paired =
+    omega (arith, units_length bytes, bytes_enough (numbers_spelled 2 bytes) paired)

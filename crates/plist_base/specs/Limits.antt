@@ -1,5 +1,5 @@
 -- Items under limits: how many events there are, and how many collections are open at once.
-use Rattle.std.specs.Prelude.{◌≡◌, ℕ, ◌+◌, ◌-◌, Bool, true, false, ◌&&◌, nat_le, if◌then◌else◌, List, [], ◌∷◌, Option, None, Some, Result, Ok, Err}
+use Rattle.std.specs.Prelude.{◌≡◌, ℕ, ◌+◌, ◌-◌, Bool, true, false, ◌&&◌, nat_le, if◌then◌else◌, List, [], ◌∷◌, Option, None, Some, Result, Ok, Err, IfSome, MatchResult, ⊤}
 use Rattle.plist_base.specs.declared.error.Error.{Error}
 use Rattle.plist_base.specs.declared.event.Event.{Event}
 use Rattle.plist_base.specs.declared.event.EventShape.{EventShape}
@@ -10,7 +10,7 @@ use Rattle.plist_base.specs.declared.limits.Limit.{Limit}
 use Rattle.plist_base.specs.declared.limits.Limit.TheVariants as limit
 use Rattle.plist_base.specs.declared.limits.LimitCounter.{LimitCounter}
 use Rattle.plist_base.specs.Allowances.{AdmitsEvent, GivesAllowed, RefusesEvent, items_allowed}
-use Rattle.plist_base.specs.Faults.{Fault, LimitReached, fault_without_offset}
+use Rattle.plist_base.specs.Faults.{Fault, FaultKind, LimitReached, fault_of, fault_without_offset}
 use Rattle.plist_base.specs.Events.{PlainEvent, Item, shape_of}
 
 -- does an event of this shape open a collection?
@@ -86,6 +86,20 @@ Refuses = RefusesEvent limited_by IsLimitReached
 -- the event is replaced by the fault of this limit, and no item follows it
 abbrev pub RefusesBy : LimitCounter → PlainEvent → Limit → Type 0
 RefusesBy limiter event limit = Refuses limiter event (fault_without_offset (LimitReached limit))
+
+-- the fact, if the fault is that of a limit
+abbrev pub IfLimitReached : FaultKind → Type 0 → Type 0
+IfLimitReached (LimitReached limit) fact = fact
+IfLimitReached kind fact = ⊤
+
+-- One call over any source: an event is admitted, and a limit's fault replaces an event that isn't.
+-- `before` and `after` map a list of items to those that the limits admit before and after the call.
+abbrev pub KeepsLimits : {E : Type 0} → (shown : E → PlainEvent) → (before : List Item → List Item)
+    → Option (Result E Error) → (after : List Item → List Item) → Type 0
+KeepsLimits shown before item after = IfSome item (λ answer. MatchResult answer
+    (λ event. AdmitsEvent (λ lets. lets) before (shown event) after)
+    (λ error. IfLimitReached (fault_of error).kind ((event : PlainEvent)
+    × RefusesEvent (λ lets. lets) IsLimitReached before event (fault_of error))))
 
 -- the items that a counter admits, or all of them without a counter
 abbrev pub limited_by_any : Option LimitCounter → List Item → List Item

@@ -1,10 +1,10 @@
 -- What the bytes after a marker mean.
-use Rattle.std.proofs.Common.{◌≡◌, ℕ, suc, ◌+◌, ◌-◌, ◌*◌, ◌^◌, ◌<◌, ◌≤◌, inl, inr, pos, negsuc, ◌-ℤ◌, Bool, true, false, List, [], ◌∷◌, ◌++◌, length, take, drop, Option, Some, IfSome, refl, ap, sym, ◌∙◌, arith, add_assoc}
+use Rattle.std.proofs.Common.{◌≡◌, ℕ, suc, ◌+◌, ◌-◌, ◌*◌, ◌/◌, ◌^◌, ◌<◌, ◌≤◌, inl, inr, pos, negsuc, ◌-ℤ◌, Bool, true, false, List, [], ◌∷◌, ◌++◌, length, take, drop, Option, Some, IfSome, refl, ap, sym, ◌∙◌, arith, add_assoc}
 use Rattle.std.specs.Int.{cast_signed, w64}
 use Rattle.std.specs.Int.Digits.{number_from_digits, number_from_digits_after}
-use Rattle.std.specs.Char.Utf16.{utf16_lossy_chars}
+use Rattle.std.specs.Char.Utf16.{has_unpaired_surrogate, utf16_lossy_chars}
 use Rattle.std.specs.Str.{IsUtf8, is_utf8, encode_utf8_all}
-use Rattle.std.proofs.lemmas.Bool.{lt-ltb, le-ltb, le-leb, cases_lt}
+use Rattle.std.proofs.lemmas.Bool.{lt-leb, lt-ltb, le-ltb, le-leb, cases_lt}
 use Rattle.std.proofs.lemmas.Int.{ints}
 use Rattle.std.proofs.lemmas.Int.Digits.{number_after_append}
 use Rattle.std.proofs.lemmas.List.{length-append, length-take-le, length-drop, take-append-le}
@@ -17,13 +17,14 @@ use Rattle.plist_base.specs.declared.error.Error.{Error}
 use Rattle.plist_base.specs.Faults.{FaultKind, Fault, IntegerOutOfRange, InvalidUtf8String, InvalidUtf16String, MatchFault, kind_of, error_kind_of, offset_of, fault_of, fault_at}
 use Rattle.plist_base.specs.Trees.{Integer, String}
 use Rattle.plist_base.proofs.Refusals.{MatchFault-at, MatchFault-weaker}
-use Rattle.plist_base.specs.Container.{number_of}
-use Rattle.plist_decode.specs.Decoding.{Allocates, IsRefusedAs}
-use Rattle.plist_decode.specs.CountedContent.{content_means}
+use Rattle.plist_base.specs.Container.{number_of, numbers_spelled}
+use Rattle.plist_base.proofs.Utf16Forms.{no_fewer_bytes}
+use Rattle.plist_decode.specs.Decoding.{Allocates, IsRefusedAs, is_small_object}
+use Rattle.plist_decode.specs.CountedContent.{content_means, unit_size}
 use Rattle.plist_decode.specs.Reading.{IsIoOrMemoryAt}
 use Rattle.plist_decode.specs.declared.decoded.ContentKind.{ContentKind}
 use Rattle.plist_decode.specs.declared.decoded.ContentKind.TheVariants as kind
-use Rattle.plist_base.specs.Object.{Object, Scalar, Faulty, signed, integer_in_range, wide_integer, text, text_of_units, meaning_of_front}
+use Rattle.plist_base.specs.Object.{Object, Scalar, Faulty, signed, integer_in_range, wide_integer, text, text_of_units, wide_text, meaning_of_front}
 
 one_digit : (n b d power rest all : ℕ) → all ≡ b * power
     → (n * b + d) * power + rest ≡ n * all + ((0 * b + d) * power + rest)
@@ -112,6 +113,36 @@ text-not_utf8 bytes h = by (is_utf8 bytes) refl
     by : (b : Bool) → is_utf8 bytes ≡ b → text bytes ≡ Faulty InvalidUtf8String
     by true is = absurd (h (IsUtf8-from_is_utf8 _ is))
     by false is = rw is refl
+
+-- ---- what isn't small
+
+large_text : (content : List ℕ) → 8 < length content → is_small_object (text content) ≡ false
+large_text content long = by (is_utf8 content)
+  where
+    by : (b : Bool)
+        → is_small_object (if b then Scalar (String content) else Faulty InvalidUtf8String) ≡ false
+    by true = lt-leb _ 8 long
+    by false = refl
+
+large_wide_text : (content : List ℕ) → 8 < length content / 2
+    → is_small_object (wide_text content) ≡ false
+large_wide_text content long = by (has_unpaired_surrogate (numbers_spelled 2 content)) refl
+  where
+    by : (b : Bool) → has_unpaired_surrogate (numbers_spelled 2 content) ≡ b
+        → is_small_object (wide_text content) ≡ false
+    by true is = rw is refl
+    by false is = rw is (lt-leb _ 8 (omega (arith, long, no_fewer_bytes content is)))
+
+-- a string or data of more than eight elements isn't small
+pub large_content : (kind : ContentKind) (count : ℕ) (bytes : List ℕ) → 8 < count
+    → count * unit_size kind ≤ length bytes
+    → is_small_object (content_means kind (take (count * unit_size kind) bytes)) ≡ false
+large_content kind.Data count bytes long fits =
+    lt-leb _ 8 (omega (arith, long, length-take-le (count * 1) bytes fits))
+large_content kind.Text count bytes long fits =
+    large_text _ (omega (arith, long, length-take-le (count * 1) bytes fits))
+large_content kind.WideText count bytes long fits =
+    large_wide_text _ (omega (arith, long, length-take-le (count * 2) bytes fits))
 
 -- each string may need memory
 grows_text : (content : List ℕ) → Allocates (text content)

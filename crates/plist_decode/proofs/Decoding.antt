@@ -1,14 +1,16 @@
 -- What is decoded from an object, and how an object can be faulty.
-use Rattle.std.proofs.Common.{◌≡◌, ℕ, suc, inl, inr, ◌+◌, ◌-◌, ◌*◌, ◌<◌, ◌≤◌, List, ◌∷◌, ◌++◌, length, take, drop, replicate, Option, Some, ap, sym, subst, ◌∙◌, arith}
-use Rattle.std.proofs.lemmas.Bool.{cases_lt, le-leb}
+use Rattle.std.proofs.Common.{◌≡◌, false, true, refl, ℕ, suc, inl, inr, ◌+◌, ◌-◌, ◌*◌, ◌<◌, ◌≤◌, List, ◌∷◌, ◌++◌, length, take, drop, replicate, Option, None, Some, ap, sym, subst, ◌∙◌, arith}
+use Rattle.std.proofs.lemmas.Bool.{cases_lt, false≢true, le-leb}
 use Rattle.std.proofs.lemmas.List.{length-append, length-drop, length-take-le, drop-append-le}
 use Rattle.std.proofs.lemmas.Option.{IfSome_then}
 use Rattle.std.proofs.Math.ListN.{length-replicate}
 use Rattle.std.proofs.Math.Seq.{take-length}
 use Rattle.plist_base.specs.Trees as trees
-use Rattle.plist_base.specs.Object.{Object, Scalar, length_in, object_in}
+use Rattle.plist_base.specs.Events.{PlainEvent}
+use Rattle.plist_base.specs.Object.{Array, Dictionary, Faulty, Object, Scalar, date_if_any, length_in, object_in}
 use Rattle.plist_decode.specs.CountedContent.{content_means, counted_with, unit_size}
-use Rattle.plist_decode.specs.Decoded.{DecodesAt, DecodesSeen, FitsBefore, IsDecodedAs, MeansDecoded, IsLongCount}
+use Rattle.plist_decode.specs.Decoded.{DecodesAt, DecodesSeen, FitsBefore, IsDecodedAs, MeansDecoded, small_count}
+use Rattle.plist_decode.specs.Decoding.{IsCollection, is_small_object}
 use Rattle.plist_decode.specs.Front.{IsFrontAt}
 use Rattle.plist_decode.specs.Packed.{content_bytes}
 use Rattle.plist_decode.specs.Reading.{data_of_content, object_with}
@@ -29,18 +31,21 @@ use Rattle.plist_decode.proofs.ObjectFronts.{known_front, object_front}
 pub long_decoded : (kind : ContentKind) (low count first : ℕ) (rest following more : List ℕ)
     → length_in low (rest ++ more) ≡ Some (count, following ++ more)
     → count * unit_size kind ≤ length (following ++ more) → length following ≤ length rest
-    → drop (length rest - length following) rest ≡ following → IsLongCount kind count
+    → drop (length rest - length following) rest ≡ following
+    → is_small_object (content_means kind (take (count * unit_size kind) (following ++ more))) ≡ false
     → (width : ℕ) → IsDecodedAs width (first ∷ (rest ++ more)) (counted_with kind low (rest ++ more))
     (decoded.Long kind (1 + (length rest - length following)) count)
-long_decoded kind low count first rest following more is fits short lies long width =
+long_decoded kind low count first rest following more is fits short lies large width =
     let k = length rest - length following in
     let next : 1 + k ≡ suc k = omega arith in
     let there : drop (1 + k) (first ∷ (rest ++ more)) ≡ following ++ more =
-    rw next (drop-append-le k rest more (omega arith) ∙ ap (λ xs. xs ++ more) lies) in (
+    rw next (drop-append-le k rest more (omega arith) ∙ ap (λ xs. xs ++ more) lies) in
+    let means : counted_with kind low (rest ++ more)
+        ≡ content_means kind (take (count * unit_size kind) (following ++ more)) =
+    rw (is, le-leb (count * unit_size kind) (length (following ++ more)) fits) refl in (
       omega (arith, length-append rest more, length-append following more, fits, short),
-      rw (is, le-leb (count * unit_size kind) (length (following ++ more)) fits)
-          (ap (λ xs. content_means kind (take (count * unit_size kind) xs)) (sym there)),
-      long,
+      means ∙ ap (λ xs. content_means kind (take (count * unit_size kind) xs)) (sym there),
+      ap is_small_object means ∙ large,
     )
 
 -- data of at most eight bytes is decoded as a small scalar
@@ -74,12 +79,33 @@ few_bytes kind low count size first rest following bytes more answer is same see
     subst (λ object. IsDecodedAs width (first ∷ (rest ++ more)) object answer) (sym e)
     (means width (first ∷ (rest ++ more)))
 
-pub long_bytes : (kind : ContentKind) (count : ℕ) (bytes : List ℕ)
-    → length bytes ≡ count * unit_size kind → IsLongCount kind count
-    → IsLongCount kind (length bytes)
-long_bytes content_kind.Data count bytes is h = omega (arith, is, h)
-long_bytes content_kind.Text count bytes is h = omega (arith, is, h)
-long_bytes content_kind.WideText count bytes is h = tt
+-- ---- what is counted
+
+date_large : (found : Option (List ℕ)) → is_small_object (date_if_any found) ≡ false
+date_large None = refl
+date_large (Some bytes) = refl
+
+collection_large : (object : Object) (start : PlainEvent) (count : ℕ)
+    → IsCollection object start count → is_small_object object ≡ false
+collection_large (Array items) start count is = refl
+collection_large (Dictionary pairs) start count is = refl
+collection_large (Scalar scalar) start count is = absurd is
+collection_large (Faulty kind) start count is = absurd is
+
+-- a small scalar is decoded as one, and so it is counted
+pub small_counted : (width : ℕ) (bytes : List ℕ) (object : Object) (d : Decoded)
+    → IsDecodedAs width bytes object d → is_small_object object ≡ true → small_count d ≡ 1
+small_counted width bytes object (decoded.Small kind content) is small = refl
+small_counted width bytes object (decoded.Date content) is small =
+    absurd (false≢true (sym (ap is_small_object is ∙ date_large _) ∙ small))
+small_counted width bytes object (decoded.Long kind start count) is small =
+    absurd (false≢true (sym is.2 ∙ small))
+small_counted width bytes object (decoded.Collection kind start count) is small =
+    absurd (false≢true (sym (collection_large object _ _ is.0) ∙ small))
+small_counted width bytes object (decoded.Faulty fault) is small =
+    absurd (false≢true (sym (ap is_small_object is) ∙ small))
+
+-- ---- the bytes that were read
 
 -- if the content is short, all of its bytes are among those that were read
 pub content_enough : (size to_trailer rest following : ℕ) → (rest < 25 → to_trailer ≤ rest)
@@ -126,7 +152,7 @@ decoded_fits : (trailer place width : ℕ) (all : List ℕ) (object : Object) (d
 decoded_fits trailer place width all object (decoded.Small kind content) h is = is.1
 decoded_fits trailer place width all object (decoded.Date content) h is = tt
 decoded_fits trailer place width all object (decoded.Long kind start count) h is =
-    (omega (arith, h, is.0), is.2)
+    omega (arith, h, is.0)
 decoded_fits trailer place width all object (decoded.Collection kind start count) h is =
     (omega (arith, h, is.1), is.2)
 decoded_fits trailer place width all object (decoded.Faulty fault) h is = tt

@@ -1,17 +1,15 @@
 -- What is decoded from the bytes at an object's front, whatever follows them.
-use Rattle.std.specs.Prelude.{◌≡◌, ℕ, ◌+◌, ◌*◌, ◌^◌, ◌<◌, ◌≤◌, List, ◌∷◌, ◌++◌, length, take, drop, true, Option, Result, IfSome, MatchResult, ⊤}
+use Rattle.std.specs.Prelude.{◌≡◌, ℕ, ◌+◌, ◌*◌, ◌^◌, ◌<◌, ◌≤◌, List, ◌∷◌, ◌++◌, length, take, drop, true, false, Option, Result, IfSome, MatchResult, ⊤}
 use Rattle.plist_base.specs.declared.error.Error.{Error}
 use Rattle.plist_base.specs.Faults.{kind_of}
 use Rattle.plist_base.specs.Object.{Object, Scalar, Faulty, date, meaning_of_front, object_in}
 use Rattle.plist_decode.specs.CountedContent.{content_means, unit_size}
-use Rattle.plist_decode.specs.Decoding.{AreReferencesAt, IsCollection, IsRefusedAs, child_count, children_in, start_event}
+use Rattle.plist_decode.specs.Decoding.{AreReferencesAt, IsCollection, IsRefusedAs, child_count, children_in, is_small_object, start_event}
 use Rattle.plist_decode.specs.Reading.{bytes_at, object_at}
 use Rattle.plist_decode.specs.Packed.{content_bytes, is_packed, unpacked}
 use Rattle.plist_decode.specs.FaultOffsets.{ErrWithin}
 use Rattle.plist_decode.specs.StepFaults.{object_error_kind}
 use Rattle.plist_decode.specs.declared.decoded.Content.{Content}
-use Rattle.plist_decode.specs.declared.decoded.ContentKind.{ContentKind}
-use Rattle.plist_decode.specs.declared.decoded.ContentKind.TheVariants as content_kind
 use Rattle.plist_decode.specs.declared.decoded.Decoded.{Decoded}
 use Rattle.plist_decode.specs.declared.decoded.Decoded.TheVariants as decoded
 use Rattle.plist_decode.specs.declared.decoded.ObjectFault.{ObjectFault}
@@ -30,20 +28,6 @@ IsObjectFault object fault = object ≡ Faulty (kind_of (object_error_kind fault
 abbrev pub content_size : Content → ℕ
 content_size content = content.count * unit_size content.kind
 
--- a string or data of this many elements isn't small, or isn't known to be small
-abbrev pub IsLongCount : ContentKind → (count : ℕ) → Type 0
-IsLongCount content_kind.Data count = 8 < count
-IsLongCount content_kind.Text count = 8 < count
-IsLongCount content_kind.WideText count = ⊤
-
--- this content isn't known to be small
-abbrev pub IsLong : Content → Type 0
-IsLong content = IsLongCount content.kind content.count
-
--- a content of this kind with these bytes isn't known to be small
-abbrev pub IsLongBytes : ContentKind → List ℕ → Type 0
-IsLongBytes kind bytes = IsLongCount kind (length bytes)
-
 -- the object, whose bytes up to the trailer are these, was decoded as this
 abbrev pub IsDecodedAs : (width : ℕ) (bytes : List ℕ) → Object → Decoded → Type 0
 IsDecodedAs width bytes object (decoded.Small kind content) =
@@ -52,7 +36,7 @@ IsDecodedAs width bytes object (decoded.Date content) = object ≡ date (content
 IsDecodedAs width bytes object (decoded.Long kind start count) =
     (start + count * unit_size kind ≤ length bytes) × (object
     ≡ content_means kind (take (count * unit_size kind) (drop start bytes)))
-    × IsLongCount kind count
+    × (is_small_object object ≡ false)
 IsDecodedAs width bytes object (decoded.Collection kind start count) =
     IsCollection object (start_event kind count) (child_count kind count)
     × (child_count kind count ≤ length bytes) × (start < 16)
@@ -120,7 +104,7 @@ abbrev pub FitsBefore : (trailer place : ℕ) → Decoded → Type 0
 FitsBefore trailer place (decoded.Small kind content) = is_packed kind content ≡ true
 FitsBefore trailer place (decoded.Date content) = ⊤
 FitsBefore trailer place (decoded.Long kind start count) =
-    (place + start + count * unit_size kind ≤ trailer) × IsLongCount kind count
+    place + start + count * unit_size kind ≤ trailer
 FitsBefore trailer place (decoded.Collection kind start count) =
     (child_count kind count ≤ trailer) × (start < 16)
 FitsBefore trailer place (decoded.Faulty fault) = ⊤

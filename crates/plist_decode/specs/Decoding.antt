@@ -1,11 +1,11 @@
 -- What an object consists of, where its references lie, and what its decoding returns.
-use Rattle.std.specs.Prelude.{◌≡◌, ℕ, ◌+◌, ◌*◌, ◌/◌, ◌%◌, ◌<◌, ◌≤◌, List, [], length, if◌then◌else◌, slice_index, nat_eq, Option, None, Some, ⊤}
+use Rattle.std.specs.Prelude.{◌≡◌, ℕ, ◌+◌, ◌*◌, ◌/◌, ◌%◌, ◌<◌, ◌≤◌, Bool, false, List, [], length, if◌then◌else◌, slice_index, nat_eq, Option, None, Some, ⊤}
 use Rattle.plist_base.specs.declared.error.Error.{Error}
 use Rattle.plist_base.specs.Faults.{InvalidUtf8String, InvalidUtf16String, MatchFault, kind_of, error_kind_of, offset_of}
 use Rattle.plist_base.specs.Events.{PlainEvent, StartArray, StartDictionary}
 use Rattle.plist_base.specs.Trees as trees
 use Rattle.plist_base.specs.Trees.{Data, String}
-use Rattle.plist_decode.specs.Packed.{scalar_event}
+use Rattle.plist_decode.specs.Packed.{is_small, scalar_event}
 use Rattle.plist_base.specs.Container.{number_at}
 use Rattle.plist_base.specs.Object.{Object, Scalar, Array, Dictionary, Faulty, children_of}
 use Rattle.plist_decode.specs.declared.decoded.CollectionKind.{CollectionKind}
@@ -49,6 +49,13 @@ scalar_in (Faulty kind) = None
 -- the event of the object, or `None` if the object isn't a scalar
 abbrev pub scalar_event_in : Object → Option PlainEvent
 scalar_event_in object = scalar_event (scalar_in object)
+
+-- whether the object is a small scalar
+abbrev pub is_small_object : Object → Bool
+is_small_object (Scalar scalar) = is_small scalar
+is_small_object (Array items) = false
+is_small_object (Dictionary pairs) = false
+is_small_object (Faulty kind) = false
 
 -- ---- the references of a collection
 

@@ -2,11 +2,12 @@
 //!
 //! Each function reads the bytes that follow the marker.
 
-ghost use Rattle.std.specs.Prelude.{◌≡◌, ◌+◌, ◌-◌, ◌*◌, ◌%◌, ◌^◌, ◌<◌, ◌≤◌, length, IfNone, IfSome};
+ghost use Rattle.std.specs.Prelude.{◌≡◌, ◌+◌, ◌-◌, ◌*◌, ◌%◌, ◌^◌, ◌<◌, ◌≤◌, false, length, IfNone, IfSome, MatchOption};
 ghost use Rattle.plist_base.specs.Trees.{String};
 ghost use Rattle.plist_base.specs.Object.{Scalar, text, wide_text};
 ghost use Rattle.plist_decode.specs.CountedContent.{EndsBefore, IsCount, IsLength, IsLengthCut, LiesAfter, RefusesCounted, counted_with};
 ghost use Rattle.plist_decode.specs.Decoded.{DecodesAfter, DecodesScalar, MeansDecoded};
+ghost use Rattle.plist_decode.specs.Decoding.{is_small_object};
 ghost use Rattle.plist_decode.specs.Reading.{counted_kind, object_counted};
 ghost use Rattle.plist_decode.specs.declared.decoded.ContentKind.TheVariants.{Data as KindData, Text as KindText, WideText as KindWideText};
 ghost use Rattle.plist_decode.specs.declared.decoded.Decoded.TheVariants.{Long as LongContent};
@@ -139,7 +140,8 @@ pub fn decode_text(low: LowHalf, rest: AfterMarker<'_>) -> Decoded
 // can't be packed then.
 fn short_wide_text(bytes: &[u8]) -> Option<Decoded>
     requires { length bytes.now % 2 ≡ 0 }
-    ensures { IfSome result (MeansDecoded (wide_text bytes.now)) }
+    ensures { MatchOption result (is_small_object (wide_text bytes.now) ≡ false)
+        (MeansDecoded (wide_text bytes.now)) }
 {
     let Some(text) = Utf16Str::new(bytes) else {
         return Some(Decoded::Faulty(ObjectFault::NotUtf16));

@@ -3,7 +3,7 @@
 ghost use Rattle.std.specs.Prelude.{◌≡◌, ◌+◌, IfOk, OnOk, Some};
 ghost use Rattle.plist_base.specs.Sources.{CountsIo};
 ghost use Rattle.plist_base.specs.Outcomes.{IfRead, IfRefused};
-ghost use Rattle.plist_decode.specs.Decoded.{EndsIn64Bits, FailsInContent, IsLong, IsLongBytes, content_size};
+ghost use Rattle.plist_decode.specs.Decoded.{EndsIn64Bits, FailsInContent, content_size};
 ghost use Rattle.plist_decode.specs.Reading.{AreBytesAt, IsIoOrMemoryAt};
 ghost use Rattle.plist_decode.specs.CountedContent.{AreUnits, unit_size};
 ghost use Rattle.plist_decode.specs.StepFaults.{result_with};
@@ -30,12 +30,10 @@ pub fn read_content<S: Source, C: DecodeCounter>(
     content: Content,
 ) -> Result<Vec<u8>, StepFault>
     requires fits { EndsIn64Bits place content }
-    requires long { IsLong content }
     // Result.
     ensures bytes { IfRead result (S.known source.old)
         (AreBytesAt (place + content.start) (content_size content)) }
     ensures units { IfOk result (λ bytes. AreUnits (unit_size content.kind) bytes.items) }
-    ensures long { IfOk result (λ bytes. IsLongBytes content.kind bytes.items) }
     // Errors.
     ensures refused { IfRefused (result_with result decoder.new.details) (S.known source.old)
         (IsIoOrMemoryAt (place + content.start) (content_size content)) }
