@@ -109,8 +109,8 @@ module _ (known : Option (List ℕ)) (bounds : Bounds) (old mid : Walk) (frame :
 
       -- the child is cached if its event is that of a small scalar
       pub child_kept : (answer : Result Flow Error) (current : PlainEvent) (tags : List ℕ)
-          → IsCachedIfSmall (λ _. current) (Some number) (Some answer) tags
+          → IfSome now (λ _. IsCachedIfSmall (λ _. current) (Some number) (Some answer) tags)
           → IfSome known (λ bytes. IsCachedIfSmall (λ _. current)
           (next_number (entries_of bytes bounds) (open_in old)) (Some answer) tags)
-      child_kept answer current tags kept = IfSome_then known (child_read (Ok number) reads)
-          (λ bytes child. rw (child.0.0.3, ← child.1) kept)
+      child_kept answer current tags kept = IfSome-both known (child_read (Ok number) reads)
+          (rw same at kept) (λ bytes child kept. rw (child.0.0.3, ← child.1) kept)

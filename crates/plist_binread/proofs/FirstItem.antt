@@ -196,10 +196,11 @@ pub known_few : (known : Option (List ℕ)) (tags : List ℕ) → length tags �
 known_few known tags count = IfSome-all known (λ bytes. omega arith)
 
 -- the root is cached if it is small
-pub known_cached : (known : Option (List ℕ)) (head : code.Head) (number : ℕ)
-    (answer : Result Flow Error) (event : PlainEvent) (tags : List ℕ) → head.root ≡ number
+pub known_cached : (known now : Option (List ℕ)) (head : code.Head) (number : ℕ)
+    (answer : Result Flow Error) (event : PlainEvent) (tags : List ℕ) → now ≡ known
+    → head.root ≡ number
     → IfSome known (λ bytes. head_of bytes ≡ Ok (head_seen head))
-    → IsCachedIfSmall (λ _. event) (Some number) (Some answer) tags
+    → IfSome now (λ _. IsCachedIfSmall (λ _. event) (Some number) (Some answer) tags)
     → IfSome known (λ bytes. IsCachedIfSmall (λ _. event) (root_with (head_of bytes)) (Some answer) tags)
-known_cached known head number answer event tags root value caches =
-    IfSome_then known value (λ bytes is. rw (is, root) caches)
+known_cached known now head number answer event tags same root value caches =
+    IfSome-both known value (rw same at caches) (λ bytes is caches. rw (is, root) caches)

@@ -8,10 +8,11 @@ use Rattle.plist_base.specs.declared.limits.LimitCounter.{LimitCounter}
 use Rattle.plist_base.specs.Events.{Item, PlainEvent}
 use Rattle.plist_base.specs.Faults.{Fault, FaultKind, Io, LimitReached, MatchFault, OutOfMemory, error_kind_of, fault_of, kind_of}
 use Rattle.plist_base.specs.FirstItems.{GivesFirst, StopsIf}
-use Rattle.plist_base.specs.Limits.{Admits, event_or_limit, limited_by}
+use Rattle.plist_base.specs.Limits.{Admits, KeepsLimits, event_or_limit, limited_by}
 use Rattle.plist_base.specs.Visits.{Flow, PlainItem, TakesTurn, item_with}
 use Rattle.plist_binread.specs.BinaryReader.{HasEndedBinary, Steps, Walks, has_limits, is_new, remaining_now, unlimited_items}
 use Rattle.plist_decode.specs.FaultOffsets.{ItemGivenWithin, MatchGiven}
+use Rattle.plist_binread.proofs.ReaderLimits.{not_limit}
 use Rattle.plist_binread.specs.Handovers.{HandsItem, TakesWithin}
 use Rattle.plist_binread.specs.Remaining.{AllocatesFirst, AllocatesNext, SomeRemain, cached_count}
 use Rattle.plist_decode.specs.StepFaults.{error_of, item_kept}
@@ -99,6 +100,15 @@ given_within limited (Some (Err error)) start end h =
     by (LimitReached limit) A B C D p = absurd (cc p.0)
     by kind A B C D p = p
 
+-- what the limits admit, they admit of the walk's items
+admitted_within : (limits next : LimitCounter) (item : PlainItem) (start end : ℕ)
+    → AdmitsItem limits item next → ItemGivenWithin start end false item
+    → KeepsLimits (λ event. event) (limited_by limits) item (limited_by next)
+admitted_within limits next None start end admits h = tt
+admitted_within limits next (Some (Ok event)) start end admits h = admits
+admitted_within limits next (Some (Err error)) start end admits h =
+    not_limit start end (fault_of error) _ h
+
 -- ---- the whole step
 
 -- after an error no item remains
@@ -125,6 +135,7 @@ module _ {R C : Type 0} {g : Ghosts R} {h : CounterGhosts C} (old mid new : Bina
           items = rw (was, now, state, decoder, walk) (IfSome_then (g.known old.source) w.items
               (λ bytes. first_within limits next (is_new old) (unlimited_items bytes old)
               (unlimited_items bytes mid) item admits (none_left bytes mid item w.ends)));
+          admitted = rw (was, now) (admitted_within limits next item 0 (2 ^ 64) admits w.faults);
           failures = rw source w.failures;
           ended = w.ended;
           unasked = λ e. source ∙ w.unasked e;

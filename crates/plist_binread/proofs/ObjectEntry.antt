@@ -1,9 +1,9 @@
 -- What is true when an object is entered.
-use Rattle.std.proofs.Common.{◌≡◌, ℕ, ◌<◌, ◌≤◌, false, List, length, get_or, Option, Some, Result, Ok, Err, IfSome, ap, subst, ◌∙◌}
+use Rattle.std.proofs.Common.{◌≡◌, ℕ, ◌<◌, ◌≤◌, false, List, length, get_or, Option, None, Some, Result, Ok, Err, IfSome, ap, subst, ◌∙◌}
 use Rattle.std.specs.List.{slice_get}
 use Rattle.plist_base.specs.Events.{PlainEvent}
 use Rattle.plist_base.specs.declared.error.Error.{Error}
-use Rattle.plist_decode.specs.Reading.{object_at}
+use Rattle.plist_decode.specs.Reading.{bytes_at, object_at}
 use Rattle.plist_decode.specs.declared.decoded.ContentKind.{ContentKind}
 use Rattle.plist_decode.specs.declared.decoded.Decoded.{Decoded}
 use Rattle.plist_decode.specs.declared.decoded.Decoded.TheVariants as decoded
@@ -13,20 +13,20 @@ use Rattle.plist_decode.specs.StepFaults.{result_with}
 use Rattle.std.specs.Prelude.{OnOk}
 use Rattle.plist_decode.specs.declared.head.Bounds.{Bounds}
 use Rattle.plist_binread.specs.declared.walk.Walk.{Walk}
-use Rattle.plist_binread.specs.Walking.{IsKnownWalk, IsWalkOf, open_in, remaining_entering, remaining_in, walk_objects}
+use Rattle.plist_binread.specs.Walking.{IsCachedIfSmall, IsKnownWalk, IsWalkOf, open_in, remaining_entering, remaining_in, walk_objects}
 use Rattle.plist_binread.specs.Remaining.{Explains, entries_of}
-use Rattle.plist_decode.specs.Decoded.{DecodesAt, IsDecodedThere, RefusesObjectAt}
+use Rattle.plist_decode.specs.Decoded.{DecodesAt, IsDecodedThere, RefusesObjectAt, small_count}
 use Rattle.plist_binread.specs.ObjectEvents.{SetsDecoded, SetsEvent, event_of_object, is_refused}
 use Rattle.plist_decode.specs.Decoding.{IsRefusedAs}
 use Rattle.plist_binread.specs.Step.{YieldsResult, YieldsCurrent, OpensObject}
 use Rattle.plist_base.specs.Unfolding.{until_fault}
 use Rattle.plist_decode.specs.Packed.{is_marked, unmarked, cached, scalar_event}
-use Rattle.plist_binread.proofs.ObjectEvents.{named-long}
+use Rattle.plist_binread.proofs.ObjectEvents.{decoded_small, named-long}
 use Rattle.plist_binread.proofs.OpenObjects.{not_open}
 use Rattle.plist_binread.proofs.WalkSteps.{yields_scalar}
 use Rattle.plist_binread.proofs.WalkInvariant.{IsPlaceIn, as_many, entry_of, entry_there, found_refused, found_scalar, held_scalar, place_is}
 use Rattle.std.proofs.lemmas.Option.{IfSome_then}
-use Rattle.plist_decode.proofs.UnknownBytes.{IfSome-both, IfSome-three}
+use Rattle.plist_decode.proofs.UnknownBytes.{IfSome-all, IfSome-both, IfSome-three}
 
 -- the object of this number, which lies at `place`, was decoded as `d`
 pub record IsDecodedAt (bytes : List ℕ) (bounds : Bounds) (number place : ℕ) (d : Decoded) : Type 0
@@ -57,6 +57,11 @@ long_opens number start count kind walk below new bytes bounds entry k is found 
 pub always_ok : {A E : Type 0} (P : Type 0) (answer : Result A E) → P → OnOk answer P
 always_ok P (Ok value) p = p
 always_ok P (Err error) p = tt
+
+-- a true statement is true of bytes that may be unknown
+pub always_known : {X : Type 0} (known : Option X) (P : Type 0) → P → IfSome known (λ _. P)
+always_known None P p = tt
+always_known (Some bytes) P p = p
 
 -- what is true after `Ok` is true of the result with its error
 pub on_answer : {A : Type 0} (P : Type 0) (answer : Result A StepFault) (details : FaultDetails)
@@ -129,6 +134,20 @@ module _ (known : Option (List ℕ)) (bounds : Bounds) (walk : Walk) (number : �
       by bytes k t yields (Err e) found sets =
           found_refused bytes bounds walk.tags.items walk.contents.items (open_in walk) k walk.path
           at number h free e (subst (λ p. IsRefusedAs (object_at bounds p bytes) p e) t.at_place sets)
+
+  -- the object is cached if the event is that of a small scalar
+  pub known_cached : {A : Type 0} (place : ℕ) (d : Decoded) (now : Option (List ℕ))
+      (answer : Result A Error) (current : PlainEvent) (tags : List ℕ) → now ≡ known
+      → IfSome known (λ bytes. IsDecodedAt bytes bounds number place d)
+      → SetsDecoded now bounds place d answer current
+      → (small_count d ≡ 1 → 0 < unmarked (get_or tags number 0))
+      → IfSome known (λ _. IsCachedIfSmall (λ _. current) (Some number) (Some answer) tags)
+  known_cached place d now (Err error) current tags same there sets caches =
+      IfSome-all known (λ _. tt)
+  known_cached place d now (Ok value) current tags same there sets caches =
+      IfSome-both known there (rw same at sets) (λ bytes t sets small. caches
+      (decoded_small bounds.reference_width (bytes_at bounds place bytes)
+      (object_at bounds place bytes) d current t.decoded (sets t.within t.decoded) small))
 
   -- after the object was entered, the walk is still one over the file
   pub known_opens : (place : ℕ) (d : Decoded) (new : Walk)

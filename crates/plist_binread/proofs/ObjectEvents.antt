@@ -1,31 +1,26 @@
 -- The event of an object that was decoded.
-use Rattle.std.proofs.Common.{◌≡◌, ℕ, ◌+◌, ◌<◌, ◌≤◌, Bool, true, false, List, length, take, drop, get_or, Option, None, Some, Result, Ok, Err, IfSome, refl, ap, sym, subst, ◌∙◌, arith}
-use Rattle.std.specs.Prelude.{OnOk, if◌then◌else◌, IsUtf8}
-use Rattle.std.proofs.lemmas.Bool.{false≢true, lt-leb}
+use Rattle.std.proofs.Common.{◌≡◌, ℕ, ◌+◌, ◌≤◌, Bool, true, false, List, length, take, drop, Option, None, Some, Result, Ok, Err, IfSome, refl, ap, sym, subst, ◌∙◌, arith}
+use Rattle.std.specs.Prelude.{if◌then◌else◌, IsUtf8}
 use Rattle.std.proofs.lemmas.List.{drop-drop}
 use Rattle.std.proofs.lemmas.Option.{IfSome_then}
 use Rattle.plist_base.specs.declared.error.Error.{Error}
-use Rattle.plist_base.specs.Events.{PlainEvent, ScalarEvent}
+use Rattle.plist_base.specs.Events.{PlainEvent, ScalarEvent, StartArray, StartDictionary}
 use Rattle.plist_base.specs.Faults.{FaultKind}
-use Rattle.plist_base.specs.Faults as faults
 use Rattle.plist_base.specs.Sources.{LiesAt}
 use Rattle.plist_base.specs.Trees as trees
 use Rattle.plist_base.specs.Object.{Object, Scalar, Array, Dictionary, Faulty, date, date_if_any, text}
 use Rattle.plist_decode.specs.CountedContent.{content_means}
 use Rattle.plist_decode.proofs.Contents.{text-utf8, text-not_utf8}
-use Rattle.plist_decode.specs.Decoded.{FitsBefore, content_size, small_count}
-use Rattle.plist_binread.specs.ObjectEvents.{FitsWalk, SetsContentAt, SetsDecoded, SetsEvent, SetsLarge, event_of_object}
-use Rattle.plist_decode.specs.Decoding.{IsCollection, scalar_event_in}
-use Rattle.plist_decode.specs.Packed.{is_small_event, unmarked}
-use Rattle.plist_binread.specs.Walking.{IsCachedIfSmall}
-use Rattle.plist_decode.specs.StepFaults.{result_with}
+use Rattle.plist_decode.proofs.Decoding.{small_counted}
+use Rattle.plist_decode.specs.Decoded.{FitsBefore, IsDecodedAs, content_size, small_count}
+use Rattle.plist_binread.specs.ObjectEvents.{FitsWalk, SetsContentAt, SetsDecoded, SetsEvent, SetsUnread, event_of_object}
+use Rattle.plist_decode.specs.Decoding.{IsCollection, is_small_object, scalar_event_in}
+use Rattle.plist_decode.specs.Packed.{is_small_event}
 use Rattle.plist_decode.specs.declared.decoded.Content.{Content}
 use Rattle.plist_decode.specs.declared.decoded.ContentKind.{ContentKind}
 use Rattle.plist_decode.specs.declared.decoded.ContentKind.TheVariants as content_kind
 use Rattle.plist_decode.specs.declared.decoded.Decoded.{Decoded}
 use Rattle.plist_decode.specs.declared.decoded.Decoded.TheVariants as decoded
-use Rattle.plist_decode.specs.declared.step_fault.FaultDetails.{FaultDetails}
-use Rattle.plist_decode.specs.declared.step_fault.StepFault.{StepFault}
 use Rattle.plist_decode.specs.declared.step_fault.StepFault.TheVariants as fault
 use Rattle.plist_decode.specs.declared.head.Bounds.{Bounds}
 use Rattle.plist_decode.proofs.NumberRuns.{take-drop-take}
@@ -127,18 +122,7 @@ long_sets known bounds place content answer current lies sets =
     subst (λ object. SetsEvent object place answer current) (sym there)
     (sets (omega (arith, lies, fits))))
 
--- ---- what is small
-
-large_text : (bytes : List ℕ) (current : PlainEvent) → 8 < length bytes
-    → event_of_object (text bytes) ≡ Some current → is_small_event current ≡ false
-large_text bytes current h is = by _ is
-  where
-    by : (b : Bool) → event_of_object (if b then Scalar (trees.String bytes) else Faulty
-        faults.InvalidUtf8String) ≡ Some current → is_small_event current ≡ false
-    by true is =
-        let e : current ≡ ScalarEvent (trees.String bytes) = cc in
-        ap is_small_event e ∙ lt-leb _ 8 h
-    by false is = absurd (cc)
+-- ---- a string
 
 -- the event of a string in UTF-8
 utf8_event : (bytes string : List ℕ) → string ≡ bytes → IsUtf8 bytes
@@ -147,39 +131,40 @@ utf8_event bytes string same utf8 =
     ap event_of_object (text-utf8 bytes utf8)
     ∙ ap (λ content. Some (ScalarEvent (trees.String content))) (sym same)
 
--- bytes that are UTF-8 and more than eight are set as a string
-pub text_set : {A : Type 0} (bytes string : List ℕ) (value : A) → 8 < length bytes
+-- bytes that are UTF-8 are set as a string
+pub text_set : {A : Type 0} (bytes string : List ℕ) (value : A)
     → string ≡ bytes → IsUtf8 bytes
-    → SetsLarge (text bytes) (Ok value) (ScalarEvent (trees.String string))
-text_set bytes string value long same utf8 = let is = utf8_event bytes string same utf8 in record {
+    → SetsUnread (text bytes) (Ok value) (ScalarEvent (trees.String string))
+text_set bytes string value same utf8 = let is = utf8_event bytes string same utf8 in record {
   sets = λ details. is;
-  large = large_text bytes _ long is;
   fault = λ details start end. tt;
   never_io = λ details. tt;
 }
 
 -- bytes that aren't UTF-8 are a fault
 pub text_refused : {A : Type 0} (bytes : List ℕ) (current : PlainEvent) → (IsUtf8 bytes → ⊥)
-    → SetsLarge {A = A} (text bytes) (Err fault.NotUtf8) current
+    → SetsUnread {A = A} (text bytes) (Err fault.NotUtf8) current
 text_refused bytes current none = record {
   sets = λ details. (text-not_utf8 bytes none, refl);
-  large = tt;
   fault = λ details start end. record { placed = tt };
   never_io = λ details. tt;
 }
 
--- if the event isn't that of a small scalar, the object need not have been decoded as one
-pub large_unlike : {A E : Type 0} (answer : Result A E) (d : Decoded) (current : PlainEvent)
-    → OnOk answer (is_small_event current ≡ false)
-    → OnOk answer (is_small_event current ≡ true → small_count d ≡ 1)
-large_unlike (Ok value) d current large = λ small. absurd (false≢true (sym large ∙ small))
-large_unlike (Err error) d current large = tt
+-- ---- what is small
 
--- if the event is that of a small scalar, the object is cached
-pub cached_if : {A : Type 0} (number : ℕ) (answer : Result A StepFault) (details : FaultDetails)
-    (current : PlainEvent) (d : Decoded) (tags : List ℕ)
-    → OnOk answer (is_small_event current ≡ true → small_count d ≡ 1)
-    → (small_count d ≡ 1 → 0 < unmarked (get_or tags number 0))
-    → IsCachedIfSmall (λ _. current) (Some number) (Some (result_with answer details)) tags
-cached_if number (Ok value) details current d tags small caches = λ is. caches (small is)
-cached_if number (Err fault) details current d tags small caches = tt
+-- the event of an object is that of a small scalar only if the object is one
+event_small : (object : Object) (event : PlainEvent) → event_of_object object ≡ Some event
+    → is_small_event event ≡ is_small_object object
+event_small (Scalar scalar) event is = let e : event ≡ ScalarEvent scalar = cc in ap is_small_event e
+event_small (Array items) event is =
+    let e : event ≡ StartArray (Some (length items)) = cc in ap is_small_event e
+event_small (Dictionary pairs) event is =
+    let e : event ≡ StartDictionary (Some (length pairs)) = cc in ap is_small_event e
+event_small (Faulty kind) event is = absurd (cc)
+
+-- if the event is that of a small scalar, the object was decoded as one
+pub decoded_small : (width : ℕ) (bytes : List ℕ) (object : Object) (d : Decoded)
+    (event : PlainEvent) → IsDecodedAs width bytes object d → event_of_object object ≡ Some event
+    → is_small_event event ≡ true → small_count d ≡ 1
+decoded_small width bytes object d event is named small =
+    small_counted width bytes object d is (sym (event_small object event named) ∙ small)

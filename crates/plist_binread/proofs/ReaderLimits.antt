@@ -1,16 +1,16 @@
 -- How limits change the result of one call.
-use Rattle.std.proofs.Common.{◌≡◌, ℕ, Bool, true, List, [], ◌∷◌, Option, None, Some, Ok, Err, IfSome, refl}
+use Rattle.std.proofs.Common.{◌≡◌, ℕ, Bool, true, false, List, [], ◌∷◌, Option, None, Some, Ok, Err, IfSome, refl}
 use Rattle.std.specs.Option.{is_some}
 use Rattle.plist_base.specs.declared.error.Error.{Error}
 use Rattle.plist_base.specs.declared.limits.Limit.{Limit}
 use Rattle.plist_base.specs.declared.limits.LimitCounter.{LimitCounter}
 use Rattle.plist_base.specs.Events.{PlainEvent, Item}
-use Rattle.plist_base.specs.Faults.{Fault, LimitReached, MatchFault, fault_of, fault_without_offset}
-use Rattle.plist_base.specs.Limits.{RefusesAny, limited_by_any}
+use Rattle.plist_base.specs.Faults.{Fault, FaultKind, LimitReached, MatchFault, fault_of, fault_without_offset}
+use Rattle.plist_base.specs.Limits.{IfLimitReached, IsLimitReached, KeepsLimits, RefusesAny, limited_by_any}
 use Rattle.plist_base.specs.Visits.{PlainItem}
 use Rattle.plist_base.specs.FirstItems.{GivesFirst, StopsIf}
 use Rattle.plist_binread.specs.Remaining.{AllocatesNext, SomeRemain}
-use Rattle.plist_decode.specs.FaultOffsets.{IsGivenWithin}
+use Rattle.plist_decode.specs.FaultOffsets.{IsGivenWithin, MatchGiven}
 use Rattle.std.proofs.lemmas.Option.{IfSome_then}
 
 -- ---- the error of a limit
@@ -38,10 +38,33 @@ limit-given : (start end : ℕ) (limited : Bool) (fault : Fault) (limit : Limit)
     → fault ≡ fault_without_offset (LimitReached limit) → IsGivenWithin start end limited fault
 limit-given start end limited fault limit e is = rw is (record { placed = (e, refl) })
 
+-- without limits, no error is that of a limit
+pub not_limit : (start end : ℕ) (fault : Fault) (P : Type 0) → IsGivenWithin start end false fault
+    → IfLimitReached fault.kind P
+not_limit start end fault P h = by fault.kind _ _ _ _ h.placed
+  where
+    by : (kind : FaultKind) (A B C D : Type 0) → MatchGiven kind A B C ((false ≡ true) × D)
+        → IfLimitReached kind P
+    by (LimitReached limit) A B C D p = absurd (cc p.0)
+    by kind A B C D p = tt
+
 pub refused-given : (start end : ℕ) (limiter : Option LimitCounter) (event : PlainEvent) (fault : Fault)
     → RefusesAny limiter event fault → IsGivenWithin start end (is_some limiter) fault
 refused-given start end limiter event fault r =
     let by = by-limit limiter event fault r in limit-given start end _ fault by.1 by.0 by.2
+
+pub is_limit : (fault : Fault) (P : Type 0) → IsLimitReached fault → P
+    → IfLimitReached fault.kind P
+is_limit fault P (limit, is) p = rw is p
+
+-- in place of an event, the error of a limit is yielded
+pub refused-keeps : (limiter now : Option LimitCounter) (event : PlainEvent) (error : Error)
+    → RefusesAny limiter event (fault_of error)
+    → KeepsLimits {E = PlainEvent} (λ event. event) (limited_by_any limiter) (Some (Err error))
+    (limited_by_any now)
+refused-keeps limiter now event error r =
+    let by = by-limit limiter event (fault_of error) r in
+    is_limit (fault_of error) _ (by.1, by.2) (event, ((by.1, by.2), by.3))
 
 pub none-under : (limiter : Option LimitCounter) → limited_by_any limiter [] ≡ []
 none-under None = refl

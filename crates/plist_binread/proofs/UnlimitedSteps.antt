@@ -23,6 +23,7 @@ use Rattle.plist_decode.specs.StepFaults.{error_of, item_kept, result_with}
 use Rattle.plist_base.proofs.Refusals.{MatchFault-all}
 use Rattle.plist_decode.proofs.FaultOffsets.{from_within}
 use Rattle.plist_decode.proofs.UnknownBytes.{IfSome-all, IfSome-never}
+use Rattle.plist_binread.proofs.ReaderLimits.{not_limit}
 use Rattle.plist_binread.proofs.WalkSteps.{steps_up}
 use Rattle.plist_binread.proofs.ReaderCalls.{holds_head, left_behind, yields_error}
 use Rattle.std.proofs.lemmas.Option.{IfSome_then}
@@ -73,6 +74,7 @@ module _ {R C : Type 0} {g : Ghosts R} {h : CounterGhosts C} (old new : BinaryRe
     gives = record {
       unchanged = same;
       items = simp (fresh, is) (IfSome_then (g.known old.source) yields.first (λ bytes first. first));
+      admitted = λ items. refl;
       failures = failures;
       ended = λ e. absurd (cc);
       unasked = λ e. absurd (cc);
@@ -95,6 +97,7 @@ module _ {R C : Type 0} {g : Ghosts R} {h : CounterGhosts C} (old new : BinaryRe
       unchanged = same;
       items = simp (fresh, is) (IfSome_then (g.known old.source) yields.first
           (λ bytes. yields_error (λ event. event) true (items_of_file bytes) (error_of r new.decoder.details)));
+      admitted = not_limit _ _ _ _ within;
       failures = failures;
       ended = λ e. absurd (cc);
       unasked = λ e. absurd (cc);
@@ -129,6 +132,7 @@ module _ {R C : Type 0} {g : Ghosts R} {h : CounterGhosts C} (old new : BinaryRe
       unchanged = same;
       items = simp (walking, is) (IfSome_then (g.known old.source) yields
           (λ bytes nothing. (ap until_fault nothing.0, refl)));
+      admitted = tt;
       failures = failures;
       ended = λ e. refl;
       unasked = λ e. absurd (cc);
@@ -147,6 +151,7 @@ module _ {R C : Type 0} {g : Ghosts R} {h : CounterGhosts C} (old new : BinaryRe
     gives = record {
       unchanged = same;
       items = simp (walking, is) (IfSome_then (g.known old.source) yields (λ bytes next. next));
+      admitted = λ items. refl;
       failures = failures;
       ended = λ e. absurd (cc);
       unasked = λ e. absurd (cc);
@@ -167,6 +172,7 @@ module _ {R C : Type 0} {g : Ghosts R} {h : CounterGhosts C} (old new : BinaryRe
       items = simp (walking, is) (IfSome_then (g.known old.source) yields
           (λ bytes. yields_error (λ event. event) false
           (until_fault (remaining_in bytes old.decoder.bounds old.walk)) (error_of r new.decoder.details)));
+      admitted = not_limit _ _ _ _ within;
       failures = failures;
       ended = λ e. absurd (cc);
       unasked = λ e. absurd (cc);

@@ -6,7 +6,7 @@ use Rattle.plist_base.specs.declared.event.Event.{Event}
 use Rattle.plist_base.specs.declared.source.Source.{Ghosts}
 use Rattle.plist_base.specs.Events.{PlainEvent, Item, event_of}
 use Rattle.plist_base.specs.FirstItems.{GivesFirst, StopsIf}
-use Rattle.plist_base.specs.Limits.{limited_by_any}
+use Rattle.plist_base.specs.Limits.{KeepsLimits, limited_by_any}
 use Rattle.plist_base.specs.Sources.{CountsIo}
 use Rattle.plist_base.specs.Visits.{PlainItem}
 use Rattle.plist_base.specs.Container.{head_of}
@@ -48,9 +48,13 @@ module _ {R C : Type 0} {g : Ghosts R} {h : CounterGhosts C} where
   unlimited_items bytes reader =
       remaining_now bytes reader.state reader.decoder.bounds reader.walk.frames
 
+  -- the items of a list that the reader's limits admit, or all of them without limits
+  abbrev pub admitted_by : BinaryReader R C g h → List Item → List Item
+  admitted_by reader = limited_by_any reader.limiter
+
   -- the items that remain if these are the bytes of the file
   abbrev pub items_to_come : List ℕ → BinaryReader R C g h → List Item
-  items_to_come bytes reader = limited_by_any reader.limiter (unlimited_items bytes reader)
+  items_to_come bytes reader = admitted_by reader (unlimited_items bytes reader)
 
   -- if the bytes are known, all items that `items` returns for them remain
   abbrev pub WillGive : (known : Option (List ℕ)) → (items : List ℕ → List Item)
@@ -94,9 +98,9 @@ module _ {R C : Type 0} {g : Ghosts R} {h : CounterGhosts C} where
         × (length new.walk.frames ≤ objects_in_head bytes))
 
 module _ {R C : Type 0} {g : Ghosts R} {h : CounterGhosts C} (old : BinaryReader R C g h) where
-  -- one call yields an item; `shown` returns the event of a value, `coming` the remaining items
+  -- one call yields an item; `shown` returns the event of a value, `lets` the items that are admitted
   pub record GivesBinaryBy {A : Type 0} (shown : A → PlainEvent)
-      (coming : List ℕ → BinaryReader R C g h → List Item) (limited : BinaryReader R C g h → Bool)
+      (lets : BinaryReader R C g h → List Item → List Item) (limited : BinaryReader R C g h → Bool)
       (item : Option (Result A Error)) (new : BinaryReader R C g h) : Type 0 where
     pub unchanged : g.known (binary_source new) ≡ g.known (binary_source old)
     -- The item is the first that remained, and the others remain. No item remains after `None`, `Io`
@@ -104,7 +108,10 @@ module _ {R C : Type 0} {g : Ghosts R} {h : CounterGhosts C} (old : BinaryReader
     -- remained, and `OutOfMemory` only if the first item needs memory, or if the reader is new and an
     -- item remained.
     pub items : IfSome (g.known (binary_source old)) (λ bytes. GivesFirst shown (StopsIf SomeRemain)
-        (StopsIf (AllocatesNext (is_new old))) (coming bytes old) item (coming bytes new))
+        (StopsIf (AllocatesNext (is_new old))) (lets old (unlimited_items bytes old)) item
+        (lets new (unlimited_items bytes new)))
+    -- an event is one that the limits admit, and `LimitReached` replaces one that they don't admit
+    pub admitted : KeepsLimits shown (lets old) item (lets new)
     pub failures : CountsIo item (g.failures (binary_source old)) (g.failures (binary_source new))
     pub ended : HasEndedBinary old → item ≡ None
     -- a reader that has ended doesn't call its source
@@ -131,20 +138,20 @@ module _ {R C : Type 0} {g : Ghosts R} {h : CounterGhosts C} (old : BinaryReader
 
   -- one call of `next` yields an item
   abbrev pub GivesBinary : Option (Result Event Error) → (new : BinaryReader R C g h) → Type 0
-  GivesBinary item new = GivesBinaryBy event_of items_to_come has_limits item new
+  GivesBinary item new = GivesBinaryBy event_of admitted_by has_limits item new
 
   -- one step yields an item as `GivesBinaryBy` says; if there is one, the bound `binary_steps`
   -- falls
-  pub record StepsBy (coming : List ℕ → BinaryReader R C g h → List Item)
+  pub record StepsBy (lets : BinaryReader R C g h → List Item → List Item)
       (limited : BinaryReader R C g h → Bool) (item : PlainItem) (new : BinaryReader R C g h) : Type 0
     where
-      pub gives : GivesBinaryBy (λ event. event) coming limited item new
+      pub gives : GivesBinaryBy (λ event. event) lets limited item new
       pub falls : IfSome item (λ _. binary_steps new < binary_steps old)
 
   -- one step of the reader, within its limits
   abbrev pub Steps : PlainItem → (new : BinaryReader R C g h) → Type 0
-  Steps item new = StepsBy items_to_come has_limits item new
+  Steps item new = StepsBy admitted_by has_limits item new
 
   -- one step of the walk, without regard to limits
   abbrev pub Walks : PlainItem → (new : BinaryReader R C g h) → Type 0
-  Walks item new = StepsBy unlimited_items (λ _. false) item new
+  Walks item new = StepsBy (λ _ items. items) (λ _. false) item new

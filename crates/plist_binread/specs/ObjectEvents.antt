@@ -1,5 +1,5 @@
 -- The event that an object yields once it is decoded, and what the walk stores of the object.
-use Rattle.std.specs.Prelude.{◌≡◌, ℕ, ◌+◌, ◌^◌, ◌<◌, ◌≤◌, Bool, true, false, List, length, take, drop, Option, None, Some, Result, IfErr, IfSome, MatchResult, OnOk, ⊤}
+use Rattle.std.specs.Prelude.{◌≡◌, ℕ, ◌+◌, ◌^◌, ◌<◌, ◌≤◌, Bool, true, false, List, length, take, drop, Option, None, Some, Result, IfErr, IfSome, MatchResult, ⊤}
 use Rattle.plist_base.specs.declared.error.Error.{Error}
 use Rattle.plist_base.specs.Events.{PlainEvent, StartArray, StartDictionary, ScalarEvent}
 use Rattle.plist_base.specs.Faults.{IsNotIo, kind_of, error_kind_of}
@@ -8,7 +8,7 @@ use Rattle.plist_decode.specs.CountedContent.{content_means}
 use Rattle.plist_decode.specs.Decoded.{IsDecodedThere, content_size}
 use Rattle.plist_decode.specs.Decoding.{IsRefusedAs, child_count}
 use Rattle.plist_decode.specs.FaultOffsets.{ErrWithin}
-use Rattle.plist_decode.specs.Packed.{is_packed, is_small_event}
+use Rattle.plist_decode.specs.Packed.{is_packed}
 use Rattle.plist_decode.specs.Reading.{object_at}
 use Rattle.plist_decode.specs.StepFaults.{result_with}
 use Rattle.plist_decode.specs.declared.decoded.Content.{Content}
@@ -43,13 +43,12 @@ abbrev pub SetsEvent : {A : Type 0} → Object → (place : ℕ) → Result A Er
 SetsEvent object place answer current =
     MatchResult answer (λ _. event_of_object object ≡ Some current) (IsRefusedAs object place)
 
--- the current event is the first one of the object, and isn't small; or the result is an error of
--- the object, with the offset in the details, which isn't that of a failed read; it isn't kept
-pub record SetsLarge {A : Type 0} (object : Object) (answer : Result A StepFault)
+-- the current event is the first one of the object; or the result is an error of the object, with the
+-- offset in the details, which isn't that of a failed read; it isn't kept
+pub record SetsUnread {A : Type 0} (object : Object) (answer : Result A StepFault)
     (current : PlainEvent) : Type 0 where
   pub sets : (details : FaultDetails)
       → SetsEvent object details.place (result_with answer details) current
-  pub large : OnOk answer (is_small_event current ≡ false)
   pub fault : (details : FaultDetails) (start end : ℕ)
       → ErrWithin start end (result_with answer details)
   pub never_io : (details : FaultDetails)

@@ -151,8 +151,8 @@ pub fn enter<S: Source, C: DecodeCounter, V: EventVisitor>(
         (remaining_entering bytes decoder.old.bounds walk.old reference.at reference.number)
         (result_with result decoder.new.details) event
         (remaining_in bytes decoder.old.bounds walk.new))
-        × IsCachedIfSmall (λ _. event) (Some reference.number)
-        (Some (result_with result decoder.new.details)) walk.new.tags.items) }
+        × IfSome (S.known source.old) (λ _. IsCachedIfSmall (λ _. event) (Some reference.number)
+        (Some (result_with result decoder.new.details)) walk.new.tags.items)) }
     // Errors.
     ensures fault { ErrWithin 0 decoder.old.bounds.trailer
         (result_with result decoder.new.details) }

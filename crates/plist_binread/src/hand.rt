@@ -1,20 +1,19 @@
 //! Hands decoded objects to a visitor.
 
-ghost use Rattle.std.specs.Prelude.{◌≡◌, ◌<◌, ℕ, List, Some, false, length, true, OnOk};
+ghost use Rattle.std.specs.Prelude.{◌≡◌, ℕ, List, Some, false, true, OnOk};
 ghost use Rattle.plist_base.specs.Object.{Scalar, date, text, wide_text};
 ghost use Rattle.plist_decode.specs.CountedContent.{AreUnits, content_means, unit_size};
-ghost use Rattle.plist_decode.specs.Decoded.{EndsIn64Bits, FailsInContent, FitsBefore, IsLong, IsLongBytes, small_count};
-ghost use Rattle.plist_binread.specs.ObjectEvents.{SetsContentAt, SetsDecoded, SetsLarge, is_refused};
+ghost use Rattle.plist_decode.specs.Decoded.{EndsIn64Bits, FailsInContent, FitsBefore};
+ghost use Rattle.plist_binread.specs.ObjectEvents.{SetsContentAt, SetsDecoded, SetsUnread, is_refused};
 ghost use Rattle.plist_decode.specs.Decoding.{start_event};
 ghost use Rattle.plist_decode.specs.FaultOffsets.{ErrWithin};
 ghost use Rattle.plist_base.specs.Events.{ScalarEvent};
 ghost use Rattle.plist_base.specs.Trees.{String};
 ghost use Rattle.plist_base.specs.Utf16Strings.{string_of_utf16};
 ghost use Rattle.plist_binread.specs.Handovers.{HandsItem};
-ghost use Rattle.plist_decode.specs.Packed.{content_bytes, is_packed, is_small_event, unpacked};
+ghost use Rattle.plist_decode.specs.Packed.{content_bytes, is_packed, unpacked};
 ghost use Rattle.plist_base.specs.Sources.{CountsIo};
 ghost use Rattle.plist_decode.specs.StepFaults.{result_with};
-ghost use Rattle.plist_decode.specs.declared.decoded.ContentKind.TheVariants.{Text as KindText};
 
 use plist_base::{Ascii, Date, EventVisitor, Integer, RealBits, Source, Uid, Utf16Str, all_pass};
 use plist_decode::counter::DecodeCounter;
@@ -62,7 +61,7 @@ pub fn hand_small<V: EventVisitor>(
 #[inline(never)]
 fn hand_date<V: EventVisitor>(content: u64, visitor: &mut V) -> Result<ControlFlow<()>, StepFault>
     ensures { HandsItem V.step visitor.old visitor.new (Some result)
-        (SetsLarge (date (content_bytes content)) result) }
+        (SetsUnread (date (content_bytes content)) result) }
 {
     match Date::from_plist_real(content.to_be_bytes()) {
         Ok(date) => Ok(visitor.date(date)),
@@ -70,13 +69,12 @@ fn hand_date<V: EventVisitor>(content: u64, visitor: &mut V) -> Result<ControlFl
     }
 }
 
-// Hands over a string that isn't small and needn't be ASCII, or returns a fault if the bytes aren't
-// UTF-8. It isn't inlined, since most strings are ASCII.
+// Hands over a string that needn't be ASCII, or returns a fault if the bytes aren't UTF-8. It isn't
+// inlined, since most strings are ASCII.
 #[inline(never)]
 fn hand_utf8<V: EventVisitor>(bytes: &[u8], visitor: &mut V) -> Result<ControlFlow<()>, StepFault>
-    requires { IsLongBytes KindText bytes.now }
     ensures { HandsItem V.step visitor.old visitor.new (Some result)
-        (SetsLarge (text bytes.now) result) }
+        (SetsUnread (text bytes.now) result) }
 {
     match str::from_utf8(bytes) {
         Ok(text) => Ok(visitor.string(CowStr::Borrowed(text))),
@@ -84,7 +82,7 @@ fn hand_utf8<V: EventVisitor>(bytes: &[u8], visitor: &mut V) -> Result<ControlFl
     }
 }
 
-// Hands over a string that isn't small, or returns a fault if the bytes aren't UTF-8.
+// Hands over a string, or returns a fault if the bytes aren't UTF-8.
 //
 // The visitor may test the bytes itself. Otherwise ASCII is tested first because most strings are
 // ASCII, and this test takes a fraction of the time of the test for UTF-8. ASCII is handed over by
@@ -92,9 +90,8 @@ fn hand_utf8<V: EventVisitor>(bytes: &[u8], visitor: &mut V) -> Result<ControlFl
 // first.
 #[inline(always)]
 fn hand_text<V: EventVisitor>(bytes: &[u8], visitor: &mut V) -> Result<ControlFlow<()>, StepFault>
-    requires { IsLongBytes KindText bytes.now }
     ensures { HandsItem V.step visitor.old visitor.new (Some result)
-        (SetsLarge (text bytes.now) result) }
+        (SetsUnread (text bytes.now) result) }
 {
     if let Some(answer) = visitor.ascii_string(bytes) {
         return Ok(answer);
@@ -106,15 +103,6 @@ fn hand_text<V: EventVisitor>(bytes: &[u8], visitor: &mut V) -> Result<ControlFl
     hand_utf8(bytes, visitor)
 }
 
-// Returns whether a string in UTF-16 has at most eight bytes in UTF-8. They are counted only if it
-// has at most eight units.
-#[inline(always)]
-fn is_short(text: Utf16Str<'_>) -> bool
-    ensures { result ≡ false → 8 < length (string_of_utf16 text.entry) }
-{
-    text.as_bytes().len() <= 16 && text.len_utf8() <= 8
-}
-
 // Hands over a string in UTF-16 as a string in UTF-8, in memory of its own.
 #[inline(never)]
 fn hand_in_utf8<V: EventVisitor>(
@@ -122,20 +110,15 @@ fn hand_in_utf8<V: EventVisitor>(
     text: Utf16Str<'_>,
     visitor: &mut V,
 ) -> Result<ControlFlow<()>, StepFault>
-    requires { 8 < length (string_of_utf16 text) }
     ensures { (bytes : List ℕ) → wide_text bytes ≡ Scalar (String (string_of_utf16 text.entry))
         → HandsItem V.step visitor.old visitor.new (Some result)
-        (SetsLarge (wide_text bytes) result) }
+        (SetsUnread (wide_text bytes) result) }
 {
     let decoded = to_utf8(alloc, text)?;
     Ok(visitor.string(CowStr::Owned(decoded)))
 }
 
 // Hands over a string in UTF-16, in this form or in UTF-8, or returns a fault if it is invalid.
-//
-// A string of at most eight bytes in UTF-8 is decoded together with the first bytes of its object.
-// So there can be one here only if the source returned other bytes before. The fault is `Memory`
-// then.
 #[inline(never)]
 fn hand_wide_text<V: EventVisitor>(
     alloc: Global,
@@ -144,14 +127,11 @@ fn hand_wide_text<V: EventVisitor>(
 ) -> Result<ControlFlow<()>, StepFault>
     requires { AreUnits 2 bytes.now }
     ensures { HandsItem V.step visitor.old visitor.new (Some result)
-        (SetsLarge (wide_text bytes.now) result) }
+        (SetsUnread (wide_text bytes.now) result) }
 {
     let Some(text) = Utf16Str::new(bytes) else {
         return Err(StepFault::NotUtf16);
     };
-    if is_short(text) {
-        return Err(StepFault::Memory);
-    }
     match visitor.utf16_string(text) {
         Some(answer) => Ok(answer),
         None => hand_in_utf8(alloc, text, visitor),
@@ -166,10 +146,9 @@ pub fn hand_bytes<V: EventVisitor>(
     bytes: &[u8],
     visitor: &mut V,
 ) -> Result<ControlFlow<()>, StepFault>
-    requires units { AreUnits (unit_size kind) bytes.now }
-    requires long { IsLongBytes kind bytes.now }
+    requires { AreUnits (unit_size kind) bytes.now }
     ensures { HandsItem V.step visitor.old visitor.new (Some result)
-        (SetsLarge (content_means kind bytes.now) result) }
+        (SetsUnread (content_means kind bytes.now) result) }
 {
     match kind {
         ContentKind::Data => Ok(visitor.data(CowSlice::Borrowed(bytes))),
@@ -184,9 +163,8 @@ fn hand_owned_text<V: EventVisitor>(
     bytes: Vec<u8>,
     visitor: &mut V,
 ) -> Result<ControlFlow<()>, StepFault>
-    requires { IsLongBytes KindText bytes.items }
     ensures { HandsItem V.step visitor.old visitor.new (Some result)
-        (SetsLarge (text bytes.items) result) }
+        (SetsUnread (text bytes.items) result) }
 {
     match String::from_utf8(bytes) {
         Ok(text) => Ok(visitor.string(CowStr::Owned(text))),
@@ -202,10 +180,9 @@ fn hand_owned<V: EventVisitor>(
     bytes: Vec<u8>,
     visitor: &mut V,
 ) -> Result<ControlFlow<()>, StepFault>
-    requires units { AreUnits (unit_size kind) bytes.items }
-    requires long { IsLongBytes kind bytes.items }
+    requires { AreUnits (unit_size kind) bytes.items }
     ensures { HandsItem V.step visitor.old visitor.new (Some result)
-        (SetsLarge (content_means kind bytes.items) result) }
+        (SetsUnread (content_means kind bytes.items) result) }
 {
     match kind {
         ContentKind::Data => Ok(visitor.data(CowSlice::Owned(bytes))),
@@ -224,13 +201,11 @@ fn hand_far<S: Source, C: DecodeCounter, V: EventVisitor>(
     content: Content,
     visitor: &mut V,
 ) -> Result<ControlFlow<()>, StepFault>
-    requires fits { EndsIn64Bits place content }
-    requires long { IsLong content }
+    requires { EndsIn64Bits place content }
     // Result.
     ensures handed { HandsItem V.step visitor.old visitor.new (Some result) (λ event.
         SetsContentAt (S.known source.old) place content
-        (result_with result decoder.new.details) event
-        × OnOk result (is_small_event event ≡ false)) }
+        (result_with result decoder.new.details) event) }
     // Errors.
     ensures fault { FailsInContent place content (result_with result decoder.new.details) }
     // State afterwards.
@@ -269,8 +244,7 @@ pub fn hand_decoded<S: Source, C: DecodeCounter, V: EventVisitor>(
     // Result.
     ensures handed { HandsItem V.step visitor.old visitor.new (Some result) (λ event.
         SetsDecoded (S.known source.old) decoder.old.bounds place decoded
-        (result_with result decoder.new.details) event
-        × OnOk result (is_small_event event ≡ true → small_count decoded ≡ 1)) }
+        (result_with result decoder.new.details) event) }
     ensures found { OnOk result (is_refused decoded ≡ false) }
     // Errors.
     ensures fault { ErrWithin place decoder.old.bounds.trailer

@@ -1,10 +1,10 @@
-use Rattle.std.proofs.Common.{◌≡◌, ℕ, arith, length, List, Ok, Option, IfSome, ap, refl, rules, subst, sym, ◌∙◌}
+use Rattle.std.proofs.Common.{◌≡◌, ◌<◌, ℕ, true, arith, get_or, List, Ok, Option, IfSome, ap, refl, rules, subst, sym, ◌∙◌}
 use Rattle.plist_base.specs.Events.{EndCollection, ScalarEvent}
-use Rattle.plist_decode.proofs.Decoding.{long_bytes, seen_decodes, seen_fits}
-use Rattle.plist_binread.proofs.ObjectEvents.{borrowed_sets, cached_if, fits_walk, large_unlike, long_sets}
+use Rattle.plist_decode.proofs.Decoding.{seen_decodes, seen_fits}
+use Rattle.plist_binread.proofs.ObjectEvents.{borrowed_sets, fits_walk, long_sets}
 use Rattle.plist_decode.proofs.FaultOffsets.{err_within, passed}
-use Rattle.plist_binread.proofs.ObjectEntry.{IsDecodedAt, always_ok, known_decoded, known_opens, known_refused, known_set, known_unpacked, long_opens, on_answer}
-use Rattle.std.proofs.lemmas.List.{length-drop, length-take-le}
+use Rattle.plist_binread.proofs.ObjectEntry.{IsDecodedAt, always_known, always_ok, known_cached, known_decoded, known_opens, known_refused, known_set, known_unpacked, long_opens, on_answer}
+use Rattle.plist_decode.proofs.UnknownBytes.{IfSome-all}
 use Rattle.plist_binread.proofs.VisitorLimits.{passed_on}
 use Rattle.plist_binread.proofs.WalkInvariant.{known_full}
 use Rattle.plist_binread.proofs.WalkSteps.{steps_positive}
@@ -15,7 +15,7 @@ use Rattle.plist_decode.specs.declared.decoded.Decoded.{Decoded}
 use Rattle.plist_decode.specs.declared.head.Bounds.{Bounds}
 use Rattle.plist_decode.specs.declared.step_fault.FaultDetails.{FaultDetails}
 use Rattle.plist_decode.specs.declared.decoded.Decoded.TheVariants as decoded
-use Rattle.plist_decode.specs.Packed.{scalar_event, unpacked}
+use Rattle.plist_decode.specs.Packed.{is_small_event, scalar_event, unmarked, unpacked}
 use Rattle.plist_decode.specs.StepFaults.{error_of, result_with}
 use Rattle.plist_decode.specs.declared.step_fault.StepFault.TheVariants.{Memory}
 use Rattle.plist_binread.proofs.enter.enter.Goals as goal
@@ -31,13 +31,15 @@ pub returns-in-Small-clause-handed : goal.returns-in-Small-clause-handed
 returns-in-Small-clause-handed g c =
     let found = rw c.in-Small.is at c.in_ok-kind.ensures.found in
     let event = ScalarEvent (unpacked c.in-Small.kind c.in-Small.content) in
+    let caches : is_small_event event ≡ true
+        → 0 < unmarked (get_or c.args.walk.now.tags.items c.args.reference.number 0) = λ _. found.0 in
     record {
       event = event;
       is = (
         known_unpacked _ _ c.args.walk.now c.args.reference.number c.requires.known
             c.in_ok-kind.ensures.below c.args.reference.at event c.in_ok-kind.ensures.new found.0
             (ap scalar_event found.1),
-        λ _. found.0,
+        always_known _ _ caches,
       );
       taken = passed_on g.V.EventVisitor.step c.new-relay.result c.hand_small.new.visitor _ _ (Ok _) event
           (search rules) (search rules) c.hand_small.ensures;
@@ -51,7 +53,7 @@ returns-in_err-decoded-in-None-clause-handed g c =
         known_refused _ _ c.args.walk.now c.args.reference.number c.requires.known
             c.in_ok-kind.ensures.below c.args.reference.at c.in-At.place _ c.in_ok-kind.ensures.new
             (rw c.in-At.is at c.in_ok-kind.ensures.found) c.in_err-decoded-in-None.ensures.refused,
-        tt,
+        IfSome-all _ (λ _. tt),
       );
       taken = refl;
     })
@@ -68,15 +70,7 @@ pub lies_in-requires : goal.lies_in-requires
 lies_in-requires g c =
     let fits = long_fits g (goal.at.lies_in-requires g c).In-Long in
     let small = c.args.decoder.now.bounds.small in
-    omega (arith, fits.0, small)
-
-pub hand_bytes-requires-clause-long : goal.hand_bytes-requires-clause-long
-hand_bytes-requires-clause-long g c =
-    let fits = long_fits g (goal.at.hand_bytes-requires-clause-long g c).In-Long in
-    let within = c.lies_in.ensures c.if-lies_in.true in
-    let rest = length-drop c.in-Long.start c.in-Some.seen.now in
-    long_bytes c.in-Long.kind c.in-Long.count c.bytes_in-bytes.result.now
-    (ap length c.bytes_in-bytes.ensures ∙ length-take-le _ _ (omega (arith, within, rest))) fits.1
+    omega (arith, fits, small)
 
 pub returns-then-lies_in-clause-fault : goal.returns-then-lies_in-clause-fault
 returns-then-lies_in-clause-fault g c =
@@ -113,7 +107,7 @@ returns-then-lies_in-clause-handed g c =
     (subst (DecodesAt (g.S.Source.known c.args.source.now) bounds c.in-At.place) c.in-Long.is
     (seen_decodes _ bounds c.in-At.place _ c.decode_front-decoded.result front
     c.decode_front-decoded.ensures.decoded)) in
-    let sets = long_sets _ bounds c.in-At.place content answer h.event (long_fits g at).0
+    let sets = long_sets _ bounds c.in-At.place content answer h.event (long_fits g at)
     (borrowed_sets _ c.in-At.place content c.in-Some.seen.now answer h.event front.lies
     (c.lies_in.ensures c.if-lies_in.true) (rw c.bytes_in-bytes.ensures at (h.is.sets details))) in
     record {
@@ -124,10 +118,9 @@ returns-then-lies_in-clause-handed g c =
             h.event refl c.in_ok-kind.ensures.new there
             (long_opens c.args.reference.number c.in-Long.start c.in-Long.count c.in-Long.kind
             c.args.walk.now c.in_ok-kind.ensures.below (search rules)) sets (always_ok _ answer refl),
-        cached_if c.args.reference.number c.hand_bytes.result details
-            h.event long
-            c.args.walk.now.tags.items (large_unlike c.hand_bytes.result long h.event h.is.large)
-            (λ no. absurd (cc)),
+        known_cached _ bounds c.args.walk.now c.args.reference.number c.requires.known
+            c.in_ok-kind.ensures.below c.in-At.place long _ answer h.event c.args.walk.now.tags.items
+            refl there sets (λ no. absurd (cc)),
       );
       taken = h.taken;
     }
@@ -231,7 +224,7 @@ returns-clause-handed g c =
             (known_full _ c.args.decoder.now.bounds c.in-At.place c.match-buffered_front.decoded
             (error_of Memory c.match-buffered_front.decoder.details) refl
             (c.cache_or_open.ensures.wanted c.if-cache_or_open.false) f.decodes),
-        tt,
+        IfSome-all _ (λ _. tt),
       );
       taken = refl;
     }
@@ -248,10 +241,12 @@ returns-then-cache_or_open-clause-handed g c =
             c.args.reference.at c.in-At.place _ c.cache_or_open.new.walk _
             (result_with c.hand_decoded.result c.hand_decoded.new.decoder.details) h.event
             f.unchanged c.in_ok-kind.ensures.new (there g at)
-            (c.cache_or_open.ensures.yields c.if-cache_or_open.true) (rw f.same at h.is.0)
+            (c.cache_or_open.ensures.yields c.if-cache_or_open.true) (rw f.same at h.is)
             (on_answer _ c.hand_decoded.result c.hand_decoded.new.decoder.details c.hand_decoded.ensures.found),
-        cached_if c.args.reference.number c.hand_decoded.result c.hand_decoded.new.decoder.details h.event
-            c.match-buffered_front.decoded c.cache_or_open.new.walk.tags.items h.is.1
+        known_cached _ _ c.args.walk.now c.args.reference.number c.requires.known
+            c.in_ok-kind.ensures.below c.in-At.place _ _
+            (result_with c.hand_decoded.result c.hand_decoded.new.decoder.details) h.event
+            c.cache_or_open.new.walk.tags.items f.unchanged (there g at) (rw f.same at h.is)
             c.cache_or_open.ensures.cached,
       );
       taken = h.taken;

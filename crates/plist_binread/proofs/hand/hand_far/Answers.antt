@@ -9,11 +9,8 @@ pub returns-in_err-bytes-clause-handed : goal.returns-in_err-bytes-clause-handed
 returns-in_err-bytes-clause-handed g c =
     rw (passed _ c.from_residual.ensures.1) (record {
       event = EndCollection;
-      is = (
-        content_refused (g.S.Source.known c.args.source.now) c.args.content.kind c.args.place _ _
-            (error_of c.in_err-bytes.field-0.0 c.read_content.new.decoder.details)
-            c.in_err-bytes.ensures.refused,
-        tt,
-      );
+      is = content_refused (g.S.Source.known c.args.source.now) c.args.content.kind c.args.place _ _
+          (error_of c.in_err-bytes.field-0.0 c.read_content.new.decoder.details)
+          c.in_err-bytes.ensures.refused;
       taken = refl;
     })

@@ -13,7 +13,7 @@ returns-in-Ok g c =
     ap (λ bytes. bytes.items) c.in-Ok.ensures.ok in
     record {
       event = ScalarEvent (String (string_bytes c.in-Ok.text));
-      is = text_set c.args.bytes.items _ _ c.requires same
+      is = text_set c.args.bytes.items _ _ same
           (subst IsUtf8 same (IsUtf8-had _ c.in-Ok.text.ok));
       taken = c.string.ensures;
     }

@@ -15,7 +15,7 @@ returns-in-Some g c =
     let ascii = ascii_from_each c.args.bytes.now (search rules) in
     record {
       event = ScalarEvent (String c.args.bytes.now);
-      is = text_set c.args.bytes.now _ _ c.requires refl (IsUtf8-from_ascii _ ascii);
+      is = text_set c.args.bytes.now _ _ refl (IsUtf8-from_ascii _ ascii);
       taken = search rules;
     }
 
@@ -25,7 +25,7 @@ returns-then-all_pass g c =
     let ascii = ascii_from_each _ (c.all_pass.ensures c.if-all_pass.true) in
     record {
       event = ScalarEvent (String c.from_utf8_unchecked-text.result.now);
-      is = text_set c.args.bytes.now _ _ c.requires c.from_utf8_unchecked-text.ensures
+      is = text_set c.args.bytes.now _ _ c.from_utf8_unchecked-text.ensures
           (IsUtf8-from_ascii _ ascii);
       taken = subst (λ old. g.V.EventVisitor.step old
           (ScalarEvent (String c.from_utf8_unchecked-text.result.now)) c.string.result c.string.new.self)

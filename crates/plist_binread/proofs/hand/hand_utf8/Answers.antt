@@ -7,7 +7,7 @@ use Rattle.plist_binread.proofs.hand.hand_utf8.Goals as goal
 pub returns-in-Ok : goal.returns-in-Ok
 returns-in-Ok g c = record {
   event = ScalarEvent (String c.in-Ok.text.now);
-  is = text_set c.args.bytes.now _ _ c.requires c.in-Ok.ensures.cases.0 c.in-Ok.ensures.cases.1;
+  is = text_set c.args.bytes.now _ _ c.in-Ok.ensures.cases.0 c.in-Ok.ensures.cases.1;
   taken = c.string.ensures;
 }
 

@@ -117,9 +117,10 @@ returns-clause-handed g c =
             c.enter.new.walk.frames (result_with c.enter.result c.enter.new.decoder.details) h.event
             c.read.ensures.unchanged c.requires.empty.1 (count g there) refl refl
             (rw (← c.in_ok-head.ensures.answer) at c.read.ensures.value) h.is.0);
-        cached = known_cached (g.S.Source.known c.args.source.now) c.in_ok-head.head _
+        cached = known_cached (g.S.Source.known c.args.source.now)
+            (g.S.Source.known c.read.new.source) c.in_ok-head.head _
             (result_with c.enter.result c.enter.new.decoder.details) h.event c.enter.new.walk.tags.items
-            refl (rw (← c.in_ok-head.ensures.answer) at c.read.ensures.value) h.is.1;
+            c.read.ensures.unchanged refl (rw (← c.in_ok-head.ensures.answer) at c.read.ensures.value) h.is.1;
       };
       taken = passed_on g.V.EventVisitor.step c.new-relay.result c.enter.new.visitor _ _
           c.enter.result h.event (search rules) (search rules) h.taken;

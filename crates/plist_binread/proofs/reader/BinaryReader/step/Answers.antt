@@ -13,6 +13,7 @@ returns-in-Ended-clause-walks g c = record {
     gives = record {
       unchanged = refl;
       items = rw c.in-Ended.is (nothing_ended _);
+      admitted = tt;
       failures = refl;
       ended = λ _. refl;
       unasked = λ _. refl;

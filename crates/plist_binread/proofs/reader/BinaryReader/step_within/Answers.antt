@@ -6,7 +6,7 @@ use Rattle.plist_base.specs.Visits.{item_with}
 use Rattle.plist_binread.specs.BinaryReader.{Walks, binary_source, is_new, unlimited_items}
 use Rattle.plist_binread.proofs.LimitedSteps.{turns_within}
 use Rattle.plist_decode.specs.StepFaults.{item_kept}
-use Rattle.plist_binread.proofs.ReaderLimits.{limit-current, refused-given, refused-other}
+use Rattle.plist_binread.proofs.ReaderLimits.{limit-current, refused-given, refused-keeps, refused-other}
 use Rattle.plist_decode.proofs.UnknownBytes.{IfSome-all, IfSome-never}
 use Rattle.plist_binread.proofs.UnlimitedSteps.{tells_fault}
 use Rattle.plist_binread.proofs.VisitorLimits.{Reached, reached_limit, refuses_any}
@@ -41,6 +41,7 @@ returns-in-Err g c =
               old.limiter (Some c.step-item.new.visitor.limiter.now)
               (λ bytes. unlimited_items bytes old) (λ bytes. unlimited_items bytes mid) error r
               w.items;
+          admitted = refused-keeps old.limiter (Some c.step-item.new.visitor.limiter.now) l.event error r;
           failures = refused-other old.limiter l.event (fault_of error) _ _ _ r w.failures;
           ended = λ e. (let no = w.ended e in absurd (cc));
           unasked = w.unasked;
