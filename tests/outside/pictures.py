@@ -25,12 +25,13 @@ text { font: 13px sans-serif; fill: #24292f }
 .box { fill: #f6f8fa; stroke: #8c959f; stroke-width: 1.2 }
 .named { fill: #ddf4ff; stroke: #0969da; stroke-width: 2 } .ready { fill: #dafbe1; stroke: #1a7f37; stroke-width: 2 }
 .edge { stroke: #8c959f; stroke-width: 1.3; fill: none }
+.value { paint-order: stroke; stroke: #ffffff; stroke-width: 3; stroke-linejoin: round }
 @media (prefers-color-scheme: dark) {
 text { fill: #e6edf3 } .small { fill: #9198a1 } .axis { stroke: #3d444d } .one { stroke: #ff7b72 }
 .print { fill: #58a6ff } .convert { fill: #3fb950 } .memory { fill: #d29922 }
 .box { fill: #161b22; stroke: #6e7681 }
 .named { fill: #0c2d6b; stroke: #58a6ff } .ready { fill: #0f2d17; stroke: #3fb950 }
-.edge { stroke: #6e7681 }
+.edge { stroke: #6e7681 } .value { stroke: #0d1117 }
 }
 """
 # The bars of a shape: the class of each in STYLE, and its label.
@@ -108,9 +109,10 @@ def bars(values, left, unit, y, bar):
     for (kind, _), value in zip(KINDS, values):
         if value is not None:
             yield (f'<rect class="{kind}" x="{left}" y="{y}" width="{unit * value:.1f}" height="{bar - 1}"/>'
-                   f'<text class="small" x="{left + unit * value + 5:.1f}" y="{y + bar - 3}">{value:.2f}</text>')
+                   f'<text class="small value" x="{left + unit * value + 5:.1f}" y="{y + bar - 3}">{value:.2f}</text>')
         elif kind == "convert":
-            yield f'<text class="small" x="{left + 5}" y="{y + bar + 4}">the crate ends by a signal</text>'
+            yield (f'<text class="small value" x="{left + 5}" y="{y + bar + 4}">'
+                   "the crate ends by a signal</text>")
         y += bar
 
 

@@ -38,7 +38,7 @@ pub type Values<'a> = dictionary::Values<'a, Value>;
 /// A dictionary of a property list: pairs of a key and a value, each key once.
 ///
 /// The pairs are ordered: a new key is last, and a key that is set again keeps its index. Contracts
-/// see the list of the pairs, with each key as its bytes.
+/// see the list of the pairs, with every key as its bytes.
 ///
 /// A dictionary is dropped without recursion and without allocating memory, however deep its values
 /// are.

@@ -109,9 +109,8 @@ impl<'a, R: Files> LazyFile<'a, R> {
     ///
     /// # Errors
     ///
-    /// The errors are those of [`Value::to_writer_binary`], and `Io`, without an offset, if the
-    /// sync fails. `OutOfMemory` and `PlistTooLarge` are returned before a file is created or
-    /// truncated.
+    /// Any error of [`Value::to_writer_binary`], and `Io`, without an offset, if the sync fails.
+    /// `OutOfMemory` and `PlistTooLarge` are returned before a file is created or truncated.
     ///
     /// # Examples
     ///
@@ -244,8 +243,8 @@ impl Value {
         Value::from_reader_within(alloc, source, limits, bytes)
     }
 
-    /// Writes the value as a binary property list to the file of this name, and syncs the file. If
-    /// the file exists, it is truncated before the first byte is written.
+    /// Writes the value as a binary property list to the file of the given name, and syncs the
+    /// file. If the file exists, it is truncated before the first byte is written.
     ///
     /// # Errors
     ///

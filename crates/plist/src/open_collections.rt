@@ -32,7 +32,7 @@ struct OpenDictionary {
 /// Open collections that are nested in one another, with their contents so far.
 ///
 /// An array that has no items yet takes five bytes, as long as the indices of items fit in four
-/// bytes. Contracts see the contents of each collection, innermost first.
+/// bytes. Contracts see the contents of every collection, innermost first.
 #[derive(Drop)]
 pub(crate) struct OpenCollections {
     // What each collection is, outermost first.
@@ -121,7 +121,7 @@ impl OpenCollections {
         }
     }
 
-    /// Returns whether no collection is open.
+    /// Returns `true` if no collection is open.
     pub(crate) fn is_empty(&self) -> bool
         ensures yes { result ≡ true → self.now ≡ [] }
         ensures no { result ≡ false → 0 < length self.now }

@@ -293,8 +293,8 @@ impl Value {
     /// Value::from_reader_with_limits(alloc, bytes, Limits { depth: 64, items: 100_000 })
     /// ```
     ///
-    /// The limits don't bound the bytes of strings and data, to which a small file may refer again
-    /// and again; [`Value::from_reader_within`] bounds them.
+    /// The limits don't bound the bytes of strings and data, and a small file may refer to them
+    /// again and again; [`Value::from_reader_within`] bounds them.
     ///
     /// # Errors
     ///
@@ -329,8 +329,8 @@ impl Value {
     }
 
     /// Like [`Value::from_reader_with_limits`], but also fails once the strings, including keys,
-    /// and the data have more than this many bytes together. A string counts by its bytes in UTF-8,
-    /// and counts again for each further reference to it.
+    /// and the data have more than `bytes` bytes together. A string counts by its bytes in UTF-8,
+    /// and counts again for every further reference to it.
     ///
     /// Use it for untrusted files: the value has no more events, levels and bytes than the caller
     /// allows, whatever the source contains.
@@ -377,8 +377,8 @@ impl Value {
     ///
     /// # Errors
     ///
-    /// The errors are those of [`Value::from_reader`], but with the errors of [`AsciiReader`] in
-    /// place of those of [`Reader`].
+    /// Any error of [`Value::from_reader`], but with the errors of [`AsciiReader`] in place of the
+    /// errors of [`Reader`].
     ///
     /// # Examples
     ///
@@ -489,7 +489,8 @@ impl Value {
     }
 }
 
-/// Returns the kind of the value's first event: that of the scalar, or the start of the collection.
+/// Returns the kind of the value's first event: the kind of the scalar, or the start of the
+/// collection.
 ///
 /// # Examples
 ///

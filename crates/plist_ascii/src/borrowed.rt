@@ -115,8 +115,8 @@ fn front_text(stop: Stop, bytes: &[u8]) -> Option<BorrowedText<'_>>
 impl<R: ByteReader> Input<R> {
     /// Returns the string that is next after blanks, if it is a quoted string without escapes, or a
     /// bare string that spells no integer and doesn't begin with a slash. Returns `None` if it
-    /// isn't UTF-8, or isn't at hand up to and including the byte that ends it. Nothing is read or
-    /// taken.
+    /// isn't UTF-8, or if the buffer doesn't have all of it, with the byte that ends it. No byte is
+    /// read or taken.
     #[inline(always)]
     pub fn borrowed_text(&self, stop: Stop) -> Option<BorrowedText<'_>>
         ensures text { IfSome result (λ borrowed. IfKnown (unread R.remaining self.now)

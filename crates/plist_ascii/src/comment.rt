@@ -56,8 +56,7 @@ impl<R: ByteReader> Input<R> {
         self.take()
     }
 
-    /// Takes the rest of a line comment, whose two slashes have been taken. The LF that ends it
-    /// isn't taken.
+    /// Takes the rest of a line comment after its two slashes. The LF that ends it isn't taken.
     pub fn line_comment(&mut self) -> Result<(), TokenFault>
         ensures answers { GivesBy R.remaining (λ _. None) line_comment self.old result self.new }
         ensures memory { IfErr result (λ f. f ≡ TokenFault.OutOfMemory → ⊥) }

@@ -48,7 +48,7 @@ impl<R> Input<R> {
         self.inner
     }
 
-    /// Returns whether the input has ended.
+    /// Returns `true` if the input has ended.
     pub fn has_ended(&self) -> bool
         ensures { result ≡ self.now.ended }
     {
@@ -171,7 +171,8 @@ impl<R: ByteReader> Input<R> {
         }
     }
 
-    /// Takes the next byte if it is `expected`, and returns whether it is. The only error is `Io`.
+    /// Takes the next byte if it is `expected`, and returns `true` if it is. The only error is
+    /// `Io`.
     #[inline(always)]
     pub fn take_if(&mut self, expected: u8) -> Result<bool, TokenFault>
         // Result.

@@ -1,8 +1,7 @@
 //! Reads old-style ASCII property lists.
 //!
-//! The main contract is that of [`AsciiReader`]: if the bytes are known, each call returns the
-//! first of the items that the remaining bytes spell, and takes the bytes up to the end of that
-//! item.
+//! [`AsciiReader`] has the main contract: if the bytes are known, each call returns the first of
+//! the items that the remaining bytes spell, and takes the bytes up to the end of that item.
 #![tactic(auto)]
 
 mod borrowed;

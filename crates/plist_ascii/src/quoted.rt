@@ -91,8 +91,8 @@ impl<R: ByteReader> Input<R> {
         }
     }
 
-    /// Takes the rest of a quoted string, whose opening quote has been taken, and returns its
-    /// event. No byte after the closing quote is looked at.
+    /// Takes the rest of a quoted string after its opening quote, and returns its event. No byte
+    /// after the closing quote is looked at.
     pub fn quoted_text(&mut self, alloc: Global, quote: u8) -> Result<OwnedEvent, TokenFault>
         ensures answers { GivesBy R.remaining (λ event. Some (event_of event)) (quoted_token quote)
             self.old result self.new }

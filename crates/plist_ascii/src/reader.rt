@@ -46,7 +46,7 @@ impl<R: ByteReader> AsciiReader<R> {
     ghost use Rattle.plist_ascii.specs.Unread.{readable_with};
     ghost use Rattle.plist_ascii.specs.AsciiReader.{untaken_bytes, dialect_of, device_of, peeked_byte, place_of, HasEndedAscii};
 
-    /// Creates a reader of the lax dialect. Nothing is read before the first item is requested.
+    /// Creates a reader of the lax dialect. Reading begins when the first item is requested.
     ///
     /// # Examples
     ///
@@ -66,7 +66,7 @@ impl<R: ByteReader> AsciiReader<R> {
         AsciiReader::with_dialect(alloc, inner, Dialect::Lax)
     }
 
-    /// Creates a reader of the given dialect. Nothing is read before the first item is requested.
+    /// Creates a reader of the given dialect. Reading begins when the first item is requested.
     ///
     /// In the tight dialect `{a=b}` yields the start of a dictionary, `a`, `b` and an end.
     #[tactic(auto, using(crate::proofs::UnreadBytes::new_unread))]
@@ -87,7 +87,7 @@ impl<R: ByteReader> AsciiReader<R> {
         }
     }
 
-    /// Returns the inner reader. Unless this reader has ended, at most one byte past the last item
+    /// Returns the inner reader. Unless the reader has ended, at most one byte past the last item
     /// has been read from the inner one.
     ///
     /// If such a byte was read, it is lost. After a bracket or a quoted string, no such byte has

@@ -13,13 +13,13 @@ use crate::token::is_blank;
 pub enum Stop {
     /// Any byte but white space and separators.
     Lead,
-    /// The bytes that end a bare string of this dialect.
+    /// The bytes that end a bare string of the dialect.
     Bare(Dialect),
     /// LF, which ends a line comment.
     LineEnd,
     /// `*`, which may end a block comment.
     Star,
-    /// This quote, or a backslash.
+    /// The given quote, or a backslash.
     Quoted(u8),
 }
 

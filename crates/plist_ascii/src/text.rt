@@ -67,7 +67,7 @@ fn may_spell_number(bytes: &[u8]) -> bool
     begins_number(bytes[0])
 }
 
-/// Returns `false` only if this string doesn't spell an integer.
+/// Returns `false` only if the string doesn't spell an integer.
 #[inline(always)]
 pub fn may_be_number(text: &str) -> bool
     ensures { result ≡ false → integer_of_text text.now ≡ None }
@@ -91,7 +91,7 @@ fn number_or_text(text: String) -> OwnedEvent
     }
 }
 
-/// Returns the event of a bare string with these bytes, or `InvalidUtf8` if they aren't UTF-8.
+/// Returns the event of a bare string with the given bytes, or `InvalidUtf8` if they aren't UTF-8.
 #[tactic(auto, unfolding(crate::specs::Texts::bare_event), using(crate::proofs::Texts::bare_texts))]
 pub fn bare_event(bytes: Vec<u8>) -> Result<OwnedEvent, TokenFault>
     ensures { Means result (bare_event bytes.items) }
@@ -100,7 +100,8 @@ pub fn bare_event(bytes: Vec<u8>) -> Result<OwnedEvent, TokenFault>
     Ok(number_or_text(text))
 }
 
-/// Returns the event of a quoted string with these bytes, or `InvalidUtf8` if they aren't UTF-8.
+/// Returns the event of a quoted string with the given bytes, or `InvalidUtf8` if they aren't
+/// UTF-8.
 #[tactic(auto, unfolding(crate::specs::Texts::quoted_event), using(crate::proofs::Texts::texts))]
 pub fn quoted_event(bytes: Vec<u8>) -> Result<OwnedEvent, TokenFault>
     ensures { Means result (quoted_event bytes.items) }
@@ -153,7 +154,7 @@ impl<R: ByteReader> Input<R> {
         self.take_run(stop, text)
     }
 
-    /// Takes the rest of a bare string, whose first byte has been taken, and returns its event.
+    /// Takes the rest of a bare string after its first byte, and returns its event.
     pub fn bare(&mut self, alloc: Global, stop: Stop, first: u8) -> Result<OwnedEvent, TokenFault>
         ensures answers { GivesBy R.remaining (λ event. Some (event_of event))
             (bare (stops stop) first) self.old result self.new }

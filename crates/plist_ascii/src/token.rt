@@ -34,7 +34,7 @@ pub enum Lead {
     Bare,
 }
 
-/// Returns what this byte begins.
+/// Returns what the byte begins.
 #[inline(always)]
 pub fn lead_of(byte: u8) -> Lead
     ensures { result ≡ lead_of byte }
@@ -50,7 +50,7 @@ pub fn lead_of(byte: u8) -> Lead
     }
 }
 
-/// Returns whether this byte is a separator (`,`, `;` or `=`) or white space (space, tab, CR or
+/// Returns `true` if the byte is a separator (`,`, `;` or `=`) or white space (space, tab, CR or
 /// LF).
 #[inline(always)]
 pub fn is_blank(byte: u8) -> bool

@@ -10,7 +10,7 @@ use crate::{Allowance, Error, ErrorKind, Event};
 /// The total number of bytes that further strings, including keys, and data may have.
 ///
 /// A string counts by its bytes in UTF-8, even if the file stores it in UTF-16, and it counts again
-/// for each further reference to it.
+/// for every further reference to it.
 #[derive(Clone, Copy)]
 pub struct ByteBudget {
     left: u64,

@@ -196,8 +196,8 @@ fn copy_few<T: ByteTest>(bytes: &[u8], target: &mut [u8]) -> bool
     true
 }
 
-/// Copies bytes if all of them pass a test, and returns whether they do. Otherwise the target is
-/// unspecified. Testing and copying together loads each byte only once.
+/// Copies bytes if all of them pass a test, and returns `true` if they do. Otherwise the target is
+/// unspecified. Testing and copying together loads every byte only once.
 #[inline(always)]
 pub(crate) fn copy_passing<T: ByteTest>(bytes: &[u8], target: &mut [u8]) -> bool
     requires { length target.old ≡ length bytes.now }

@@ -10,14 +10,14 @@ pub trait Compact: Copy {
     /// The smaller form.
     type Narrow: Copy;
 
-    /// The value that has this smaller form.
+    /// The value that has the given smaller form.
     ghost widened: { Self.Narrow → Self };
 
     /// Returns the smaller form, or `None` if the value has none.
     fn narrowed(self) -> Option<Self::Narrow>
         ensures { IfSome result (λ narrow. widened narrow ≡ self) };
 
-    /// Returns the value that has this smaller form.
+    /// Returns the value that has the given smaller form.
     fn widen(narrow: Self::Narrow) -> Self
         ensures { result ≡ widened narrow };
 }
@@ -147,7 +147,7 @@ fn widened(narrow: &Vec<u32>, wide: &Vec<usize>) -> Result<Vec<usize>, AllocErro
     Ok(all)
 }
 
-/// A list of numbers, of which the first ones are stored in four bytes each.
+/// A list of numbers. The first ones are stored in four bytes each.
 pub type CompactNumbers = CompactList<usize>;
 
 impl CompactList<usize> {

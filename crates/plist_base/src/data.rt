@@ -78,7 +78,7 @@ impl Data {
         Ok(Data::new(bytes))
     }
 
-    /// Formats this data as lines of base64. Each line has 68 characters and encodes 51 bytes,
+    /// Formats the data as lines of base64. Every line has 68 characters and encodes 51 bytes,
     /// except that the last line may be shorter. Lines are separated by a line feed; none follows
     /// the last one.
     ///

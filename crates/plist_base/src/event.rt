@@ -79,7 +79,7 @@ impl<'a> Event<'a> {
         })
     }
 
-    /// Returns this event with its string or data borrowed from it.
+    /// Returns the event with its string or data borrowed from it.
     #[inline(always)]
     pub fn as_borrowed(&self) -> Event<'_>
         ensures { event_of result ≡ event_of self.now }

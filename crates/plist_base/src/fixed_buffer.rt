@@ -162,7 +162,7 @@ impl FixedBuffer {
         self.push(&bytes);
     }
 
-    /// Appends `before`, `bytes` and `after` if all of `bytes` pass a test, and returns whether
+    /// Appends `before`, `bytes` and `after` if all of `bytes` pass a test, and returns `true` if
     /// they do. All three must fit into the room.
     #[inline(always)]
     pub fn push_passing<T: ByteTest, const BEFORE: usize, const AFTER: usize>(

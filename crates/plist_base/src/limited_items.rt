@@ -42,7 +42,7 @@ pub trait Allowance: Drop {
 ///
 /// The first event that isn't allowed is replaced by an error without an offset. An error of the
 /// other iterator is yielded unchanged. After either of them, and after the other iterator's
-/// `None`, this iterator has ended, and the other isn't called again.
+/// `None`, the iterator has ended, and the other isn't called again.
 #[derive(Drop)]
 pub struct LimitedItems<I, A = LimitCounter> {
     inner: I,
@@ -53,7 +53,7 @@ pub struct LimitedItems<I, A = LimitCounter> {
 
 impl<I> LimitedItems<I, LimitCounter> {
     /// Limits the number of items and the depth: the first event that exceeds the limit of items,
-    /// or else that of the depth, is replaced by `LimitReached`, without an offset.
+    /// or else the limit of depth, is replaced by `LimitReached`, without an offset.
     pub fn new(inner: I, limits: Limits) -> Self
         ensures items { items_admitted result ≡ limited_items limits }
         ensures inner { iterator_of result ≡ inner }

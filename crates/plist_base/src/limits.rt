@@ -109,8 +109,8 @@ impl Allowance for LimitCounter {
     ///
     /// # Errors
     ///
-    /// `LimitReached`, without an offset, if the event would exceed the limit of items, or else
-    /// that of the depth. The counts are unchanged then.
+    /// `LimitReached`, without an offset, if the event would exceed the limit of items, or else the
+    /// limit of depth. The counts are unchanged then.
     fn admit(&mut self, event: &Event<'_>) -> Result<(), Error>
         ensures admitted { OnOk result (Admits self.old (event_of event.now) self.new) }
         ensures refused { IfFault result (Refuses self.old (event_of event.now)) }

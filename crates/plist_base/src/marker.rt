@@ -93,7 +93,7 @@ impl Model for UidWidth {
 }
 
 impl UidWidth {
-    /// Creates a width of this many bytes, which must be from 1 to 8.
+    /// Creates a width of `bytes` bytes, a number from 1 to 8.
     #[inline(always)]
     pub fn new(bytes: usize) -> UidWidth
         requires { (1 ≤ bytes) × (bytes ≤ 8) }

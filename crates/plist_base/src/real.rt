@@ -24,10 +24,10 @@ pub enum RealBits {
 }
 
 impl RealBits {
-    /// Returns the number that these bytes encode. The conversion is exact, since every `binary32`
+    /// Returns the number that the bytes encode. The conversion is exact, since every `binary32`
     /// number is a `binary64` number.
     ///
-    /// Any NaN is converted to a NaN, whose sign and payload are unspecified.
+    /// Any NaN is converted to a NaN with an unspecified sign and payload.
     ///
     /// # Examples
     ///

@@ -3,7 +3,7 @@
 use crate::{Error, ErrorKind};
 use std::fmt;
 
-/// An error whose `Display` also prints the system's reason. [`Error::reason`] returns one.
+/// An error with a `Display` that also prints the system's reason. [`Error::reason`] returns one.
 #[derive(Drop)]
 pub struct Reason<'a> {
     error: &'a Error,
@@ -13,7 +13,7 @@ impl Error {
     ghost use Rattle.std.specs.Prelude.{◌≡◌};
     ghost use Rattle.plist_base.specs.Reasons.{error_of_reason};
 
-    /// Returns a value that prints this error's kind and offset and, for an I/O error, the system's
+    /// Returns a value that prints the error's kind and offset and, for an I/O error, the system's
     /// reason after a colon. The error's own `Display` omits the reason.
     ///
     /// ```text

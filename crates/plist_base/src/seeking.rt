@@ -169,7 +169,7 @@ impl<R: Read + Seek + Drop> Source for Seeking<R> {
         self.read_unbuffered(place, buf)
     }
 
-    /// Returns the bytes of a window from this offset on, without reading.
+    /// Returns the bytes of a window from the offset on, without reading.
     #[inline(always)]
     fn buffered(&self, place: u64) -> &[u8] {
         self.windows.buffered(place)

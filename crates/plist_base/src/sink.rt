@@ -27,7 +27,7 @@ use std::io::Write;
 ///
 /// # Errors
 ///
-/// Each call returns `Io`, without an offset, if a write fails or accepts no byte. A failed write
+/// Every call returns `Io`, without an offset, if a write fails or accepts no byte. A failed write
 /// isn't retried, not even after `Interrupted`. A prefix of all the bytes that were put is written
 /// then, and the sink must not be used any more.
 #[derive(Drop)]
@@ -94,9 +94,9 @@ impl<'s, W: Write> Sink<'s, W> {
         self.buffer.room()
     }
 
-    /// Puts bytes if they fit into the buffer, and returns whether they do. A loop that puts small
-    /// numbers calls this first: the memory of a result is zeroed on every call, and a `bool` is
-    /// smaller than the result of [`Sink::put`].
+    /// Puts bytes if they fit into the buffer, and returns `true` if they do. A loop that puts
+    /// small numbers calls this first: the memory of a result is zeroed on every call, and a `bool`
+    /// is smaller than the result of [`Sink::put`].
     #[inline(always)]
     pub fn try_put(&mut self, bytes: &[u8]) -> bool
         ensures put { result ≡ true → Puts W.contents self.old bytes.now (Ok tt) self.new }

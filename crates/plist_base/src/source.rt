@@ -35,7 +35,7 @@ pub trait Source: Drop {
 
     /// Reads bytes from offset `place` on into the front of the buffer, and returns their number.
     /// It may read fewer bytes than fit into the buffer. If the bytes are known, it returns 0 only
-    /// if the buffer is empty or no byte remains from this offset on.
+    /// if the buffer is empty or no byte remains from the offset on.
     ///
     /// # Errors
     ///
@@ -49,7 +49,7 @@ pub trait Source: Drop {
 
     /// Returns the bytes from offset `place` on that are in memory, without reading. The slice may
     /// have any length, and is often empty. The default implementation returns an empty slice.
-    /// Readers call this function for nearly every object, so it should be cheap.
+    /// Readers call the function for nearly every object, so it should be cheap.
     fn buffered(&self, place: u64) -> &[u8]
         ensures bytes { IfSome (known self.now) (λ bytes. LiesAt bytes place result.now) }
     {
@@ -137,7 +137,7 @@ impl Source for Vec<u8> {
 /// # Errors
 ///
 /// `Io` if a read fails and `UnexpectedEof` if a read returns no byte, each with the offset of that
-/// read. The front of the buffer then contains the bytes from `place` up to this offset.
+/// read. The front of the buffer then contains the bytes from `place` up to that offset.
 pub fn read_exact_at<S: Source>(source: &mut S, place: u64, buf: &mut [u8]) -> Result<(), Error>
     requires { place + length buf.old < 2 ^ 64 }
     // Result.

@@ -186,7 +186,7 @@ fn block_shares(bytes: &[u8]) -> usize
     size
 }
 
-/// A string in UTF-16: its units, each in two bytes in big-endian order. Each surrogate is paired.
+/// A string in UTF-16: its units, each in two bytes in big-endian order. Every surrogate is paired.
 #[derive(Clone, Copy)]
 pub struct Utf16Str<'a> {
     bytes: &'a [u8],
@@ -211,7 +211,7 @@ impl<'a> Utf16Str<'a> {
         None
     }
 
-    /// Returns the string with the given bytes as its units. Each surrogate must be paired.
+    /// Returns the string with the given bytes as its units. Every surrogate must be paired.
     #[inline(always)]
     pub fn from_valid(bytes: &'a [u8]) -> Utf16Str<'a>
         requires { IsUtf16 bytes.now }

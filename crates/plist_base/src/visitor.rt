@@ -10,8 +10,8 @@ use std::ops::ControlFlow;
 /// needn't check that they can follow one another. A visitor that can fail keeps its error and
 /// returns `Break`.
 ///
-/// Only [`EventVisitor::event`] is required. Each of the other methods takes the event that it
-/// names; a fast visitor implements those for the events that are frequent.
+/// Only [`EventVisitor::event`] is required. Every other method takes the event that it names; a
+/// fast visitor implements those for the events that are frequent.
 ///
 /// # Examples
 ///
@@ -69,9 +69,9 @@ pub trait EventVisitor {
     }
 
     /// Takes a string in ASCII, which may be a key, given its bytes, which haven't been tested, and
-    /// returns whether the next event is wanted. Returns `None` and changes nothing if a byte isn't
-    /// ASCII, or if the string is to be handed over by [`EventVisitor::string`] instead. A visitor
-    /// that tests each byte anyway saves the source a test.
+    /// returns `true` if the next event is wanted. Returns `None` and changes nothing if a byte
+    /// isn't ASCII, or if the string is to be handed over by [`EventVisitor::string`] instead. A
+    /// visitor that tests every byte anyway saves the source a test.
     #[inline(always)]
     fn ascii_string(&mut self, bytes: &[u8]) -> Option<ControlFlow<()>>
         ensures ascii { IfSome result (λ _. EachByte (λ byte. byte < 128) bytes.now) }
@@ -130,8 +130,8 @@ pub trait EventVisitor {
         self.event(Event::String(text))
     }
 
-    /// Takes a string in UTF-16, which may be a key, and returns whether the next event is wanted.
-    /// Returns `None` and changes nothing if the string is to be handed over by
+    /// Takes a string in UTF-16, which may be a key, and returns `true` if the next event is
+    /// wanted. Returns `None` and changes nothing if the string is to be handed over by
     /// [`EventVisitor::string`] instead. A visitor that needs the string in UTF-8 returns `None`.
     #[inline(always)]
     fn utf16_string(&mut self, text: Utf16Str<'_>) -> Option<ControlFlow<()>>

@@ -1,4 +1,4 @@
-//! Windows of a file, stored in two slices: one has a header for each window, the other the bytes
+//! Windows of a file, stored in two slices: one has a header for every window, the other the bytes
 //! of all windows.
 
 ghost use Rattle.std.specs.Prelude.{◌≡◌, ◌+◌, ◌*◌, ◌<◌, ◌≤◌, length, drop, take, IfSome, OnErr};

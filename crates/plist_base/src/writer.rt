@@ -14,7 +14,7 @@ pub trait Sealed {}
 /// An event can come next if the events of some property list begin with those that the writer
 /// keeps (`held`), followed by this one. Until the writer fails, it returns `UnexpectedEventType`
 /// or `ExpectedEndOfEventStream` for any other event, and is unchanged. It returns `OutOfMemory`,
-/// `Io` and `PlistTooLarge` only for an event that can come next. It has failed then: each later
+/// `Io` and `PlistTooLarge` only for an event that can come next. It has failed then: every later
 /// call returns `WriterFailed` and changes nothing. No error of a writer has an offset. The length
 /// of a start is a hint, which has no effect on what can come next.
 pub trait Writer: Sealed {
@@ -30,8 +30,8 @@ pub trait Writer: Sealed {
     /// Relates the writer before a call, the event, the result, and the writer after the call.
     ghost Step: { Self → PlainEvent → Answer → Self → Type 0 };
 
-    /// Writes an event. Each of the other methods writes the event that it names, and fails as this
-    /// one does.
+    /// Writes an event. Every other method writes the event that it names, and fails as `write`
+    /// does.
     ///
     /// # Errors
     ///

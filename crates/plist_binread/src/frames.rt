@@ -18,7 +18,7 @@ pub struct Frame {
     pub count: u64,
 }
 
-/// An open collection whose numbers fit into four bytes each.
+/// An open collection with numbers that fit into four bytes each.
 #[derive(Clone, Copy)]
 pub struct NarrowFrame {
     /// The number of the collection's object.
@@ -66,7 +66,7 @@ pub enum NextChild {
     Nothing,
     /// The collection had no more children and was closed. The field is the number of its object.
     End(u64),
-    /// A child of this collection is next. Its index is how many children were entered before it.
+    /// A child of the collection is next. Its index is how many children were entered before it.
     Child(Frame),
 }
 
@@ -104,7 +104,7 @@ impl Frames {
         }
     }
 
-    /// Opens the collection with this object number and with `count` children.
+    /// Opens the collection with the object number `object` and with `count` children.
     #[inline(always)]
     pub fn push(&mut self, object: u64, count: u64) -> Result<(), AllocError>
         ensures value { OnOk result (self.new ≡ self.old ++ frame_of object 0 count ∷ []) }

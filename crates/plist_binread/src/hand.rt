@@ -138,7 +138,7 @@ fn hand_wide_text<V: EventVisitor>(
     }
 }
 
-/// Hands over the string or data in these bytes, or returns a fault if a string is invalid.
+/// Hands over the string or data in the given bytes, or returns a fault if a string is invalid.
 #[inline(always)]
 pub fn hand_bytes<V: EventVisitor>(
     alloc: Global,
@@ -230,8 +230,8 @@ fn hand_start<V: EventVisitor>(kind: CollectionKind, count: u64, visitor: &mut V
     }
 }
 
-/// Hands over the first event of the object at this offset, or returns a fault. A long string or
-/// long data is read into new memory.
+/// Hands over the first event of the object at the given offset, or returns a fault. A long string
+/// or long data is read into new memory.
 #[inline(always)]
 pub fn hand_decoded<S: Source, C: DecodeCounter, V: EventVisitor>(
     source: &mut S,

@@ -43,8 +43,8 @@ fn offsets_of(walk: &Walk, bytes: &[u8], width: usize, count: usize) -> [Option<
 
 /// Prefetches objects, and remembers whether they seem to be scattered.
 ///
-/// The processor would otherwise wait for each scattered object in turn. The kit has no instruction
-/// that prefetches, so a byte of each object is read.
+/// The processor would otherwise wait for every scattered object in turn. The kit has no
+/// instruction that prefetches, so a byte of every object is read.
 #[derive(Clone, Copy)]
 pub struct Prefetcher {
     // The number of the collection that was entered last, among those with enough children.
@@ -115,9 +115,9 @@ impl Prefetcher {
     /// Prefetches the objects of the next items or values of a collection if objects seem to be
     /// scattered. This is done for every sixteenth child, if enough children are left.
     ///
-    /// They seem to be scattered if the collection is entered and its number is far from that of
-    /// the one that was entered before, or otherwise if the last prefetch found several objects far
-    /// from one another.
+    /// They seem to be scattered if the collection is entered and its number is far from the number
+    /// of the previous one, or otherwise if the last prefetch found several objects far from one
+    /// another.
     #[inline(always)]
     pub fn prefetch<S: Source>(&mut self, source: &S, walk: &Walk, frame: Frame, width: usize)
         requires object { frame.object < walk_objects walk.now }

@@ -26,7 +26,7 @@ const STARTS: u64 = 33;
 /// A copy of a few bytes that a source has buffered, from an offset on.
 ///
 /// References that lie one after the other are read from a run, because this is faster than asking
-/// the source for each of them.
+/// the source for every one of them.
 #[derive(Clone, Copy)]
 pub struct Run {
     /// The offset of the first byte.
@@ -215,10 +215,10 @@ fn read_reference<S: Source>(
 /// to consecutive children are read from these copies without asking the source again.
 #[derive(Clone, Copy)]
 pub struct ReferenceReader {
-    /// A copy of bytes from which references are read.
+    /// A copy of bytes with references.
     pub near: Run,
-    /// A copy of bytes from which the references to values are read if they lie far from the
-    /// references to the keys.
+    /// A copy of bytes with the references to values, used if they lie far from the references to
+    /// the keys.
     pub values: Run,
     /// Prefetches objects when a copy is filled.
     pub prefetcher: Prefetcher,

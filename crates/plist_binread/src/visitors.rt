@@ -12,17 +12,17 @@ use std::borrow::{CowSlice, CowStr};
 use std::ops::ControlFlow;
 
 /// Passes all events on to another visitor. Its contract says that each of them is what contracts
-/// see of some [`Event`]. A reader whose contract describes owned events needs this when it hands
-/// over the events of a [`BinaryReader`](crate::BinaryReader).
+/// see of some [`Event`]. If a reader's contract describes owned events, the reader needs this when
+/// it hands over the events of a [`BinaryReader`](crate::BinaryReader).
 ///
 /// The code that enters an object, and the code that hands over a small scalar, are compiled once
-/// for each type of visitor that they are called with. A `BinaryReader` hands the first event of a
-/// file, and each scalar that is found in the cache, to a `Relay`. It hands all other events to its
-/// visitor directly. So the code for these has only one caller, and becomes part of the loop over
-/// the events. This saves a tenth of the instructions for each event. Each method passes its event
-/// on by the method of the same name. Without those for starts, ends and dates, a `Reader`, which
-/// hands all events of a binary file but the first to a `Relay`, takes 3 % more instructions for
-/// settings.
+/// for every type of visitor that they are called with. A `BinaryReader` hands the first event of a
+/// file, and every scalar that is found in the cache, to a `Relay`. It hands all other events to
+/// its visitor directly. So the code for these has only one caller, and becomes part of the loop
+/// over the events. This saves a tenth of the instructions for every event. Every method passes its
+/// event on by the method of the same name. Without those for starts, ends and dates, a `Reader`,
+/// which hands all events of a binary file but the first to a `Relay`, takes 3 % more instructions
+/// for settings.
 #[derive(Drop)]
 pub struct Relay<'v, V> {
     visitor: &'v mut V,
@@ -110,7 +110,7 @@ impl<'v, V: EventVisitor> EventVisitor for Relay<'v, V> {
 
 /// Passes events on to another visitor as long as the limits admit them.
 ///
-/// After the first event that isn't admitted, this visitor stops the walk.
+/// After the first event that isn't admitted, the visitor stops the walk.
 #[derive(Drop)]
 pub struct Within<'v, V> {
     limiter: &'v mut LimitCounter,

@@ -1,4 +1,4 @@
-//! Stores the state of a walk: the open collections, and what is known about each object.
+//! Stores the state of a walk: the open collections, and what is known about every object.
 
 ghost use Rattle.std.specs.Prelude.{◌≡◌, length, reverse};
 ghost use Rattle.std.proofs.Props.{props};
@@ -12,10 +12,10 @@ use std::alloc::Global;
 /// The state of a walk over the objects of a file.
 #[derive(Drop)]
 pub struct Walk {
-    /// The tag of each object, by its number. It encodes what the content is, or that the object is
-    /// an open collection, and where its references lie.
+    /// The tag of every object, by its number. It encodes what the content is, or that the object
+    /// is an open collection, and where its references lie.
     pub tags: Vec<u8>,
-    /// The content of each object, which is its offset or a small scalar that is cached.
+    /// The content of every object, which is its offset or a small scalar that is cached.
     pub contents: Vec<u64>,
     /// The open collections, the innermost one last.
     pub frames: Frames,
@@ -29,7 +29,7 @@ impl Walk {
     ghost use Rattle.plist_binread.specs.Step.{IsEnd, ParentIsOpen, TakesNextChild, WeightFalls, closes, stored_references};
     ghost use Rattle.plist_binread.specs.Walking.{IsEmptyWalk, cached_in, open_in, walk_objects};
 
-    /// Creates a walk over a file whose objects aren't known yet.
+    /// Creates a walk over a file. Its objects aren't known yet.
     pub fn new(alloc: Global) -> Self
         ensures { IsEmptyWalk result }
     {

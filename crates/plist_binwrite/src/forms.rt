@@ -1,8 +1,8 @@
 //! Puts the parts of a file: scalars, lengths, references, the offset table and the trailer.
 //!
-//! The functions put their bytes into a [`Sink`]. If they return an error, it is that of
-//! [`Sink::put`]: `Io`, without an offset. The writer has then received a prefix of all the bytes
-//! that were put.
+//! The functions put their bytes into a [`Sink`]. They return any error of [`Sink::put`]: `Io`,
+//! without an offset. After an error the writer has received a prefix of all the bytes that were
+//! put.
 //!
 //! For the plan of a file, the lengths of scalars are computed before any byte is put.
 
@@ -45,8 +45,8 @@ pub fn put_number<W: Write>(sink: &mut Sink<'_, W>, width: usize, number: u64) -
 }
 
 /// Puts the lowest `width` bytes of a number in big-endian order, if there is room for eight bytes
-/// in the buffer of the sink, and returns whether there is. `width` is at most 8. A loop calls this
-/// before [`put_number`], because there mostly is room, and then no large `Result` is zeroed.
+/// in the buffer of the sink, and returns `true` if there is. `width` is at most 8. A loop calls
+/// this before [`put_number`], because there mostly is room, and then no large `Result` is zeroed.
 #[inline(always)]
 pub fn try_put_number<W: Write>(sink: &mut Sink<'_, W>, width: usize, number: u64) -> bool
     requires width { width ≤ 8 }
@@ -62,8 +62,8 @@ pub fn try_put_number<W: Write>(sink: &mut Sink<'_, W>, width: usize, number: u6
     true
 }
 
-/// Puts a marker of this kind with a length. A length below 15 is in the low half of the marker,
-/// and any other length follows the marker as an unsigned integer.
+/// Puts a marker of the given kind with a length. A length below 15 is in the low half of the
+/// marker, and any other length follows the marker as an unsigned integer.
 #[inline(always)]
 pub fn put_length<W: Write>(
     sink: &mut Sink<'_, W>,
@@ -77,7 +77,7 @@ pub fn put_length<W: Write>(
     Ok(())
 }
 
-/// Puts the object of a scalar. An error is that of [`Sink::put`].
+/// Puts the object of a scalar. Returns any error of [`Sink::put`].
 pub fn put_scalar<W: Write>(sink: &mut Sink<'_, W>, scalar: ScalarRef<'_>) -> Result<(), Error>
     requires { IsStored scalar }
     ensures { Puts W.contents sink.old (scalar_form (scalar_of_ref scalar.entry)) (answer_of result)
@@ -175,7 +175,7 @@ pub fn put_trailer<W: Write>(sink: &mut Sink<'_, W>, count: usize, table: u64) -
     put_numbers(sink, 8, &[count as u64, 0, table])
 }
 
-/// Puts the offset table, which contains the byte offset of each object, and then the trailer. The
+/// Puts the offset table, which contains the byte offset of every object, and then the trailer. The
 /// table itself lies at the byte offset `table`.
 pub fn put_table_and_trailer<W: Write>(
     sink: &mut Sink<'_, W>,

@@ -1,8 +1,8 @@
 //! Writes binary property lists.
 //!
-//! The main contract is that of [`BinaryWriter`]: the call that completes a property list writes
-//! its file, in which each object has the form that `docs/FORMAT.md` lists for it, and from which
-//! the same events are read. No other call writes a byte.
+//! [`BinaryWriter`] has the main contract: the call that completes a property list writes its file,
+//! where every object has the form that `docs/FORMAT.md` lists for it, and from which the same
+//! events are read. No other call writes a byte.
 #![tactic(auto)]
 
 pub mod classes;

@@ -39,15 +39,15 @@ pub struct FilePlan<'p, 'e> {
     pub width: usize,
 }
 
-/// The number of each class's object, and the size of the objects.
+/// The number of every class's object, and the size of the objects.
 #[derive(Drop)]
 pub struct Numbering {
-    /// One more than the number of each class's object, indexed by the class, or 0 if the object
+    /// One more than the number of every class's object, indexed by the class, or 0 if the object
     /// has no number yet.
     pub by_class: CompactNumbers,
     /// The number of objects that have numbers. Their numbers are those below `count`.
     pub count: usize,
-    /// The size of these objects together, or 2^64 - 1 if it is greater.
+    /// The size of the objects together, or 2^64 - 1 if it is greater.
     pub size: u64,
 }
 
@@ -228,7 +228,7 @@ fn size_of_file(objects: u64, count: u64) -> Option<u64>
     table.checked_add(offsets)?.checked_add(32)
 }
 
-/// Plans the file of a tree's events, which has one object for each class.
+/// Plans the file of a tree's events, which has one object for every class.
 ///
 /// # Errors
 ///

@@ -78,7 +78,7 @@ fn push_unsigned(buffer: &mut FixedBuffer, number: u64)
     push_marked_number(buffer, number_marker(width), width, number);
 }
 
-/// Pushes a marker of this kind with a length.
+/// Pushes a marker of the given kind with a length.
 #[inline(always)]
 pub fn push_length(buffer: &mut FixedBuffer, kind: CountedKind, count: u64)
     requires { 10 ≤ room buffer.old }

@@ -13,7 +13,7 @@ use std::alloc::Global;
 use std::io::Write;
 
 /// Decides which equal trees of a property list share an object of its file. The trait is sealed,
-/// as [`Writer`](plist_base::Writer) is: only this crate and `plist_share` implement it.
+/// as [`Writer`](plist_base::Writer) is: only `plist_binwrite` and `plist_share` implement it.
 pub trait Sharing: Sealed + Drop {
     /// Says which bytes are a file of a tree, and how many bytes such a file has.
     ghost kind: { FileKind };
@@ -36,7 +36,7 @@ pub trait Sharing: Sealed + Drop {
             writer.new };
 }
 
-/// Equal scalars share an object, and each collection has an object of its own.
+/// Equal scalars share an object, and every collection has an object of its own.
 #[derive(Drop)]
 pub struct EqualScalars;
 

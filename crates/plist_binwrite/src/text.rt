@@ -113,7 +113,7 @@ pub fn count_units(text: &str) -> usize
     count
 }
 
-/// Puts a string in ASCII. An error is that of [`Sink::put`].
+/// Puts a string in ASCII. Returns any error of [`Sink::put`].
 pub fn put_ascii<W: Write>(sink: &mut Sink<'_, W>, text: &str) -> Result<(), Error>
     requires { is_ascii_text text.now ≡ true }
     ensures { Puts W.contents sink.old (scalar_form (String text.now)) (answer_of result) sink.new }
@@ -134,8 +134,8 @@ fn put_encoded<W: Write>(sink: &mut Sink<'_, W>, text: &str) -> Result<(), Error
     put_units(sink, text)
 }
 
-/// Puts a string: its bytes if all of them are ASCII, and otherwise its UTF-16 units. An error is
-/// that of [`Sink::put`].
+/// Puts a string: its bytes if all of them are ASCII, and otherwise its UTF-16 units. Returns any
+/// error of [`Sink::put`].
 pub fn put_text<W: Write>(sink: &mut Sink<'_, W>, text: &str) -> Result<(), Error>
     ensures { Puts W.contents sink.old (scalar_form (String text.now)) (answer_of result) sink.new }
 {
@@ -146,7 +146,7 @@ pub fn put_text<W: Write>(sink: &mut Sink<'_, W>, text: &str) -> Result<(), Erro
     }
 }
 
-/// Puts a string that isn't ASCII, given its units in UTF-16. An error is that of [`Sink::put`].
+/// Puts a string that isn't ASCII, given its units in UTF-16. Returns any error of [`Sink::put`].
 pub fn put_wide<W: Write>(sink: &mut Sink<'_, W>, units: &[u8]) -> Result<(), Error>
     requires { IsWide units.now }
     ensures { Puts W.contents sink.old (scalar_form (String (utf8_of_utf16 units.now)))

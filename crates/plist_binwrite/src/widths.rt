@@ -21,7 +21,7 @@ pub fn least_width(number: u64) -> usize
     }
 }
 
-/// Returns the width in bytes of a reference in a file with this many objects.
+/// Returns the width in bytes of a reference in a file with `count` objects.
 pub fn reference_width(count: u64) -> usize
     ensures value { result ≡ reference_width count }
     ensures range { (1 ≤ result) × (result ≤ 8) }

@@ -23,7 +23,7 @@ use std::marker::PhantomData;
 /// `UnexpectedEventType` if the event can't follow the buffered ones; nothing changes then.
 /// `PlistTooLarge` if the file would have 2^64 bytes or more, `OutOfMemory` if an allocation fails,
 /// and `Io` if a write or the flush fails. These three are returned only for an event that can
-/// follow the buffered ones, and the writer has failed then: each later call returns
+/// follow the buffered ones, and the writer has failed then: every later call returns
 /// `WriterFailed`. After `PlistTooLarge` and `OutOfMemory` no byte of the property list was
 /// written. After `Io` a prefix of its file was written, and all of it if the flush failed. No
 /// error has an offset.

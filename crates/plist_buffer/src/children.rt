@@ -59,7 +59,7 @@ impl Child {
     }
 }
 
-/// Returns whether a collection begins at an index. A walk over all events calls this before it
+/// Returns `true` if a collection begins at an index. A walk over all events calls it before it
 /// creates an iterator, because most events have no children.
 #[inline(always)]
 pub fn begins_collection(events: &EventTable<'_>, index: usize) -> bool

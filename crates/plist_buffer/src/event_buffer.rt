@@ -50,8 +50,8 @@ impl From<AllocError> for PushError {
     }
 }
 
-/// The buffered events of the open property list. Once they are those of a whole property list, no
-/// event can be added until they are cleared.
+/// The buffered events of the open property list. Once they form a whole property list, no event
+/// can be added until they are cleared.
 ///
 /// The last events may wait to be appended to the table, if they are items of an array and neither
 /// collections, nor strings, nor data.
@@ -140,8 +140,8 @@ impl EventBuffer {
         }
     }
 
-    /// Sets the expected number of different scalars. This is only a hint, with which the table of
-    /// scalars grows in larger steps: the actual number may be greater or smaller. The call
+    /// Sets the expected number of different scalars. This is only a hint, and the actual number
+    /// may be greater or smaller. It makes the table of scalars grow in larger steps. The call
     /// allocates no memory.
     pub fn expect_scalars(&mut self, count: usize)
         ensures events { buffered_events self.new ≡ buffered_events self.old }
@@ -289,9 +289,9 @@ impl EventBuffer {
     }
 
     /// Buffers a string in ASCII, which may be a key, given its bytes, if it can follow the
-    /// buffered events, which must not be those of a whole property list. Returns `None` and
-    /// changes nothing if it can't follow them, if a byte isn't ASCII, or if there are at most
-    /// eight bytes: then the string is to be passed to [`EventBuffer::try_push`].
+    /// buffered events, which must not form a whole property list. Returns `None` and changes
+    /// nothing if it can't follow them, if a byte isn't ASCII, or if there are at most eight bytes:
+    /// then the string is to be passed to [`EventBuffer::try_push`].
     ///
     /// # Errors
     ///
@@ -311,9 +311,9 @@ impl EventBuffer {
     }
 
     /// Buffers a string in UTF-16, which may be a key, if it can follow the buffered events, which
-    /// must not be those of a whole property list. Returns `None` and changes nothing if it can't
-    /// follow them, if it is ASCII, or if it has at most eight bytes in UTF-8: then it is to be
-    /// passed to [`EventBuffer::try_push`].
+    /// must not form a whole property list. Returns `None` and changes nothing if it can't follow
+    /// them, if it is ASCII, or if it has at most eight bytes in UTF-8: then it is to be passed to
+    /// [`EventBuffer::try_push`].
     ///
     /// # Errors
     ///
@@ -334,8 +334,8 @@ impl EventBuffer {
         self.try_push_long(alloc, LongStr::Wide(wide))
     }
 
-    /// Buffers an event if it can follow the buffered ones, which must not be those of a whole
-    /// property list.
+    /// Buffers an event if it can follow the buffered ones, which must not form a whole property
+    /// list.
     ///
     /// # Errors
     ///
@@ -361,14 +361,14 @@ impl EventBuffer {
         }
     }
 
-    /// Returns whether the events are those of a whole property list.
+    /// Returns `true` if the events form a whole property list.
     pub fn is_whole(&self) -> bool
         ensures { result ≡ is_whole self.now }
     {
         self.expects.is_none()
     }
 
-    /// Returns the events, which must be those of a whole property list.
+    /// Returns the events, which must form a whole property list.
     pub fn events(&self) -> &EventTable<'static>
         requires { is_whole self.now ≡ true }
         ensures { plain_events result.now ≡ buffered_events self.now }

@@ -1,4 +1,4 @@
-//! The table of a property list's events, which stores each different scalar once.
+//! The table of a property list's events, which stores every different scalar once.
 
 ghost use Rattle.std.specs.Prelude.{◌≡◌, ◌^◌, ◌<◌, true, length, OnOk, OnErr, ◌-◌};
 ghost use Rattle.std.proofs.Props.{props};
@@ -20,7 +20,7 @@ use plist_base::{CompactNumbers, Error, Event, EventShape, Integer};
 use std::alloc::{AllocError, Global};
 use std::borrow::{CowSlice, CowStr};
 
-/// The events of a property list. Each different scalar is stored once. The lengths of starts
+/// The events of a property list. Every different scalar is stored once. The lengths of starts
 /// aren't stored.
 ///
 /// The table doesn't check whether the events can follow one another. An index that a call takes
@@ -83,8 +83,8 @@ impl<'e> EventTable<'e> {
         }
     }
 
-    /// Sets the expected number of different scalars. This is only a hint, with which the table of
-    /// scalars grows in larger steps: the actual number may be greater or smaller. The call
+    /// Sets the expected number of different scalars. This is only a hint, and the actual number
+    /// may be greater or smaller. It makes the table of scalars grow in larger steps. The call
     /// allocates no memory.
     pub fn expect_scalars(&mut self, count: usize)
         ensures events { plain_events self.new ≡ plain_events self.old }
@@ -152,7 +152,7 @@ impl<'e> EventTable<'e> {
         self.small.len() + self.long.len()
     }
 
-    /// Returns the number of ends, which is that of collections if each of them is closed.
+    /// Returns the number of ends. If all collections are closed, it is their number.
     pub fn count_collections(&self) -> usize
         ensures count { result ≡ count_collections self.now }
         ensures small { result < 2 ^ 63 }
@@ -195,8 +195,8 @@ impl<'e> EventTable<'e> {
         }
     }
 
-    /// Returns the index after the tree that begins at this index. For an end, and for a collection
-    /// that is still open, this is the next index.
+    /// Returns the index after the tree that begins at `index`. For an end, and for a collection
+    /// that is still open, it returns the next index.
     pub fn index_after(&self, index: usize) -> usize
         requires { index < length (plain_events self.now) }
         ensures { result ≡ skip_after (plain_events self.now) index }
@@ -204,7 +204,7 @@ impl<'e> EventTable<'e> {
         self.entries.following(index)
     }
 
-    /// If the event at this index is a scalar, returns its index among the different scalars, and
+    /// If the event at `index` is a scalar, returns its index among the different scalars, and
     /// otherwise `None`. Strings and data of more than eight bytes are the last of the different
     /// scalars.
     pub fn scalar_index(&self, index: usize) -> Option<usize>
@@ -222,7 +222,7 @@ impl<'e> EventTable<'e> {
         }
     }
 
-    /// Returns the scalar at this index, or `None` if the event isn't a scalar. The function is
+    /// Returns the scalar at `index`, or `None` if the event isn't a scalar. The function is
     /// inlined, so that no scalar is copied only to be matched on.
     #[inline(always)]
     pub fn scalar_at(&self, index: usize) -> Option<ScalarRef<'_>>

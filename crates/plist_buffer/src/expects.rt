@@ -26,9 +26,9 @@ pub enum Transition {
     Closed,
     /// The stack is unchanged.
     Kept,
-    /// This expectation is pushed onto the stack.
+    /// The expectation is pushed onto the stack.
     Pushed(Expect),
-    /// This expectation replaces the topmost one.
+    /// The expectation replaces the topmost one.
     Replaced(Expect),
 }
 
@@ -72,7 +72,7 @@ fn transition_of_pairs(event: &Event<'_>) -> Transition
 }
 
 impl Expect {
-    /// Returns how an event changes this expectation.
+    /// Returns how an event changes the expectation.
     #[inline(always)]
     pub fn change_by(self, event: &Event<'_>) -> Transition
         ensures { result ≡ transition_of self (event_of event.now) }

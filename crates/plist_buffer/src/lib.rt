@@ -1,9 +1,9 @@
-//! The events of a property list in a table: each event in five bytes, and each different scalar
+//! The events of a property list in a table: every event in five bytes, and every different scalar
 //! once.
 //!
-//! The main contracts are those of [`EventTable::push`], after which the table has one event more,
-//! and of [`EventBuffer::try_push`](event_buffer::EventBuffer::try_push), which buffers an event if
-//! it can follow the buffered ones.
+//! The main contracts belong to two calls. [`EventTable::push`] adds one event to the table, and
+//! [`EventBuffer::try_push`](event_buffer::EventBuffer::try_push) buffers an event if it can follow
+//! the buffered ones.
 #![tactic(auto)]
 
 pub mod children;

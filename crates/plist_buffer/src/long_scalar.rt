@@ -12,7 +12,7 @@ use std::alloc::{AllocError, Global};
 use std::borrow::{CowSlice, CowStr};
 use std::hash::{Hash, Hasher};
 
-/// The form in which a string or data is stored.
+/// How a string or data is stored.
 #[derive(Clone, Copy, PartialEq, Eq)]
 pub enum Form {
     /// A string in ASCII.

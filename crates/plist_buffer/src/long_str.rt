@@ -1,4 +1,4 @@
-//! Strings of more than eight bytes, in the form in which a table stores them.
+//! Strings of more than eight bytes, in the form that a table stores.
 
 ghost use Rattle.std.specs.Prelude.{◌≡◌, ◌<◌, length};
 ghost use Rattle.plist_base.specs.ByteTests.{EachByte};
@@ -20,8 +20,8 @@ impl<'a> AsciiStr<'a> {
     ghost use Rattle.plist_buffer.specs.AsciiTexts.{is_ascii_text};
     ghost use Rattle.plist_buffer.specs.LongStrings.{string_of_ascii};
 
-    /// Returns the string that consists of these bytes, or `None` if one of them isn't ASCII, or if
-    /// there are at most eight.
+    /// Returns the string that consists of the given bytes, or `None` if one of them isn't ASCII,
+    /// or if there are at most eight.
     #[inline(always)]
     pub fn new(bytes: &'a [u8]) -> Option<AsciiStr<'a>>
         ensures { IfSome result (λ text. string_of_ascii text ≡ bytes.now) }
@@ -43,7 +43,7 @@ impl<'a> AsciiStr<'a> {
     }
 }
 
-/// A string of more than eight bytes in UTF-8, in the form in which a table stores it.
+/// A string of more than eight bytes in UTF-8, in the form that a table stores.
 #[derive(Clone, Copy)]
 pub enum LongStr<'a> {
     /// A string in ASCII.

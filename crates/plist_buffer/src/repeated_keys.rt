@@ -51,8 +51,8 @@ fn repeats_at(events: &EventTable<'_>, start: usize, stamps: &mut Vec<usize>) ->
     false
 }
 
-/// Returns whether any dictionary in the property list with these events contains a key twice. If
-/// none does, each key has a single value in its dictionary.
+/// Returns `true` if any dictionary in the property list with the given events contains a key
+/// twice. If none does, each key has a single value in its dictionary.
 ///
 /// # Errors
 ///

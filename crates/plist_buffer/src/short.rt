@@ -1,4 +1,4 @@
-//! Short strings and short data, whose bytes are stored in the value itself.
+//! Short strings and short data, with their bytes in the value itself.
 
 ghost use Rattle.std.specs.Prelude.{◌≡◌, ◌<◌, ◌≤◌, IfSome, None, length, take, IsUtf8};
 ghost use Rattle.std.specs.Str.{bytes_eq};
@@ -18,7 +18,7 @@ pub struct ShortBytes<const N: usize> {
 impl<const N: usize> ShortBytes<N> {
     ghost use Rattle.plist_buffer.specs.ShortContents.{short_data};
 
-    /// Copies these bytes, or returns `None` if there are more than `N`.
+    /// Copies the bytes, or returns `None` if there are more than `N`.
     #[inline(always)]
     pub fn new(content: &[u8]) -> Option<ShortBytes<N>>
         requires { N < 256 }
@@ -57,7 +57,7 @@ impl<const N: usize> ShortBytes<N> {
 impl ShortBytes<8> {
     ghost use Rattle.plist_buffer.specs.ShortContents.{short_data};
 
-    /// Returns whether both are the same bytes.
+    /// Returns `true` if both are the same bytes.
     #[inline(always)]
     pub fn same(&self, other: &ShortBytes<8>) -> bool
         ensures { result ≡ bytes_eq (short_data self.now) (short_data other.now) }
@@ -76,7 +76,7 @@ pub struct ShortText<const N: usize> {
 impl<const N: usize> ShortText<N> {
     ghost use Rattle.plist_buffer.specs.ShortContents.{short_string};
 
-    /// Copies this string, or returns `None` if it has more than `N` bytes.
+    /// Copies the string, or returns `None` if it has more than `N` bytes.
     #[inline(always)]
     pub fn new(text: &str) -> Option<ShortText<N>>
         requires { N < 256 }
@@ -107,7 +107,7 @@ impl<const N: usize> ShortText<N> {
 impl ShortText<8> {
     ghost use Rattle.plist_buffer.specs.ShortContents.{short_string};
 
-    /// Returns whether both are the same string.
+    /// Returns `true` if both are the same string.
     #[inline(always)]
     pub fn same(&self, other: &ShortText<8>) -> bool
         ensures { result ≡ bytes_eq (short_string self.now) (short_string other.now) }

@@ -2,7 +2,7 @@
 
 use plist_base::{Date, Integer, RealBits, Uid};
 
-/// A scalar whose string or data is borrowed.
+/// A scalar with a borrowed string or data.
 #[derive(Clone, Copy)]
 pub enum ScalarRef<'a> {
     /// A string in ASCII.

@@ -40,7 +40,7 @@ impl WaitingScalars {
         }
     }
 
-    /// Returns whether no scalar waits.
+    /// Returns `true` if no scalar waits.
     #[inline(always)]
     pub fn is_empty(&self) -> bool
         ensures { result ≡ (length self.now == 0) }
@@ -48,7 +48,7 @@ impl WaitingScalars {
         self.count == 0
     }
 
-    /// Returns whether [`BATCH_SIZE`] scalars wait.
+    /// Returns `true` if [`BATCH_SIZE`] scalars wait.
     #[inline(always)]
     pub fn is_full(&self) -> bool
         ensures value { result ≡ (length self.now == BATCH_SIZE) }

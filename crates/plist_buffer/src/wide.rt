@@ -26,7 +26,7 @@ fn has_ascii_greatest(text: &str) -> bool
     greatest < 128
 }
 
-/// Returns whether each byte of a string is ASCII.
+/// Returns `true` if every byte of a string is ASCII.
 #[inline(always)]
 pub fn is_ascii_text(text: &str) -> bool
     ensures value { result ≡ is_ascii_text text.now }
@@ -109,7 +109,7 @@ impl ShortUtf16 {
     ghost use Rattle.plist_base.specs.Utf16Strings.{string_of_utf16};
     ghost use Rattle.plist_buffer.specs.WideStrings.{string_of_short};
 
-    /// Copies this string, or returns `None` if it has more than 15 units.
+    /// Copies the string, or returns `None` if it has more than 15 units.
     #[inline(always)]
     pub fn new(text: Utf16Str<'_>) -> Option<ShortUtf16>
         ensures { IfSome result (λ short. string_of_short short ≡ string_of_utf16 text.entry) }
@@ -127,7 +127,7 @@ impl ShortUtf16 {
     }
 }
 
-/// A string in UTF-16 whose units are owned.
+/// A string in UTF-16 with owned units.
 #[derive(Drop)]
 pub struct OwnedUtf16 {
     units: Vec<u8>,

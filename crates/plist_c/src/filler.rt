@@ -10,7 +10,7 @@ use crate::stop::{Full, Halt};
 use plist_base::{Event, EventShape, EventVisitor, Integer, Limit, RealBits};
 use std::ops::ControlFlow;
 
-/// A visitor that stores the record of each event, and the bytes of its string or data, in the
+/// A visitor that stores the record of every event, and the bytes of its string or data, in the
 /// caller's memory, until an event exceeds a limit, can't come next, or has no room.
 #[derive(Drop)]
 pub(crate) struct Filler<'a> {

@@ -1,6 +1,6 @@
 //! Readers and writers for programs in C, and in languages that call C.
 //!
-//! The main contract is that of [`sizhetom_read`](read::sizhetom_read): the caller's memory has the
+//! [`sizhetom_read`](read::sizhetom_read) has the main contract: the caller's memory has the
 //! records of exactly the items of the input, up to the first fault or as far as there is room.
 #![tactic(auto)]
 

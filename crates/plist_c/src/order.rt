@@ -60,7 +60,7 @@ impl Order {
         }
     }
 
-    /// Returns whether the events may end here.
+    /// Returns `true` if the events may end here.
     pub(crate) fn may_end(&self) -> bool
         ensures { result ≡ may_end (asked_in self.now) }
     {

@@ -80,14 +80,14 @@ fn fill<S: EventSource>(
 }
 
 /// Reads the property list of an input, which has to be exactly one value, into the caller's
-/// memory: a record for each event, and the bytes of all strings and data, one after another. A key
-/// that is repeated stays repeated; its last value is the one that counts.
+/// memory: a record for every event, and the bytes of all strings and data, one after another. A
+/// key that is repeated stays repeated; its last value is the one that counts.
 ///
 /// # Errors
 ///
 /// The outcome has the number of the first fault: one of the input, `LimitReached`, one of the
-/// three about the order of events, `OutOfMemory`, or 31 if an event has no room. The records are
-/// those of the events before it.
+/// three about the order of events, `OutOfMemory`, or 31 if an event has no room. The records of
+/// the events before it are stored.
 #[unsafe(no_mangle)]
 pub extern "C" fn sizhetom_read(
     alloc: Global,

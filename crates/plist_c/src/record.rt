@@ -18,7 +18,7 @@ use std::borrow::{CowSlice, CowStr};
 pub(crate) enum Flaw {
     /// It has an unknown kind.
     Kind,
-    /// Its number or its size isn't one that a record of this kind has.
+    /// Its number or its size isn't one that a record of its kind has.
     Number,
     /// Its string or data doesn't lie within the bytes.
     Range,

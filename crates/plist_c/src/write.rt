@@ -19,7 +19,7 @@ use std::alloc::Global;
 /// Why a record isn't taken.
 #[derive(Clone, Copy)]
 pub(crate) enum Rejection {
-    /// It is that of no event.
+    /// No event has it.
     Flawed(Flaw),
     /// Its event can't follow the preceding ones.
     Misplaced {
@@ -156,13 +156,13 @@ fn write_file<S: Sharing>(
     }
 }
 
-/// Writes the binary file of the one value that these records are into the caller's memory. Equal
-/// collections are stored once if `shares` is true.
+/// Writes the binary file of a value into the caller's memory. The records have to be the events of
+/// exactly one value. Equal collections are stored once if `shares` is true.
 ///
 /// # Errors
 ///
-/// The outcome has the number of the fault: that of the first record that is wrong, with its index;
-/// 23 if the records end too early; 27 if the file would have 2^64 bytes or more; 25 if an
+/// The outcome has the number of the fault: the fault of the first record that is wrong, with its
+/// index; 23 if the records end too early; 27 if the file would have 2^64 bytes or more; 25 if an
 /// allocation fails; and 31, with the length of the file, if it is longer than the caller's memory.
 /// The memory is unchanged then.
 #[unsafe(no_mangle)]

@@ -9,8 +9,8 @@ use plist::{Uid, Value};
 use plist_keyed::{Archive, KeyedError};
 use std::alloc::Global;
 
-/// Returns the object to which a key of an archive refers, or `None` if it refers to none. No Uid
-/// in the object is resolved.
+/// Returns the object that a key of an archive names, or `None` if it refers to none. No Uid in the
+/// object is resolved.
 pub fn object_at<'a>(archive: &Archive<'a>, key: &str) -> Option<&'a Value>
     ensures found { IfSome result (λ object. IsObjectAt key.now archive.now object.now) }
     ensures missing { IsNone result → HasNoObjectAt key.now archive.now }
@@ -22,7 +22,7 @@ pub fn object_at<'a>(archive: &Archive<'a>, key: &str) -> Option<&'a Value>
 }
 
 /// Requests a tree that can't be made, because the object of the Uid `nested` contains `nested`
-/// again, possibly through other Uids. Returns whether the error names another Uid.
+/// again, possibly through other Uids. Returns `true` if the error names another Uid.
 pub fn names_another_open_uid(alloc: Global, archive: &Archive<'_>, uid: Uid, nested: u64) -> bool
     requires { resolved_tree (map tree_of (objects_of archive.now)) uid
         ≡ Err (RecursiveUid nested) }

@@ -40,7 +40,7 @@ pub fn item_and_failures<S: Source>(
     reader.next()
 }
 
-/// Returns whether the next item is the start or the end of a collection. If it is, no byte after
+/// Returns `true` if the next item is the start or the end of a collection. If it is, no byte after
 /// it has been looked at.
 pub fn comes_to_bracket<R: ByteReader + Drop>(reader: &mut AsciiReader<R>) -> bool
     ensures { result ≡ true → peeked_byte reader.new ≡ None }
@@ -52,8 +52,8 @@ pub fn comes_to_bracket<R: ByteReader + Drop>(reader: &mut AsciiReader<R>) -> bo
 }
 
 /// Reads a comment that begins with `/*/` and contains another star, and the start of an array
-/// after the comment. Returns whether the first event is a string, as it would be if the comment
-/// ended at one of these stars. It never is, since a comment ends at the first `*/` after its own
+/// after the comment. Returns `true` if the first event is a string, as it would be if the comment
+/// ended at one of the stars. It never is, since a comment ends at the first `*/` after its own
 /// `/*`.
 #[tactic(auto, using(crate::proofs::SmallInputs::of_comment_and_array))]
 pub fn comment_closed_too_early(alloc: Global, text: &[u8]) -> bool

@@ -50,7 +50,7 @@ pub fn next_after_a_fault<R: Source>(
     }
 }
 
-/// Returns whether the second item of a reader without limits is `LimitReached`. It never is,
+/// Returns `true` if the second item of a reader without limits is `LimitReached`. It never is,
 /// whatever the source does.
 pub fn reaches_a_limit<R: Source>(alloc: Global, source: R) -> bool
     ensures { result ≡ false }

@@ -28,13 +28,13 @@ pub fn print_bytes(alloc: Global, bytes: &[u8], out: &mut Vec<u8>) -> Result<(),
     print_events(alloc, bytes, out)
 }
 
-/// Converts the property list in these bytes. It writes a file of the property list's tree, and
+/// Converts the property list in the given bytes. It writes a file of the property list's tree, and
 /// returns [`FastPath::Sent`]. If a value is needed, it writes nothing, and returns
 /// [`FastPath::NotApplicable`].
 ///
 /// # Errors
 ///
-/// The errors are those of [`convert_binary`].
+/// Any error of [`convert_binary`].
 pub fn convert_bytes(alloc: Global, bytes: &[u8], out: &mut Vec<u8>) -> Result<FastPath, Error>
     ensures sent { IfOkIs result Sent
         (SendsRead Some (Some bytes.now) (Ok tt) out.old.items out.new.items) }
@@ -55,7 +55,7 @@ pub fn text_of_failure(alloc: Global, failure: &Failure) -> Option<Vec<u8>>
     }
 }
 
-/// Prints the events of bytes, and returns whether that fails with the error of a read, which has
+/// Prints the events of bytes, and returns `true` if that fails with the error of a read, which has
 /// an offset. It always returns `false`, since reads of a slice can't fail.
 pub fn meets_a_failed_read(alloc: Global, bytes: &[u8], out: &mut Vec<u8>) -> bool
     ensures { result ≡ false }
@@ -66,8 +66,8 @@ pub fn meets_a_failed_read(alloc: Global, bytes: &[u8], out: &mut Vec<u8>) -> bo
     }
 }
 
-/// Runs the program without arguments, and returns its status, which is that of wrong arguments.
-/// Nothing is printed, and the usage is reported.
+/// Runs the program without arguments, and returns its status, the one for wrong arguments. It
+/// prints no output, and reports the usage.
 pub fn status_of_no_words<R: Commands, O: Write, E: Messages>(
     rt: &R,
     alloc: Global,
@@ -81,7 +81,7 @@ pub fn status_of_no_words<R: Commands, O: Write, E: Messages>(
     run_words(rt, alloc, &[], out, err)
 }
 
-/// Runs a command, and returns whether the run succeeds. If it does, `Ok` is a possible result of
+/// Runs a command, and returns `true` if the run succeeds. If it does, `Ok` is a possible result of
 /// the command, and nothing is reported.
 pub fn is_done<R: Commands, O: Write, E: Messages>(
     rt: &R,
@@ -97,8 +97,8 @@ pub fn is_done<R: Commands, O: Write, E: Messages>(
     run_words(rt, alloc, words, out, err) == 0
 }
 
-/// Runs a command, and returns whether it fails. If it does, some error is a possible result of the
-/// command, and this error is reported.
+/// Runs a command, and returns `true` if it fails. If it does, some error is a possible result of
+/// the command, and is reported.
 pub fn is_refused<R: Commands, O: Write, E: Messages>(
     rt: &R,
     alloc: Global,

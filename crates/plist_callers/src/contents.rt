@@ -89,7 +89,7 @@ pub fn uid_in_value(value: Value) -> Option<Uid>
     }
 }
 
-/// Returns whether a value is `true`.
+/// Returns `true` if a value is `true`.
 pub fn is_true(value: Value) -> bool
     ensures { IsTrue result → boolean_in (tree_of value) ≡ Some true }
 {
@@ -174,8 +174,8 @@ pub fn lent_again(number: &u64) -> Option<u64>
     Value::from(number).as_unsigned_integer()
 }
 
-/// Converts a string to a value. Returns whether the string that is borrowed from the value has as
-/// many bytes as the converted one, which is always true.
+/// Converts a string to a value. Returns `true` if the string that is borrowed from the value has
+/// as many bytes as the converted one, which is always true.
 pub fn lends_its_text(text: String) -> bool
     ensures { result ≡ true }
 {
@@ -267,7 +267,7 @@ pub fn kind_of_uid(uid: Uid) -> EventKind
     kind_of_value(&Value::Uid(uid))
 }
 
-/// Returns the kind of a value's copy, which is that of the value.
+/// Returns the kind of a value's copy, which is the value's kind.
 ///
 /// # Errors
 ///

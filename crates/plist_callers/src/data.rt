@@ -20,7 +20,7 @@ pub fn bytes_again(bytes: Vec<u8>) -> Vec<u8>
     Vec::from(Data::from(bytes))
 }
 
-/// Copies data, and returns the bytes of the copy, which are those of the data.
+/// Copies data, and returns the bytes of the copy, which are the bytes of the data.
 ///
 /// # Errors
 ///
@@ -48,7 +48,7 @@ pub fn set_first_byte(first: &mut Data, byte: u8)
     bytes[0] = byte;
 }
 
-/// Returns whether two values of data are equal, that is, whether their bytes are.
+/// Returns `true` if two values of data are equal, that is, if their bytes are.
 pub fn are_same(first: &Data, other: &Data) -> bool
     ensures { IsTrue result ↔ (first.now ≡ other.now) }
 {
@@ -66,8 +66,8 @@ pub fn text_of_no_data(alloc: Global) -> Result<String, AllocError>
     InvalidXmlData::Decode(DecodeError::InvalidPadding).to_string(alloc)
 }
 
-/// If a text is rejected because of a byte that isn't valid in base64, returns the offset of this
-/// byte in the text without white space, and the byte. Otherwise returns `None`.
+/// If a text is rejected because of a byte that isn't valid in base64, returns the byte, and its
+/// offset in the text without white space. Otherwise returns `None`.
 pub fn wrong_symbol(alloc: Global, text: &str) -> Option<(usize, u8)>
     ensures { IfSome result (λ found.
         decode_of standard (without_white text.now) ≡ Err (fault.InvalidByte found.0 found.1)) }

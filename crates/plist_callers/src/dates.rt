@@ -49,7 +49,7 @@ pub fn half_second(alloc: Global) -> Result<String, Error>
     }
 }
 
-/// Returns the error of printing a date whose year isn't from 0 to 9999.
+/// Returns the error of printing a date with a year outside 0 to 9999.
 pub fn other_year(alloc: Global, date: &Date) -> Result<String, Error>
     requires whole { IsWhole date.now }
     requires year { HasOtherYear date.now }

@@ -8,7 +8,7 @@ use plist_decode::decoded::Decoded;
 use plist_decode::decoder::Decoder;
 use plist_decode::object::decode_front;
 
-/// Decodes the object at an offset from its first bytes, and returns whether it is small. If so,
+/// Decodes the object at an offset from its first bytes, and returns `true` if it is small. If so,
 /// and if the decoder's counter counts, it has counted the object.
 pub fn never_counts<C: DecodeCounter>(decoder: &mut Decoder<C>, place: u64, seen: &[u8]) -> bool
     requires { IsFront decoder.old.bounds place seen.now }

@@ -46,7 +46,7 @@ pub fn count_of(pairs: Dictionary) -> u64 {
     count
 }
 
-/// Counts the values that are nested under this key in a value.
+/// Counts the values that are nested under the given key in a value.
 pub fn levels_in(value: &Value, key: &str) -> u64 {
     match value.as_dictionary() {
         Some(pairs) => match pairs.get(key) {
@@ -69,8 +69,8 @@ pub fn count_in_arrays(value: &Value) -> u64 {
     count
 }
 
-/// Counts the dictionaries that are nested under this key, by entries, as far as there is memory
-/// for copies of the key.
+/// Counts the dictionaries that are nested under the given key, by entries, as far as there is
+/// memory for copies of the key.
 pub fn levels_by_entry(alloc: Global, pairs: &mut Dictionary, key: &str) -> u64 {
     let Ok(copy) = key.to_string(alloc) else {
         return 0;
@@ -84,7 +84,7 @@ pub fn levels_by_entry(alloc: Global, pairs: &mut Dictionary, key: &str) -> u64 
     }
 }
 
-/// Counts the dictionaries that are nested under this key, by mutable references.
+/// Counts the dictionaries that are nested under the given key, by mutable references.
 pub fn levels_by_get_mut(pairs: &mut Dictionary, key: &str) -> u64 {
     match pairs.get_mut(key) {
         Some(Value::Dictionary(inner)) => one_more(levels_by_get_mut(inner, key)),
@@ -124,7 +124,7 @@ pub fn try_count_dictionaries(pairs: Dictionary) -> Result<u64, Error> {
 
 /// Merges a dictionary into another one, by entries. If both have a dictionary at a key, these are
 /// merged; otherwise the value at the key is replaced. The dictionary that gets less deep is the
-/// first parameter, by which the prover finds that the recursion ends.
+/// first parameter, so the prover finds that the recursion ends.
 ///
 /// # Errors
 ///

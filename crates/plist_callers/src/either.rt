@@ -8,7 +8,7 @@ use plist_base::{ErrorKind, Source};
 use plist_reader::{Reader, format_of};
 use std::alloc::Global;
 
-/// Returns whether an item follows the end, or an error of a kind that ASCII text can't have. It
+/// Returns `true` if an item follows the end, or an error of a kind that ASCII text can't have. It
 /// never does.
 pub fn comes_after_end<R: Source>(reader: &mut Reader<R>) -> bool
     ensures { result ≡ false }
@@ -27,7 +27,7 @@ pub fn comes_after_end<R: Source>(reader: &mut Reader<R>) -> bool
     }
 }
 
-/// Returns whether the next item has an offset if it is an I/O error, which is always true.
+/// Returns `true` if the next item has an offset or isn't an I/O error, which is always true.
 pub fn has_its_place<R: Source>(reader: &mut Reader<R>) -> bool
     ensures { result ≡ true }
 {
@@ -50,7 +50,7 @@ pub fn count_in_either(alloc: Global, bytes: &[u8]) -> (usize, usize)
     (before, reader.objects_in_file())
 }
 
-/// Returns whether an item follows the error for XML, or that for a collection that contains
+/// Returns `true` if an item follows the error for XML, or that for a collection that contains
 /// itself. It never does.
 pub fn comes_after_refusal<R: Source>(reader: &mut Reader<R>) -> bool
     ensures { result ≡ false }
@@ -65,7 +65,7 @@ pub fn comes_after_refusal<R: Source>(reader: &mut Reader<R>) -> bool
     }
 }
 
-/// Returns whether a reader yields an error that only a writer has. It never does.
+/// Returns `true` if a reader yields an error that only a writer has. It never does.
 pub fn fails_as_a_writer<R: Source>(reader: &mut Reader<R>) -> bool
     ensures { result ≡ false }
 {
@@ -81,7 +81,7 @@ pub fn fails_as_a_writer<R: Source>(reader: &mut Reader<R>) -> bool
     }
 }
 
-/// Returns whether the second item of a reader without limits is `LimitReached`. It never is.
+/// Returns `true` if the second item of a reader without limits is `LimitReached`. It never is.
 pub fn reaches_a_limit<R: Source>(alloc: Global, source: R) -> bool
     ensures { result ≡ false }
 {
@@ -96,7 +96,7 @@ pub fn reaches_a_limit<R: Source>(alloc: Global, source: R) -> bool
     is_limit
 }
 
-/// Determines the format of a source, and returns whether that fails because the source ends too
+/// Determines the format of a source, and returns `true` if that fails because the source ends too
 /// early. It never does, since a source that is shorter than the magic isn't binary.
 pub fn refuses_short_input<R: Source>(source: &mut R) -> bool
     ensures { result ≡ false }

@@ -15,7 +15,7 @@ use plist::dictionary::Entry;
 use plist::dictionary::Entry::{Occupied, Vacant};
 use plist::{Dictionary, Error, Value};
 
-/// Returns whether the entry of a key has this key.
+/// Returns `true` if the entry of a key has that key.
 pub fn entry_has_key(pairs: &mut Dictionary, key: String, name: &str) -> bool
     ensures { result ≡ bytes_eq (string_bytes key) name.now }
 {
@@ -33,7 +33,7 @@ pub fn flag_by_entry(pairs: &mut Dictionary, key: String) -> Option<bool>
     }
 }
 
-/// Returns the Boolean of a key, or `None` if its value isn't a Boolean. If the key isn't there, it
+/// Returns the Boolean of a key, or `None` if its value isn't a Boolean. If the key is missing, it
 /// is added with `false`.
 ///
 /// # Errors
@@ -63,7 +63,7 @@ pub fn flag_or_fault(pairs: &mut Dictionary, key: String) -> Result<Option<bool>
     Ok(lent.as_boolean())
 }
 
-/// Sets a key's value through its entry. If the key isn't there, it is first added with another
+/// Sets a key's value through its entry. If the key is missing, it is first added with another
 /// value.
 ///
 /// # Errors
@@ -85,8 +85,8 @@ pub fn set_by_entry(
     Ok(())
 }
 
-/// Sets a key's value through its entry. If the key isn't there, it is first added with a value
-/// that the closure makes.
+/// Sets a key's value through its entry. If the key is missing, it is first added with a value that
+/// the closure makes.
 ///
 /// # Errors
 ///
@@ -108,7 +108,7 @@ pub fn set_by_made_entry<F: FnOnce() -> Value>(
     Ok(())
 }
 
-/// Removes a key through its entry, and returns its value, or `None` if the key isn't there.
+/// Removes a key through its entry, and returns its value, or `None` if the key is missing.
 pub fn take_by_entry(pairs: &mut Dictionary, key: String) -> Option<Value>
     ensures value { result ≡ lookup (bytes_eq (string_bytes key)) (pairs_of pairs.old) }
     ensures pairs { OnSome result (IsTakenAt (pairs_of pairs.old) (string_bytes key)

@@ -12,11 +12,11 @@ use std::alloc::Global;
 use std::borrow::CowSlice;
 use std::hash::{DefaultHasher, Hash, Hasher};
 
-/// Writes an event by the method for events of its kind, which writes exactly this event.
+/// Writes an event by the method for events of its kind, which writes exactly the event.
 ///
 /// # Errors
 ///
-/// The errors are those of the writer.
+/// Any error of the writer.
 pub fn write_by_name<W: Writer>(writer: &mut W, event: Event<'_>) -> Result<(), Error>
     ensures { W.Step writer.old (event_of event.entry) (answer_of result) writer.new }
 {
@@ -38,8 +38,8 @@ pub fn write_by_name<W: Writer>(writer: &mut W, event: Event<'_>) -> Result<(), 
 ///
 /// # Errors
 ///
-/// `OutOfMemory` if the event can't be copied, in which case nothing is written; otherwise the
-/// errors of the writer.
+/// `OutOfMemory` if the event can't be copied, and then it isn't written; otherwise any error of
+/// the writer.
 pub fn write_copies<W: Writer>(
     alloc: Global,
     writer: &mut W,
@@ -51,7 +51,7 @@ pub fn write_copies<W: Writer>(
     writer.write(copy)
 }
 
-/// Returns the hash of data, which is that of its bytes in one write.
+/// Returns the hash of data, which is the hash of its bytes in one write.
 pub fn hash_of_data(bytes: CowSlice<'_, u8>) -> u64
     ensures { result ≡ sip.finish (sip.write sip.initial (cow_slice_items bytes.entry)) }
 {
@@ -60,14 +60,14 @@ pub fn hash_of_data(bytes: CowSlice<'_, u8>) -> u64
     state.finish()
 }
 
-/// Returns whether a number is below another.
+/// Returns `true` if a number is below another.
 pub fn is_below(number: Integer, other: Integer) -> bool
     ensures { IsTrue result ↔ (number <ℤ other) }
 {
     number < other
 }
 
-/// Returns whether an integer can't be copied. It always can, since its copy allocates no memory.
+/// Returns `true` if an integer can't be copied. It always can, since its copy allocates no memory.
 pub fn copy_of_an_integer_fails(alloc: Global, value: Integer) -> bool
     ensures { result ≡ false }
 {

@@ -16,14 +16,14 @@ fn hash_of<T: Hash>(value: &T) -> u64
     state.finish()
 }
 
-/// Returns whether two values have the same hash or aren't equal, which is always true.
+/// Returns `true` if two values have the same hash or aren't equal, which is always true.
 pub fn hash_alike<T: Hash>(value: &T, other: &T) -> bool
     ensures { result ≡ true }
 {
     value != other || hash_of(value) == hash_of(other)
 }
 
-/// Returns whether two integers have the same hash or aren't equal, whatever types they were made
+/// Returns `true` if two integers have the same hash or aren't equal, whatever types they were made
 /// from. This is always true.
 pub fn integers_hash_alike(number: Integer, other: Integer) -> bool
     ensures { result ≡ true }
@@ -31,21 +31,21 @@ pub fn integers_hash_alike(number: Integer, other: Integer) -> bool
     hash_alike(&number, &other)
 }
 
-/// Returns whether two identifiers have the same hash or aren't equal, which is always true.
+/// Returns `true` if two identifiers have the same hash or aren't equal, which is always true.
 pub fn uids_hash_alike(uid: Uid, other: Uid) -> bool
     ensures { result ≡ true }
 {
     hash_alike(&uid, &other)
 }
 
-/// Returns whether two reals have the same hash or aren't equal, which is always true.
+/// Returns `true` if two reals have the same hash or aren't equal, which is always true.
 pub fn reals_hash_alike(bits: RealBits, other: RealBits) -> bool
     ensures { result ≡ true }
 {
     hash_alike(&bits, &other)
 }
 
-/// Returns whether two dates have the same hash or aren't equal, which is always true.
+/// Returns `true` if two dates have the same hash or aren't equal, which is always true.
 pub fn dates_hash_alike(date: Date, other: Date) -> bool
     ensures { result ≡ true }
 {

@@ -9,9 +9,9 @@
 //! `iterators`, for dictionaries; `depths`, for recursions over dictionaries; `archives`;
 //! `commands`; and `lemmas`.
 //!
-//! A caller that is named after a bug returns whether the library has that bug, or it has a clause
-//! about the result or the state that the bug would change. Unless its documentation names other
-//! errors, a caller returns the errors of the calls in it.
+//! A caller that is named after a bug returns `true` if the library has that bug, or it has a
+//! clause about the result or the state that the bug would change. Unless its documentation names
+//! other errors, a caller returns the errors of the calls in it.
 #![tactic(auto)]
 
 pub mod archives;

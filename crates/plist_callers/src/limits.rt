@@ -4,7 +4,7 @@ ghost use Rattle.std.specs.Prelude.{◌≡◌, false};
 
 use plist_base::{Allowance, ByteBudget, Error, Event, LimitCounter, LimitedItems, OwnedEvent};
 
-/// Returns whether, under limits or within a budget, an item follows `None`, even if the inner
+/// Returns `true` if, under limits or within a budget, an item follows `None`, even if the inner
 /// iterator may yield more. It never does.
 pub fn comes_after_none<I: Iterator<Item = Result<OwnedEvent, Error>>, A: Allowance>(
     limited: &mut LimitedItems<I, A>,

@@ -12,7 +12,7 @@ ghost use Rattle.plist_pairs.specs.Keys.{IsSetAt};
 use plist::{Dictionary, Error, Value};
 use std::mem;
 
-/// Makes this pair the only one.
+/// Makes the given pair the only one.
 ///
 /// # Errors
 ///
@@ -26,7 +26,7 @@ pub fn make_only(pairs: &mut Dictionary, key: String, value: Value) -> Result<()
     Ok(())
 }
 
-/// Returns the value of a key, or another one if the key isn't there.
+/// Returns the value of a key, or another one if the key is missing.
 pub fn value_or<'a>(pairs: &'a Dictionary, key: &str, other: &'a Value) -> &'a Value
     ensures { result.now ≡ unwrap_or (lookup (bytes_eq key.now) (pairs_of pairs.now)) other.now }
 {
@@ -47,7 +47,7 @@ pub fn replace_at(pairs: &mut Dictionary, key: &str, value: Value) -> Value
 }
 
 /// Sets the value of a key if it is there, which allocates no memory, and returns the old value.
-/// Returns `None` if the key isn't there.
+/// Returns `None` if the key is missing.
 pub fn set_where_there(pairs: &mut Dictionary, key: String, value: Value) -> Option<Value>
     ensures old { result ≡ lookup (bytes_eq (string_bytes key)) (pairs_of pairs.old) }
     ensures pairs { OnSome result (IsSetAt (pairs_of pairs.old) (string_bytes key) value

@@ -11,7 +11,7 @@ use plist_base::{ErrorKind, Event, Integer, RealBits};
 use plist_binread::BinaryReader;
 use std::alloc::Global;
 
-/// Reads a file whose root is its second object, an array. Returns whether the reader begins with
+/// Reads a file whose root is its second object, an array. Returns `true` if the reader begins with
 /// its first object, a Boolean.
 #[tactic(auto, using(crate::proofs::SmallInputs::of_root_is_second))]
 pub fn root_is_the_first_object(alloc: Global, bytes: &[u8]) -> bool
@@ -26,7 +26,7 @@ pub fn root_is_the_first_object(alloc: Global, bytes: &[u8]) -> bool
     is_boolean
 }
 
-/// Reads a file with offsets of five bytes. Returns whether the reader yields an event of it.
+/// Reads a file with offsets of five bytes. Returns `true` if the reader yields an event of it.
 #[tactic(auto, using(crate::proofs::SmallInputs::of_five_byte_offsets))]
 pub fn takes_five_byte_offsets(alloc: Global, bytes: &[u8]) -> bool
     requires { bytes.now ≡ five_byte_offsets }
@@ -63,8 +63,8 @@ pub fn negative_is_unsigned(alloc: Global, bytes: &[u8]) -> Option<Integer>
     }
 }
 
-/// Reads a file with an array whose child doesn't exist. Returns whether the error has another
-/// offset than that of the array.
+/// Reads a file with an array, but without the array's child. Returns `true` if the error has
+/// another offset than the array.
 #[tactic(auto, using(crate::proofs::SmallInputs::of_missing_child))]
 pub fn fault_at_the_child(alloc: Global, bytes: &[u8]) -> bool
     requires { bytes.now ≡ missing_child }
@@ -84,7 +84,8 @@ pub fn fault_at_the_child(alloc: Global, bytes: &[u8]) -> bool
     }
 }
 
-/// Reads a file with the integer 5 at the key `true`. Returns whether the integer precedes the key.
+/// Reads a file with the integer 5 at the key `true`. Returns `true` if the integer precedes the
+/// key.
 #[tactic(auto, using(crate::proofs::SmallInputs::of_five_at_true))]
 pub fn values_before_keys(alloc: Global, bytes: &[u8]) -> bool
     requires { bytes.now ≡ five_at_true }
@@ -99,8 +100,8 @@ pub fn values_before_keys(alloc: Global, bytes: &[u8]) -> bool
     is_integer
 }
 
-/// Reads a file with an array in an array. Returns whether the child of the inner array is read by
-/// the references of the outer one, so that the inner array would contain itself.
+/// Reads a file with an array in an array. Returns `true` if the child of the inner array is read
+/// by the references of the outer one, so that the inner array would contain itself.
 #[tactic(auto, using(crate::proofs::SmallInputs::of_nested_arrays))]
 pub fn keeps_other_references(alloc: Global, bytes: &[u8]) -> bool
     requires { bytes.now ≡ nested_arrays }
@@ -118,7 +119,7 @@ pub fn keeps_other_references(alloc: Global, bytes: &[u8]) -> bool
     }
 }
 
-/// Reads a file with an empty array. Returns whether the reader runs out of memory for the end of
+/// Reads a file with an empty array. Returns `true` if the reader runs out of memory for the end of
 /// the array, for which it needs none.
 #[tactic(auto, using(crate::proofs::SmallInputs::of_empty_array))]
 pub fn end_wants_memory(alloc: Global, bytes: &[u8]) -> bool
@@ -136,7 +137,8 @@ pub fn end_wants_memory(alloc: Global, bytes: &[u8]) -> bool
     }
 }
 
-/// Reads the file of a real of four bytes. Returns whether the reader yields a real of eight bytes.
+/// Reads the file of a real of four bytes. Returns `true` if the reader yields a real of eight
+/// bytes.
 #[tactic(auto, using(crate::proofs::SmallInputs::of_four_byte_real))]
 pub fn widens_reals(alloc: Global, bytes: &[u8]) -> bool
     requires { bytes.now ≡ four_byte_real }

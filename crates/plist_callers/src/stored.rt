@@ -44,7 +44,7 @@ pub fn file_is_created_at_each_write<R: Files>(
     output.write(second)
 }
 
-/// Returns whether a value couldn't be stored because of `OutOfMemory` or `PlistTooLarge`. If so,
+/// Returns `true` if a value couldn't be stored because of `OutOfMemory` or `PlistTooLarge`. If so,
 /// the file wasn't created.
 pub fn file_is_made_first<R: Files>(
     alloc: Global,

@@ -39,14 +39,14 @@ pub fn choice(alloc: Global) -> Result<String, AllocError>
     EventKind::ValueOrStartCollection.to_string(alloc)
 }
 
-/// Prints an integer, as the number from which it was made.
+/// Prints an integer, as the number that it was made from.
 pub fn number(alloc: Global, number: i64) -> Result<String, AllocError>
     ensures { IfOk result (λ text. string_bytes text ≡ signed_decimal number) }
 {
     Integer::from(number).to_string(alloc)
 }
 
-/// Prints an integer for debugging, as the number from which it was made.
+/// Prints an integer for debugging, as the number that it was made from.
 pub fn number_debug(alloc: Global, number: i64) -> Result<String, AllocError>
     ensures { IfOk result (λ text. string_bytes text ≡ signed_decimal number) }
 {

@@ -65,7 +65,7 @@ pub fn light_file<R: Files>(rt: &R, alloc: Global, path: &str) -> Result<Value, 
     Value::from_file_within(rt, alloc, path, limits, 1 << 24)
 }
 
-/// Returns whether a builder that has returned a value has no other value, which is always true.
+/// Returns `true` if a builder that has returned a value has no other value, which is always true.
 pub fn finishes_once(builder: &mut Builder) -> bool
     ensures { result ≡ true }
 {
@@ -93,7 +93,7 @@ pub fn finish_without_memory(
     }
 }
 
-/// Returns whether the error of storing a value is `UnexpectedEof`, which it never is.
+/// Returns `true` if the error of storing a value is `UnexpectedEof`, which it never is.
 pub fn meets_an_end<R: Files>(rt: &R, alloc: Global, value: &Value, path: &str) -> bool
     ensures { result ≡ false }
 {
@@ -115,7 +115,7 @@ pub fn copy_of(pairs: &Dictionary) -> Result<Dictionary, Error>
     pairs.clone()
 }
 
-/// Returns whether a copy of a value is equal to it, which is always true.
+/// Returns `true` if a copy of a value is equal to it, which is always true.
 ///
 /// # Errors
 ///
@@ -126,7 +126,7 @@ pub fn equals_its_copy(alloc: Global, value: &Value) -> Result<bool, Error>
     Ok(are_equal(&value.clone(alloc)?, value))
 }
 
-/// Returns whether the value of a slice can't be read because a read failed. No read of a slice
+/// Returns `true` if the value of a slice can't be read because a read failed. No read of a slice
 /// fails.
 pub fn from_reader_makes_up_a_failure(alloc: Global, bytes: &[u8]) -> bool
     ensures { result ≡ false }
@@ -142,7 +142,7 @@ pub fn from_reader_makes_up_a_failure(alloc: Global, bytes: &[u8]) -> bool
 ///
 /// # Errors
 ///
-/// The errors are those of [`Value::from_reader_within`].
+/// Any error of [`Value::from_reader_within`].
 pub fn budget_refuses_the_last_byte<R: Source>(
     alloc: Global,
     source: R,

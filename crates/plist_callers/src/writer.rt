@@ -25,7 +25,7 @@ pub fn inner_again<W: Write>(alloc: Global, inner: W) -> W
 ///
 /// # Errors
 ///
-/// The errors are those of a [`BinaryWriter`] other than `WriterFailed`.
+/// Any error of a [`BinaryWriter`] other than `WriterFailed`.
 pub fn begin_with<W: Write + Drop>(alloc: Global, inner: W, event: Event<'_>) -> Result<(), Error>
     ensures { IfErr result (λ error. MatchKind (kind_of (error_kind_of error)) ⊤ ⊤ ⊥) }
 {
@@ -59,7 +59,7 @@ pub fn next_without_memory<W: Write + Drop>(
 ///
 /// # Errors
 ///
-/// The errors are those of [`Sink::finish`].
+/// Any error of [`Sink::finish`].
 pub fn finish_empties<W: Write>(sink: &mut Sink<'_, W>) -> Result<(), Error>
     ensures { pending sink.new ≡ pending sink.old }
 {

@@ -35,7 +35,7 @@ pub fn write_back(alloc: Global, value: &Value) -> Result<Value, Error>
 ///
 /// # Errors
 ///
-/// The errors are those of [`BinaryWriter`](plist_binwrite::BinaryWriter).
+/// Any error of [`BinaryWriter`](plist_binwrite::BinaryWriter).
 pub fn plain_file(alloc: Global, value: &Value) -> Result<Vec<u8>, Error>
     ensures file { IfOk result (λ file. IsFileOf (tree_of value.now) file.items) }
 {
@@ -47,7 +47,7 @@ pub fn plain_file(alloc: Global, value: &Value) -> Result<Vec<u8>, Error>
 ///
 /// # Errors
 ///
-/// The errors are those of [`SharingWriter`](plist_share::SharingWriter).
+/// Any error of [`SharingWriter`](plist_share::SharingWriter).
 pub fn shared_file(alloc: Global, value: &Value) -> Result<Vec<u8>, Error>
     ensures file { IfOk result (λ file. IsSharedFileOf (tree_of value.now) file.items) }
     ensures count { IfOk result (λ f. HasObjects f.items (distinct_subtrees (tree_of value.now))) }
@@ -56,12 +56,12 @@ pub fn shared_file(alloc: Global, value: &Value) -> Result<Vec<u8>, Error>
     file_by_events::<EqualTrees>(alloc, value)
 }
 
-/// Writes a value and reads it back. Returns whether the value has changed, as it would if two
+/// Writes a value and reads it back. Returns `true` if the value has changed, as it would if two
 /// strings of one length were stored as one.
 ///
 /// # Errors
 ///
-/// The errors are those of [`write_back`].
+/// Any error of [`write_back`].
 pub fn texts_by_length(alloc: Global, value: &Value) -> Result<bool, Error>
     ensures { IfOk result (λ changed. changed ≡ false) }
 {

@@ -93,7 +93,7 @@ pub(crate) struct Collector {
     alloc: Global,
     /// The buffered events.
     pub(crate) pending: EventBuffer,
-    /// Whether the collector pauses after each event.
+    /// Whether the collector pauses after every event.
     pub(crate) pauses: bool,
     // The reason why the collector wants no more events. It is unspecified while more are wanted.
     stop: StopReason,
@@ -157,7 +157,7 @@ impl Collector {
         self.event(Event::String(CowStr::Borrowed(text)))
     }
 
-    /// Returns whether the collector paused in a visit with this result.
+    /// Returns `true` if the collector paused in a visit with this result.
     pub(crate) fn has_paused(&self, visited: &Result<Visited, Error>) -> bool
         ensures { HasPaused result self.now visited.now }
     {
@@ -176,9 +176,9 @@ impl Collector {
         self.pending.expect_scalars(count);
     }
 
-    /// Returns whether the source ended in the visit with this result, and the buffered events are
-    /// those of a whole property list. If the collector paused in the visit, or rejected an event,
-    /// it returns `false`.
+    /// Returns `true` if the source ended in the visit with this result, and the buffered events
+    /// are those of a whole property list. If the collector paused in the visit, or rejected an
+    /// event, it returns `false`.
     ///
     /// # Errors
     ///

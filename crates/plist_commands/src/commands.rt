@@ -17,15 +17,15 @@ use std::rt::Files;
 /// A command of the program.
 #[derive(Clone, Copy)]
 pub enum Command<'a> {
-    /// Print the events of this file.
+    /// Print the events of the given file.
     Print(&'a str),
     /// Write the property list of the first file to the second one, in the binary format.
     Convert(&'a str, &'a str),
-    /// Print the tree that the file's archive has under this key.
+    /// Print the tree that the file's archive has under the given key.
     Keyed(&'a str, &'a str),
 }
 
-/// Returns the command that the arguments ask for, or `None` if they aren't those of a command.
+/// Returns the command that the arguments ask for, or `None` if they aren't a command.
 pub fn command_of(words: &[String]) -> Option<Command<'_>>
     ensures found { IfSome result (λ c. map string_bytes words.now
         ≡ words_for (plain_command_of c)) }
@@ -68,7 +68,7 @@ pub trait Commands {
             (outcome_of result) out.new };
 }
 
-/// Nothing is known about the contents of files, so nothing is known about the results.
+/// The contents of files are unknown, so contracts allow any result.
 impl<R: Files> Commands for R {
     ghost answers = { λ _ _ _ _ _. Unit {0} };
 

@@ -30,7 +30,7 @@ use std::rt::Files;
 pub enum FastPath {
     /// The file was written.
     Sent,
-    /// Nothing was written: a dictionary has a key twice, or the events aren't those of a value.
+    /// Nothing was written: a dictionary has a key twice, or the events don't form a value.
     NotApplicable,
 }
 
@@ -86,10 +86,10 @@ fn send_events<W: Write>(
 }
 
 /// Writes the property list of a source as a binary file, without making a value, and returns
-/// [`FastPath::Sent`]. If a dictionary has a key twice, or the events aren't those of a value, it
-/// writes nothing and returns [`FastPath::NotApplicable`]. All events of the source are read before
-/// the first byte is written, and the bytes are those that [`Value::to_writer_binary`] writes for
-/// the value that [`Value::from_reader`] returns.
+/// [`FastPath::Sent`]. If a dictionary has a key twice, or the events don't form a value, it writes
+/// nothing and returns [`FastPath::NotApplicable`]. All events of the source are read before the
+/// first byte is written, and the bytes are those that [`Value::to_writer_binary`] writes for the
+/// value that [`Value::from_reader`] returns.
 ///
 /// # Errors
 ///

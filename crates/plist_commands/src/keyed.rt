@@ -32,13 +32,13 @@ fn tree_at(alloc: Global, root: &Value, key: &str) -> Result<Value, Failure>
     }
 }
 
-/// Prints the tree of the object that the `$top` of an archive names by this key. `root` is the
-/// archive's property list.
+/// Prints the tree of the object that the `$top` of an archive names by the given key. `root` is
+/// the archive's property list.
 ///
 /// # Errors
 ///
 /// If the value isn't an archive, or has no such key or no such tree, an error is returned before
-/// anything is written. If the tree can't be printed, the error is that of [`print_value`].
+/// anything is written. If the tree can't be printed, it is an error of [`print_value`].
 pub fn print_at<O: Write>(
     alloc: Global,
     root: &Value,
@@ -58,7 +58,8 @@ pub fn print_at<O: Write>(
     }
 }
 
-/// Prints a tree of the archive in a file: that of the object that its `$top` names by this key.
+/// Prints a tree of the archive in a file: the tree of the object that its `$top` names by the
+/// given key.
 ///
 /// # Errors
 ///

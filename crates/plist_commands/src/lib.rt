@@ -1,6 +1,6 @@
 //! The commands of `plist_tool`, over any source, any writer and any runtime.
 //!
-//! The main contracts are those of `print_events` (in `plist_print`) and of [`convert_binary`].
+//! `print_events` (in `plist_print`) and [`convert_binary`] have the main contracts.
 #![tactic(auto)]
 
 mod arguments;

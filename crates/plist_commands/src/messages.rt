@@ -32,7 +32,7 @@ pub trait Messages {
     ///
     /// The error of the write, if it fails: possibly only a prefix of the message was written then.
     /// `OutOfMemory`, without an offset, if the message doesn't fit into the 256 bytes in which it
-    /// is made: nothing was written then. No message of this program is that long.
+    /// is made: nothing was written then. No message of the program is that long.
     fn report(&mut self, message: Message<'_>) -> Result<(), Error>
         ensures { reports self.old (plain_message_of message.entry) (is_ok result) self.new };
 }
@@ -49,7 +49,7 @@ fn line_of_failure(failure: &Failure) -> Result<ArrayString<256>, Error>
     }
 }
 
-/// Each message is one line, which is passed to the writer as a whole.
+/// Every message is one line, which is passed to the writer as a whole.
 impl<W: Write> Messages for W {
     ghost reports = { λ old said whole new. TakesMessage said whole (W.contents old)
         (W.contents new) };

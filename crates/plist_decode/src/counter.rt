@@ -8,7 +8,7 @@ use std::sync::ledger::{Blank, Book, Ledger, Share};
 /// Counts the small objects that are decoded from bytes, or counts nothing. Small objects are the
 /// scalars that `BinaryReader` of `plist_binread` caches.
 pub trait DecodeCounter: Drop {
-    /// Whether this counter counts anything.
+    /// `true` if the counter counts anything.
     ghost counts: { Type 0 };
     /// The number of small objects that were decoded.
     ghost count: { Self → ℕ };
@@ -30,7 +30,7 @@ impl DecodeCounter for Uncounted {
     fn raise(&mut self) {}
 }
 
-/// A counter that only `raise` can change. Its count is that of a ledger of the kit
+/// A counter that only `raise` can change. Its count is the count of a ledger of the kit
 /// (`std::sync::ledger`).
 #[derive(Drop)]
 pub struct CountedDecodings<L: Ledger> {
@@ -47,7 +47,7 @@ impl<L: Ledger> Model for CountedDecodings<L> {
 }
 
 impl<L: Ledger> CountedDecodings<L> {
-    /// Creates a counter whose count is 0. `blank` must have the name and the number of parts of
+    /// Creates a counter with the count 0. `blank` must have the name and the number of parts of
     /// `L`, of which there must be at least one.
     pub fn new(blank: Blank) -> Self
         requires name { blank.name ≡ L.name }

@@ -12,7 +12,7 @@ pub enum ContentKind {
     Data,
     /// The bytes are a string in UTF-8.
     Text,
-    /// The bytes are a string in UTF-16, whose units have two bytes each.
+    /// The bytes are a string in UTF-16, with units of two bytes.
     WideText,
 }
 
@@ -54,7 +54,8 @@ impl Content {
         self.count * self.kind.unit_size()
     }
 
-    /// Returns whether these first bytes of the object contain all of its content.
+    /// Returns `true` if the first bytes of the object, which are given, contain all of its
+    /// content.
     #[inline(always)]
     pub fn lies_in(self, seen: &[u8]) -> bool
         requires { content_size self < 2 ^ 64 }
@@ -64,7 +65,7 @@ impl Content {
         start <= seen.len() && self.size() <= (seen.len() - start) as u64
     }
 
-    /// Returns the content of the object that begins with these bytes.
+    /// Returns the content of the object that begins with the given bytes.
     #[inline(always)]
     pub fn bytes_in(self, seen: &[u8]) -> &[u8]
         requires { self.start + content_size self ≤ length seen.now }
@@ -87,7 +88,7 @@ impl CollectionKind {
     ghost use Rattle.std.specs.Prelude.{◌≡◌, ◌^◌, ◌<◌};
     ghost use Rattle.plist_decode.specs.Decoding.{child_count};
 
-    /// Returns the number of children of a collection of this many items or pairs.
+    /// Returns the number of children of a collection of `count` items or pairs.
     #[inline(always)]
     pub fn children(self, count: u64) -> u64
         requires { child_count self count < 2 ^ 64 }
@@ -102,7 +103,7 @@ impl CollectionKind {
 
 /// An object that was decoded from its first bytes, or the reason why it couldn't be decoded.
 ///
-/// Each variant has a few small fields followed by at most one `u64`, so that a value is passed in
+/// Every variant has a few small fields followed by at most one `u64`, so that a value is passed in
 /// two registers.
 #[derive(Clone, Copy)]
 pub enum Decoded {
@@ -110,7 +111,7 @@ pub enum Decoded {
     Small(PackedKind, u64),
     /// The eight bytes of a date. The date may be out of range.
     Date(u64),
-    /// A string or data that can't be cached. The fields are those of [`Content`].
+    /// A string or data that can't be cached. It has the fields of [`Content`].
     Long(ContentKind, u8, u64),
     /// A collection. The fields are its kind, the number of bytes from the object's offset to the
     /// first reference, and the number of items or pairs.
@@ -128,7 +129,7 @@ pub enum ObjectFault {
     Null,
     /// The object is a fill byte.
     Fill,
-    /// No object has this marker.
+    /// The marker, which no object has.
     Unknown(u8),
     /// The integer doesn't fit into a `u64`.
     OutOfRange,

@@ -21,7 +21,7 @@ pub struct Decoder<C: DecodeCounter> {
 }
 
 impl<C: DecodeCounter> Decoder<C> {
-    /// Creates a decoder for a file whose head hasn't been read yet.
+    /// Creates a decoder for a file. Its head hasn't been read yet.
     pub fn new(alloc: Global, counter: C) -> Self
         ensures { result.counter ≡ counter }
     {

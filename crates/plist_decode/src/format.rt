@@ -17,7 +17,7 @@ const MARK: &[u8; 3] = b"\xef\xbb\xbf";
 pub enum Format {
     /// Binary: the bytes begin with `bplist00`.
     Binary,
-    /// XML: the first byte after an optional byte order mark and white space is `<`, at this
+    /// XML: the first byte after an optional byte order mark and white space is `<`, at the given
     /// offset.
     Xml(u64),
     /// ASCII: anything else.

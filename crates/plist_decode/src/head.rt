@@ -14,7 +14,7 @@ const MAGIC_SIZE: u64 = 8;
 
 const TRAILER_SIZE: u64 = 32;
 
-/// The head of a file: the offset of each object by its number, and how to read the objects.
+/// The head of a file: the offset of every object by its number, and how to read the objects.
 #[derive(Drop)]
 pub struct Head {
     /// The offset of the trailer. All objects end before it.
@@ -23,7 +23,7 @@ pub struct Head {
     pub reference_width: usize,
     /// The number of the root object.
     pub root: u64,
-    /// The offset of each object, by its number.
+    /// The offset of every object, by its number.
     pub places: Vec<u64>,
     ghost width: { (0 < reference_width) × (reference_width ≤ 8) },
 }

@@ -1,9 +1,9 @@
 //! Determines the format of a property list, reads the head of a binary file, and decodes its
 //! objects.
 //!
-//! The main contracts are those of [`object::decode_front`], which decodes an object from its first
-//! bytes, whatever follows them, and of [`head::Head::read`], which returns the head of the file or
-//! its first fault.
+//! The main contracts belong to two calls. [`object::decode_front`] decodes an object from its
+//! first bytes, whatever follows them. [`head::Head::read`] returns the head of the file or its
+//! first fault.
 #![tactic(auto)]
 
 mod after_marker;

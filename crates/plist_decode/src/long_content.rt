@@ -15,8 +15,8 @@ use crate::numbers::read_bytes;
 use crate::step_fault::StepFault;
 use plist_base::Source;
 
-/// Reads the content of the object at this offset, which is a string or data that isn't small. The
-/// details then have the object's offset, with which a fault of the content is reported.
+/// Reads the content of the object at the given offset, which is a string or data that isn't small.
+/// The details then have the object's offset, with which a fault of the content is reported.
 ///
 /// # Errors
 ///

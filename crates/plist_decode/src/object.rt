@@ -85,7 +85,7 @@ fn count_small<C: DecodeCounter>(decoded: Decoded, counter: &mut C)
 
 /// Decodes the object at an offset from its first bytes, and counts it if it is small.
 ///
-/// No other function decodes small objects, so that none is decoded without being counted.
+/// No other function decodes small objects, so all decodings are counted.
 #[inline(always)]
 pub fn decode_front<C: DecodeCounter>(decoder: &mut Decoder<C>, place: u64, seen: &[u8]) -> Decoded
     requires { IsFront decoder.old.bounds place seen.now }

@@ -21,9 +21,9 @@ pub enum PackedKind {
     ShortReal,
     /// The number of a Uid.
     Uid,
-    /// Data of this many bytes, which are the first ones of the content.
+    /// Data with the given number of bytes, the first ones of the content.
     Data(u8),
-    /// A string of this many bytes, which are the first ones of the content.
+    /// A string with the given number of bytes, the first ones of the content.
     Text(u8),
 }
 
@@ -31,7 +31,7 @@ impl PackedKind {
     ghost use Rattle.std.specs.Prelude.{◌≡◌, ◌<◌, Some};
     ghost use Rattle.plist_decode.specs.Packed.{FitsContent, kind_of_tag};
 
-    /// Returns the tag of this kind.
+    /// Returns the kind's tag.
     #[inline(always)]
     pub fn tag(self) -> u8
         requires { FitsContent self }
@@ -53,8 +53,8 @@ impl PackedKind {
 
     /// Returns the kind that the tag of a cached object encodes.
     ///
-    /// A stored tag is at most 25, unless it is that of an open object. A greater one would decode
-    /// to a string that is too long to be packed.
+    /// A stored tag is at most 25, unless the object is open. A greater one would decode to a
+    /// string that is too long to be packed.
     #[inline(always)]
     pub fn of_tag(tag: u8) -> PackedKind
         requires { 0 < tag }
@@ -74,7 +74,7 @@ impl PackedKind {
     }
 }
 
-/// Returns the content that consists of these eight bytes.
+/// Returns the content that consists of the eight bytes.
 #[inline(always)]
 pub fn content_of(bytes: [u8; 8]) -> u64
     ensures { content_bytes result ≡ bytes }
@@ -82,7 +82,7 @@ pub fn content_of(bytes: [u8; 8]) -> u64
     u64::from_be_bytes(bytes)
 }
 
-/// Returns the content that begins with these bytes and continues with zeros.
+/// Returns the content that begins with the given bytes and continues with zeros.
 pub fn content_from(bytes: &[u8]) -> u64
     requires { length bytes.now ≤ 8 }
     ensures { take (length bytes.now) (content_bytes result) ≡ bytes.now }
@@ -93,7 +93,7 @@ pub fn content_from(bytes: &[u8]) -> u64
     content_of(content)
 }
 
-/// Returns whether this is the tag of an open object.
+/// Returns `true` if `tag` is the tag of an open object.
 #[inline(always)]
 pub fn is_open(tag: u8) -> bool
     ensures { result ≡ is_marked tag }
@@ -114,7 +114,7 @@ fn open_tag(kind: CollectionKind, start: u8) -> u8
     }
 }
 
-/// Returns the kind of the open collection with this tag.
+/// Returns the kind of the open collection with the given tag.
 #[inline(always)]
 pub fn open_kind(tag: u8) -> CollectionKind
     ensures { result ≡ open_kind tag }
@@ -126,7 +126,7 @@ pub fn open_kind(tag: u8) -> CollectionKind
     }
 }
 
-/// Returns the number of bytes from the offset of the open collection with this tag to its
+/// Returns the number of bytes from the offset of the open collection with the given tag to its
 /// references.
 #[inline(always)]
 pub fn open_start(tag: u8) -> u8
@@ -135,7 +135,7 @@ pub fn open_start(tag: u8) -> u8
     tag % 16
 }
 
-/// Stores the kind and the content of a small scalar, whose object isn't open.
+/// Stores the kind and the content of a small scalar. Its object must not be open.
 #[inline(always)]
 pub fn cache(
     tags: &mut Vec<u8>,
@@ -155,8 +155,8 @@ pub fn cache(
     contents[number] = content;
 }
 
-/// Marks an object as an open collection of this kind, whose references begin `start` bytes after
-/// its offset.
+/// Marks an object as an open collection of the given kind. Its references begin `start` bytes
+/// after its offset.
 #[inline(always)]
 pub fn mark_open(tags: &mut Vec<u8>, number: usize, kind: CollectionKind, start: u8)
     requires number { number < length tags.old.items }

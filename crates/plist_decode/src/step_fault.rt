@@ -16,7 +16,7 @@ pub enum StepFault {
     Null,
     /// The object is a fill byte.
     Fill,
-    /// No object has this marker.
+    /// The marker, which no object has.
     Unknown,
     /// The integer doesn't fit into a `u64`.
     OutOfRange,

@@ -27,7 +27,7 @@ pub struct Trailer {
     pub table: u64,
 }
 
-/// Returns whether the file begins with the magic.
+/// Returns `true` if the file begins with the magic.
 pub fn has_magic<S: Source>(source: &mut S) -> Result<bool, Error>
     // Result.
     ensures value { DecodesBy result (S.known source.old) has_magic }
@@ -57,7 +57,7 @@ fn trailer_from(last: &[u8]) -> Trailer
     }
 }
 
-/// Reads the trailer at this offset.
+/// Reads the trailer at the given offset.
 pub fn read_trailer<S: Source>(source: &mut S, trailer: u64) -> Result<Trailer, Error>
     requires { trailer + 32 < 2 ^ 64 }
     // Result.

@@ -9,15 +9,15 @@ use std::{fmt, io};
 pub enum Failure {
     /// The file isn't a property list, reading or writing it fails, or an allocation fails.
     Plist(Error),
-    /// The file with this path can't be opened, created or flushed.
+    /// The file with the given path can't be opened, created or flushed.
     Io(String, io::Error),
-    /// There are more levels than this.
+    /// There are more levels than the given limit.
     TooDeep(usize),
-    /// There are more events than this.
+    /// There are more events than the given limit.
     TooLong(u64),
     /// Everything was dropped.
     NothingLeft,
-    /// This word isn't an option.
+    /// The word isn't an option.
     Usage(String),
 }
 

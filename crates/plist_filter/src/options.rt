@@ -12,7 +12,7 @@ pub enum Step {
 }
 
 impl Step {
-    /// Returns whether a key or an index is at this step.
+    /// Returns `true` if a key or an index is at this step.
     pub fn takes(&self, name: &str) -> bool {
         match self {
             Step::Any => true,

@@ -92,7 +92,7 @@ impl<'a> Archive<'a> {
         self.objects.get(uid.get() as usize)
     }
 
-    /// Returns the tree of the object that a Uid names, in which each Uid is replaced by the tree
+    /// Returns the tree of the object that a Uid names, with every Uid in it replaced by the tree
     /// of the object that it names. An object that is reached more than once appears in the tree
     /// each time.
     ///

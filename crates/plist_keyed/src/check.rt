@@ -1,6 +1,6 @@
 //! The walk that finds the first fault below a Uid of an archive, if there is a fault.
 //!
-//! It follows each Uid once. A Uid that it reaches again is either open, which is a fault, or
+//! It follows every Uid once. A Uid that it reaches again is either open, which is a fault, or
 //! settled, and then there is no fault below it.
 
 ghost use Rattle.std.specs.Prelude.{◌≡◌, [], ◌∷◌, IfErr, OnOk, ℕ, nat_eq, slice_get};
@@ -68,7 +68,7 @@ impl<'a> ArchiveWalk<'a> {
         Ok(())
     }
 
-    /// Walks over everything below a Uid, and settles each Uid that it reaches.
+    /// Walks over everything below a Uid, and settles every Uid that it reaches.
     ///
     /// # Errors
     ///

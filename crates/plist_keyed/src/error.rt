@@ -13,9 +13,9 @@ pub enum KeyedError {
     /// The property list isn't a dictionary with an array under `$objects` and a dictionary under
     /// `$top`.
     NotAnArchive,
-    /// The archive has no object of this number.
+    /// The archive has no object of the given number.
     UidOutOfRange(u64),
-    /// The tree of this Uid would contain itself.
+    /// The tree of the given Uid would contain itself.
     RecursiveUid(u64),
     /// An allocation failed.
     OutOfMemory,

@@ -1,9 +1,8 @@
-//! Keyed archives: property lists whose values are in one list of objects and name each other by
-//! [`Uid`](plist::Uid).
+//! Keyed archives: property lists with their values in one list of objects, where they name each
+//! other by [`Uid`](plist::Uid).
 //!
-//! The main contract is that of [`Archive::tree`]. It returns the tree of the object that a Uid
-//! names, with each Uid in it replaced by its own tree, or else the first fault in depth-first
-//! order.
+//! [`Archive::tree`] has the main contract. It returns the tree of the object that a Uid names,
+//! with every Uid in it replaced by its own tree, or else the first fault in depth-first order.
 #![tactic(auto)]
 
 mod archive;

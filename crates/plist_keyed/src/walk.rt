@@ -83,7 +83,8 @@ impl<'a> Iterator for ArchiveWalk<'a> {
     }
 }
 
-/// Returns the value of the object that a Uid names, in which each Uid is replaced by its own tree.
+/// Returns the value of the object that a Uid names, in which every Uid is replaced by its own
+/// tree.
 ///
 /// # Errors
 ///

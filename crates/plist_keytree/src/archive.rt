@@ -44,7 +44,7 @@ impl<'a> Keyed<'a> {
         })
     }
 
-    /// Returns the object with this Uid, or `None` if there is none.
+    /// Returns the object with the given Uid, or `None` if the archive has no such object.
     pub fn follow(&self, uid: Uid) -> Option<&'a Value> {
         self.objects.get(usize::try_from(uid.get()).ok()?)
     }

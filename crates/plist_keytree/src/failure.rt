@@ -11,9 +11,9 @@ pub enum Failure {
     Plist(Error),
     /// A file can't be read, or a line can't be printed.
     Io(io::Error),
-    /// This part isn't that of a keyed archive.
+    /// A keyed archive has no such part.
     NotAnArchive(&'static str),
-    /// `$top` doesn't have this key.
+    /// `$top` doesn't have the given key.
     NoKey(String),
     /// The arguments aren't a command.
     Usage,

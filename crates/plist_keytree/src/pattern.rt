@@ -3,7 +3,7 @@
 use crate::failure::Failure;
 use std::alloc::Global;
 
-/// Returns whether a text matches a pattern.
+/// Returns `true` if a text matches a pattern.
 ///
 /// # Errors
 ///

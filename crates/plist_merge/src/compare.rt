@@ -93,8 +93,8 @@ fn print_added<W: Write>(
     Ok(())
 }
 
-/// Prints a line for each key that was removed, changed or added, also in nested dictionaries. Each
-/// key is printed after `path`.
+/// Prints a line for every key that was removed, changed or added, also in nested dictionaries.
+/// Every key is printed after `path`.
 ///
 /// # Errors
 ///

@@ -40,8 +40,8 @@ fn add_keys(text: &mut String, pairs: &Dictionary) -> Result<(), AllocError> {
     text.push('}')
 }
 
-/// Returns the text of a value. The text of an array has its items, and that of a dictionary its
-/// keys.
+/// Returns the text of a value. The text of an array has its items, and the text of a dictionary
+/// its keys.
 ///
 /// # Errors
 ///

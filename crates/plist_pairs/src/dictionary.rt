@@ -26,7 +26,7 @@ use std::marker::Model;
 /// Pairs of a key and a value, each key once.
 ///
 /// The pairs are ordered: a new key is last, and a key that is set again keeps its index. Contracts
-/// see the list of the pairs, with each key as its bytes.
+/// see the list of the pairs, with every key as its bytes.
 #[derive(Drop)]
 pub struct Pairs<V> {
     // It is `None` before the first insert, so that an empty `Pairs` is small.
@@ -105,7 +105,7 @@ impl<V> Pairs<V> {
         self.store.as_ref()?.get(key)
     }
 
-    /// Returns whether the key is present.
+    /// Returns `true` if the key is present.
     pub fn contains_key(&self, key: &str) -> bool
         ensures { result ≡ is_some (lookup (bytes_eq key.now) self.now) }
     {
@@ -174,7 +174,7 @@ impl<V> Pairs<V> {
         }
     }
 
-    /// Returns whether there are no pairs.
+    /// Returns `true` if there are no pairs.
     pub fn is_empty(&self) -> bool
         ensures { IsTrue result ↔ (self.now ≡ []) }
     {

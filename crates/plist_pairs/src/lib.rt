@@ -1,6 +1,6 @@
 //! Pairs of a key and a value, each key once, in an order in which a new key is last.
 //!
-//! The main contract is that each call of [`Pairs`] is an operation on the list of the pairs.
+//! The main contract is that every call of [`Pairs`] is an operation on the list of the pairs.
 #![tactic(auto)]
 
 pub mod dictionary;

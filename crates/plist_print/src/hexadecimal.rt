@@ -86,7 +86,7 @@ fn push_blocks<'b, const N: usize, const DIGITS: usize>(
     rest
 }
 
-/// Pushes two hexadecimal digits for each byte.
+/// Pushes two hexadecimal digits for every byte.
 pub fn push_hexadecimal(line: &mut FixedBuffer, bytes: &[u8])
     requires { 2 * length bytes.now ≤ room line.old }
     ensures pushed { line.new ≡ line.old ++ hexadecimal bytes.now }

@@ -1,8 +1,8 @@
 //! Prints the events of a source, each on a line of its own.
 //!
-//! The main contract is that of [`print_events`]: over known bytes, exactly the lines of their
-//! items are written, or those before the first fault. If a read, a write or an allocation fails, a
-//! prefix of these lines is written.
+//! [`print_events`] has the main contract: over known bytes, exactly the lines of their items are
+//! written, or those before the first fault. If a read, a write or an allocation fails, a prefix of
+//! these lines is written.
 #![tactic(auto)]
 
 mod hexadecimal;

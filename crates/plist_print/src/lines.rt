@@ -1,4 +1,4 @@
-//! The line of each event.
+//! The line of every event.
 
 ghost use Rattle.std.specs.Prelude.{◌≡◌, ◌++◌, ◌+◌, ◌*◌, ◌≤◌, codes, length};
 ghost use Rattle.std.specs.Fmt.{decimal, signed_decimal};
@@ -17,11 +17,11 @@ pub enum Notation {
     /// As in a string: an escape for `"`, `\` and any byte that isn't printable ASCII, and any
     /// other byte as it is.
     Text,
-    /// As in data: two hexadecimal digits for each byte.
+    /// As in data: two hexadecimal digits for every byte.
     Hexadecimal,
 }
 
-/// An event without a string or data, whose line is short.
+/// An event without a string or data, which has a short line.
 #[derive(Clone, Copy)]
 pub enum ShortLine {
     /// The start of an array.
@@ -46,7 +46,7 @@ pub enum ShortLine {
 /// data in it.
 pub const MAX_FIXED_LINE: usize = 64;
 
-/// Pushes the printed form of these bytes, which has at most four bytes for each of them.
+/// Pushes the printed form of the bytes, which has at most four bytes for every one of them.
 pub fn push_bytes(line: &mut FixedBuffer, bytes: &[u8], notation: Notation)
     requires { 4 * length bytes.now ≤ room line.old }
     ensures { line.new ≡ line.old ++ in_notation notation bytes.now }

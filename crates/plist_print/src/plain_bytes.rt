@@ -115,8 +115,8 @@ fn push_escaped(line: &mut FixedBuffer, text: &[u8])
     }
 }
 
-/// Pushes the printed form of a string, which has at most four bytes for each byte of the string. A
-/// string that needs no escape is tested and copied in one pass.
+/// Pushes the printed form of a string, which has at most four bytes for every byte of the string.
+/// A string that needs no escape is tested and copied in one pass.
 #[inline(always)]
 pub fn push_text(line: &mut FixedBuffer, text: &[u8])
     requires { 4 * length text.now ≤ room line.old }
@@ -141,7 +141,7 @@ fn push_escaped_line(line: &mut FixedBuffer, text: &[u8])
 }
 
 /// Pushes the line of a string that needs no escape, and returns `true`. If the string needs one,
-/// this function returns `false` and pushes nothing. The string is tested and copied in one pass.
+/// it returns `false` and pushes nothing. The string is tested and copied in one pass.
 #[inline(always)]
 pub fn push_plain_line(line: &mut FixedBuffer, text: &[u8]) -> bool
     requires { length text.now + 64 ≤ room line.old }

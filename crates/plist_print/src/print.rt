@@ -50,11 +50,11 @@ pub fn print_source<I: EventSource, W: Write>(
     flushed
 }
 
-/// Prints the remaining events of a reader, as [`print_source`] prints those of any source.
+/// Prints the remaining events of a reader, as [`print_source`] does for any source.
 ///
 /// # Errors
 ///
-/// The errors are those of [`print_source`].
+/// Any error of [`print_source`].
 pub fn print_reader<S: Source, W: Write>(
     alloc: Global,
     reader: &mut BinaryReader<S>,
@@ -71,11 +71,11 @@ pub fn print_reader<S: Source, W: Write>(
     print_source(alloc, reader, writer)
 }
 
-/// Prints the events of a binary property list, as [`print_source`] prints those of any source.
+/// Prints the events of a binary property list, as [`print_source`] does for any source.
 ///
 /// # Errors
 ///
-/// The errors are those of [`print_source`].
+/// Any error of [`print_source`].
 pub fn print_events<S: Source, W: Write>(
     alloc: Global,
     source: S,

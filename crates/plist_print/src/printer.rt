@@ -1,4 +1,4 @@
-//! Defines a visitor that prints each event on a line of its own.
+//! Defines a visitor that prints every event on a line of its own.
 
 ghost use Rattle.std.specs.Prelude.{◌≡◌, ◌++◌, ◌+◌, ◌*◌, ◌≤◌, [], Ok, OnOk, codes, length};
 ghost use Rattle.plist_base.specs.Events.{ScalarEvent};
@@ -86,7 +86,7 @@ fn put_parts<W: Write>(sink: &mut Sink<'_, W>, line: &Parts<'_>) -> Result<(), E
     sink.put(line.end)
 }
 
-/// A visitor that prints each event on a line of its own.
+/// A visitor that prints every event on a line of its own.
 ///
 /// Lines are pending in the buffer until the next one might not fit. They are written before that
 /// one is pushed, so the buffer never grows.

@@ -1,4 +1,4 @@
-//! The printed form of a string in UTF-16, which is that of its bytes in UTF-8.
+//! The printed form of a string in UTF-16, which is the same as for its bytes in UTF-8.
 
 ghost use Rattle.std.specs.Prelude.{◌≡◌, ◌++◌, ◌+◌, ◌*◌, ◌<◌, ◌≤◌, [], encode_utf8, false, length, true};
 ghost use Rattle.plist_base.specs.ByteTests.{EachByte};

@@ -13,8 +13,8 @@ const WINDOW: usize = 512;
 
 /// Reads a source from its first byte on, at most 2^64 - 1 bytes.
 ///
-/// It calls the source only if a byte is requested and none is buffered, and buffers all bytes that
-/// the call returned. The failures that it counts are those of the source.
+/// It calls the source only if a byte is requested while its buffer is empty, and buffers all bytes
+/// that the call returned. It counts the failures of the source.
 ///
 /// An [`AsciiReader`](plist_ascii::AsciiReader) over a `BufferedSource` counts the failures of the
 /// source, as [`Reader`](crate::Reader) does. One over a [`Sequential`] doesn't, since every `Read`

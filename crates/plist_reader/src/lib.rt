@@ -1,8 +1,8 @@
 //! Reads property lists, binary or ASCII.
 //!
-//! The main contract is that of [`Reader`]: over known bytes, its items are those of the format
-//! that the first bytes indicate ([`format_of`]). Once it has chosen a reader for this format, its
-//! items are those of that reader.
+//! [`Reader`] has the main contract: over known bytes, it yields the items that the bytes have in
+//! the format that the first bytes indicate ([`format_of`]). Once it has chosen a reader for the
+//! format, it yields the items of that reader.
 #![tactic(auto)]
 
 mod bytes;

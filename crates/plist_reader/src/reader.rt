@@ -132,8 +132,8 @@ fn begin<R: Source>(
 /// - `XmlUnsupported` if the input is XML. The reader has ended then.
 /// - `Io`, with the offset of the failed read, if a read fails while the reader chooses. The reader
 ///   has ended then.
-/// - After the choice, the errors are those of the chosen reader. A binary reader has ended after
-///   each of its errors. An ASCII reader without limits continues after an error in its bytes.
+/// - After the choice, any error of the chosen reader. A binary reader has ended after each of its
+///   errors. An ASCII reader without limits continues after an error in its bytes.
 /// - `LimitReached`, without an offset, if a limit of [`Reader::with_limits`] is exceeded. The
 ///   reader has ended then.
 #[derive(Drop)]
@@ -148,7 +148,7 @@ impl<R: Source> Reader<R> {
     ghost use Rattle.plist_base.specs.Limits.{limited_items};
     ghost use Rattle.plist_reader.specs.Reader.{Gives, IsNewReader, IsUnread, items_of_dialect, items_of_input, reader_is_limited, reader_items, reader_objects, reader_source, steps_in_state};
 
-    /// Creates a reader over a source. Nothing is read before the first item is requested. ASCII is
+    /// Creates a reader over a source. Reading begins when the first item is requested. ASCII is
     /// read in the lax dialect, in which an LF doesn't end a bare string.
     ///
     /// # Examples
@@ -187,7 +187,7 @@ impl<R: Source> Reader<R> {
     }
 
     /// Creates a reader under the given limits: the first event that exceeds the limit of items, or
-    /// else that of the depth, is replaced by `LimitReached`, without an offset. Under limits a
+    /// else the limit of depth, is replaced by `LimitReached`, without an offset. Under limits a
     /// reader has ended after its first error of any kind.
     ///
     /// # Examples

@@ -349,8 +349,8 @@ fn print_line<R: Files + AllocGlobal, W: Write>(
     Ok(())
 }
 
-/// Prints a line for each idiom that the file of this name lists. The error of an idiom is printed
-/// in its line.
+/// Prints a line for every idiom that the given file lists. The error of an idiom is printed in its
+/// line.
 ///
 /// # Errors
 ///

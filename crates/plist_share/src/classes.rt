@@ -193,8 +193,8 @@ fn assign_classes(
     }
 }
 
-/// Returns the class of each collection among the events of a tree. Two events at which trees begin
-/// have the same class if and only if the trees are equal. It fails if an allocation fails.
+/// Returns the class of every collection among the events of a tree. Two events at which trees
+/// begin have the same class if and only if the trees are equal. It fails if an allocation fails.
 pub fn tree_classes(alloc: Global, events: &EventTable<'_>) -> Result<ClassList, AllocError>
     requires { IsBracketed (plain_events events.now) }
     ensures { IfOk result (SeparatesAll events.now) }

@@ -1,8 +1,8 @@
 //! Writes binary property lists in which equal collections share an object.
 //!
-//! The main contract is that of [`SharingWriter`]: the call that completes a property list writes
-//! its file, which has one object for each different subtree. No file with the same events has
-//! fewer objects.
+//! [`SharingWriter`] has the main contract: the call that completes a property list writes its
+//! file, which has one object for every different subtree. No file with the same events has fewer
+//! objects.
 #![tactic(auto)]
 
 mod classes;

@@ -3,7 +3,7 @@
 use crate::sharing::EqualTrees;
 use plist_binwrite::FileWriter;
 
-/// Writes binary property lists, one after another, to a writer. A file contains each different
+/// Writes binary property lists, one after another, to a writer. A file contains every different
 /// array, dictionary and scalar once, and no file with the same events has fewer objects.
 ///
 /// Two arrays or dictionaries are equal if they contain the same items or pairs, in the same order.
@@ -17,7 +17,7 @@ use plist_binwrite::FileWriter;
 /// `UnexpectedEventType` if the event can't follow the buffered ones; nothing changes then.
 /// `PlistTooLarge` if the file would have 2^64 bytes or more, `OutOfMemory` if an allocation fails,
 /// and `Io` if a write or the flush fails. These three are returned only for an event that can
-/// follow the buffered ones, and the writer has failed then: each later call returns
+/// follow the buffered ones, and the writer has failed then: every later call returns
 /// `WriterFailed`. After `PlistTooLarge` and `OutOfMemory` no byte of the property list was
 /// written. After `Io` a prefix of its file was written, and all of it if the flush failed. No
 /// error has an offset.

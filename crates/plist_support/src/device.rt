@@ -13,7 +13,7 @@ use std::{fmt, io};
 /// What happens at one call of a device.
 #[derive(Clone, Copy)]
 pub enum DeviceFault {
-    /// The call fails with an error of this kind.
+    /// The call fails with an error of the given kind.
     Fails(ErrorKind),
     /// A read returns no byte, or a write accepts none. The write is counted as a failure.
     MovesNothing,
@@ -24,7 +24,7 @@ pub enum DeviceFault {
 /// The message of each error of a device. No error of the libraries or of the system has it.
 pub const DEVICE_MESSAGE: &str = "the device failed";
 
-/// Returns the error of a device, of this kind.
+/// Returns the error of a device, of the given kind.
 pub fn device_error(kind: ErrorKind) -> io::Error {
     io::Error::new(kind, DEVICE_MESSAGE)
 }
@@ -60,13 +60,13 @@ pub struct Device {
 }
 
 impl Device {
-    /// Makes a device whose call with this index fails with `Interrupted`, after which most callers
-    /// would retry.
+    /// Makes a device that fails with `Interrupted` at its call with the given index. Most callers
+    /// would retry after that.
     pub fn new(bytes: Vec<u8>, fails_at: u64) -> Device {
         Device::with_fault(bytes, fails_at, DeviceFault::Fails(ErrorKind::Interrupted))
     }
 
-    /// Makes a device whose call with this index has this fault.
+    /// Makes a device that has the given fault at its call with the given index.
     pub fn with_fault(bytes: Vec<u8>, faulty_call: u64, fault: DeviceFault) -> Device {
         Device {
             bytes,
@@ -198,7 +198,7 @@ fn has_text(failure: &io::Error, text: &str) -> bool {
     write!(remaining, "{failure}").is_ok() && remaining.text.is_empty()
 }
 
-/// Checks that the result is an I/O error of this kind and text, with this offset.
+/// Checks that the result is an I/O error of the given kind and text, with the given offset.
 pub fn expect_failure<T: Drop>(
     answer: Result<T, Error>,
     kind: ErrorKind,
@@ -220,7 +220,7 @@ pub fn expect_failure<T: Drop>(
     Ok(())
 }
 
-/// Checks that the result is a device's own error of this kind, with this offset.
+/// Checks that the result is a device's own error of the given kind, with the given offset.
 pub fn expect_io<T: Drop>(
     answer: Result<T, Error>,
     kind: ErrorKind,
@@ -265,7 +265,7 @@ pub struct Disk {
 }
 
 impl Disk {
-    /// Makes a file of these bytes whose call with this index fails.
+    /// Makes a file of the given bytes that fails at its call with the given index.
     pub fn new(bytes: Vec<u8>, fails_at: u64) -> Disk {
         Disk {
             inner: Cursor::new(bytes),

@@ -113,7 +113,7 @@ pub fn event_of<'a>(alloc: Global, word: &'a str) -> Result<Event<'a>, Wrong> {
     }
 }
 
-/// Writes the events of these words to a writer, and fails if it returns an error.
+/// Writes the events of the given words to a writer, and fails if it returns an error.
 pub fn write_all<W: Writer>(alloc: Global, writer: &mut W, words: &str) -> Result<(), Wrong> {
     for word in words.split(' ') {
         let event = event_of(alloc, word)?;
@@ -137,8 +137,8 @@ fn add_answer<W: Writer>(
     Ok(())
 }
 
-/// Checks that a writer returns these answers for the events of these words. An answer is `ok` or
-/// the text of the error, and answers are separated by `; `.
+/// Checks that a writer returns the given answers for the events of the given words. An answer is
+/// `ok` or the text of the error, and answers are separated by `; `.
 pub fn expect_answers<W: Writer>(
     alloc: Global,
     writer: &mut W,

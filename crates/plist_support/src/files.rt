@@ -16,7 +16,7 @@ pub fn bytes_of(alloc: Global, digits: &str) -> Result<Vec<u8>, Wrong> {
 }
 
 /// Makes a file of the magic, `body` and a trailer. `body` consists of the objects and the offset
-/// table. The widths are those of an offset and of a reference, in bytes. The numbers are the
+/// table. The widths are the numbers of bytes in an offset and in a reference. The numbers are the
 /// number of objects, the index of the root, and the offset of the table.
 pub fn file_of(
     alloc: Global,

@@ -40,7 +40,7 @@ struct Reading<'a> {
 // Each example that is read from failing devices has fewer items than this.
 const MAX_ITEMS: usize = 100;
 
-/// Returns the words of the items of a source, up to this many.
+/// Returns the words of the items of a source, up to the given number.
 pub fn words_over<S: Source + Read>(
     alloc: Global,
     by: By,
@@ -124,7 +124,7 @@ fn calls_over(
     Ok((found, device.calls))
 }
 
-/// Checks that these items are read from a device that moves one byte per call, and that the
+/// Checks that the given items are read from a device that moves one byte per call, and that the
 /// failure of a call replaces the item for which the call was made.
 pub fn expect_on_devices(alloc: Global, by: By, bytes: &[u8], items: &str) -> Result<(), Wrong> {
     let reading = Reading { by, bytes };
@@ -174,8 +174,8 @@ fn expect_front(alloc: Global, bytes: &[u8], front: &[u8]) -> Result<(), Wrong> 
 }
 
 /// Checks what is read if the source shrinks to any length at its second call: the binary reader
-/// yields these items, or a prefix of them and `UnexpectedEof`. If the magic remains, the reader of
-/// either format yields the items of the bytes that remain.
+/// yields the given items, or a prefix of them and `UnexpectedEof`. If the magic remains, the
+/// reader of either format yields the items of the bytes that remain.
 pub fn expect_on_shrinking_devices(alloc: Global, bytes: &[u8], items: &str) -> Result<(), Wrong> {
     for left in 0..bytes.len() {
         expect_shrunk(alloc, bytes, items, left)?;

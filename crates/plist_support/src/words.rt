@@ -74,7 +74,7 @@ fn add_item(
     add_words(all, " ", word.as_str())
 }
 
-/// Appends words. If they aren't the first, this mark separates them from those before.
+/// Appends words. If they aren't the first, the given mark separates them from those before.
 pub fn add_words(all: &mut String, mark: &str, words: &str) -> Result<(), AllocError> {
     if !all.is_empty() {
         all.push_str(mark)?;

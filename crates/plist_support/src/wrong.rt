@@ -11,7 +11,7 @@ pub enum Wrong {
     OutOfMemory,
     /// The result isn't an error, but should be.
     NoFault,
-    /// The error, which wasn't expected, has this offset and, if it is an I/O error, this kind.
+    /// The error, which wasn't expected, with its offset and, if it is an I/O error, its kind.
     OtherFault(Option<u64>, Option<ErrorKind>),
     /// An I/O error has a message that wasn't expected.
     OtherMessage,
@@ -25,7 +25,7 @@ impl From<AllocError> for Wrong {
     }
 }
 
-/// Fails with these words, or with `OutOfMemory` if they couldn't be allocated.
+/// Fails with the given words, or with `OutOfMemory` if they couldn't be allocated.
 pub fn fail<T>(text: Result<String, AllocError>) -> Result<T, Wrong> {
     Err(Wrong::Words(text?))
 }

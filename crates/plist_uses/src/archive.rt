@@ -8,12 +8,12 @@ use plist::Value;
 use plist_keyed::{Archive, KeyedError};
 use std::alloc::Global;
 
-/// Returns the object that an archive names `root`, with each Uid in it replaced by the object to
-/// which it refers, or `None` if the archive names no root.
+/// Returns the object that an archive names `root`, with every Uid in it replaced by the object
+/// that it names, or `None` if the archive names no root.
 ///
 /// # Errors
 ///
-/// The errors are those of [`Archive::open`] and [`Archive::tree`].
+/// Any error of [`Archive::open`] or [`Archive::tree`].
 pub fn root_of(alloc: Global, archive: &Value) -> Result<Option<Value>, KeyedError>
     ensures root { IfOk result (λ top. IfSome top (λ root. IsRootOf archive.now (tree_of root))) }
     ensures none { IfOk result (λ top. IfNone top (HasNoRoot archive.now)) }

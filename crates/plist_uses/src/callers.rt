@@ -60,7 +60,7 @@ pub fn changed<R: Source>(
 ///
 /// # Errors
 ///
-/// The errors are those of [`convert`].
+/// Any error of [`convert`].
 pub fn converted(alloc: Global, bytes: &[u8]) -> Result<Vec<u8>, Error>
     ensures file { IfOk result (λ file. IsFileOfInput bytes.now file.items) }
 {
@@ -73,7 +73,7 @@ pub fn converted(alloc: Global, bytes: &[u8]) -> Result<Vec<u8>, Error>
 ///
 /// # Errors
 ///
-/// The errors are those of [`root_of`].
+/// Any error of [`root_of`].
 pub fn root_text(alloc: Global, archive: &Value) -> Result<Option<String>, KeyedError>
     ensures root { IfOk result (λ r. IfSome r (λ t. IsRootText archive.now (string_bytes t))) }
 {
@@ -83,11 +83,11 @@ pub fn root_text(alloc: Global, archive: &Value) -> Result<Option<String>, Keyed
     }
 }
 
-/// Counts the content of the property list in these bytes.
+/// Counts the content of the property list in the given bytes.
 ///
 /// # Errors
 ///
-/// The errors are those of [`count`].
+/// Any error of [`count`].
 pub fn counted(alloc: Global, bytes: &[u8]) -> Result<Counts, Error>
     ensures counts { AreCountedOf (items_of_input bytes.now) result }
 {
@@ -98,7 +98,7 @@ pub fn counted(alloc: Global, bytes: &[u8]) -> Result<Counts, Error>
 ///
 /// # Errors
 ///
-/// The errors are those of [`write_readings`].
+/// Any error of [`write_readings`].
 pub fn write_one<W: Writer>(reading: Reading, writer: &mut W) -> Result<(), Error>
     ensures written { OnOk result
         (TakesAll W.Step writer.old (bracketing (readings_tree (reading ∷ []))) writer.new) }
@@ -110,7 +110,7 @@ pub fn write_one<W: Writer>(reading: Reading, writer: &mut W) -> Result<(), Erro
 ///
 /// # Errors
 ///
-/// The errors are those of [`read_upload`].
+/// Any error of [`read_upload`].
 pub fn uploaded(alloc: Global, bytes: &[u8]) -> Result<Value, Error>
     ensures shallow { IfOk result (λ value. NestsWithin (tree_of value) 64) }
 {

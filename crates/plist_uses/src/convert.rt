@@ -12,11 +12,11 @@ use std::alloc::Global;
 use std::io::Write;
 
 /// Reads a property list, writes it as a binary one, and returns its value. The written file has
-/// that value. If the bytes of the source are known, the value is that of their items.
+/// that value. If the bytes of the source are known, the value is built from their items.
 ///
 /// # Errors
 ///
-/// The errors are those of [`Value::from_reader`] and of [`Value::to_writer_binary`].
+/// Any error of [`Value::from_reader`] or [`Value::to_writer_binary`].
 pub fn convert<R: Source, W: Write>(
     alloc: Global,
     source: R,

@@ -94,7 +94,7 @@ impl Settings {
     ///
     /// # Errors
     ///
-    /// The errors are those of [`Value::to_writer_binary`].
+    /// Any error of [`Value::to_writer_binary`].
     pub fn save<W: Write>(self, alloc: Global, out: &mut W) -> Result<(), Error>
         ensures sent { SendsTree W.contents (tree_in self) (answer_of result) out.old out.new }
     {

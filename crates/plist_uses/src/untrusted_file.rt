@@ -14,12 +14,12 @@ use std::alloc::Global;
 
 /// Reads the value of untrusted bytes: at most 64 levels of collections, at most 100,000 events,
 /// and at most 16 MiB of strings and data, whatever the bytes contain. So no file makes the value
-/// take more memory than these limits allow, and dropping or comparing it recurses no deeper than
-/// these levels.
+/// take more memory than the limits allow, and dropping or comparing it recurses no deeper than
+/// their levels.
 ///
 /// # Errors
 ///
-/// The errors are those of [`Value::from_reader_within`].
+/// Any error of [`Value::from_reader_within`].
 pub fn read_upload(alloc: Global, bytes: &[u8]) -> Result<Value, Error>
     ensures value { IsValueOf (items_of_upload bytes.now) (built_tree result) }
     ensures shallow { IfOk result (λ value. NestsWithin (tree_of value) 64) }

@@ -16,7 +16,7 @@ use std::alloc::Global;
 
 impl Dictionary {
     /// Keeps the pairs for which the closure returns `true`, in their order, and drops the others.
-    /// The closure is called once for each pair, in their order.
+    /// The closure is called once for every pair, in their order.
     ///
     /// # Examples
     ///

@@ -13,13 +13,13 @@ use std::mem;
 /// The entry of a key in a dictionary: the key's pair, or a vacant entry if the key is missing.
 #[derive(Drop)]
 pub enum Entry<'a> {
-    /// The key isn't there.
+    /// The key is missing.
     Vacant(VacantEntry<'a>),
-    /// The key is there.
+    /// The key is present.
     Occupied(OccupiedEntry<'a>),
 }
 
-/// The entry of a key that isn't there. It owns the key.
+/// The entry of a missing key. It owns the key.
 #[derive(Drop)]
 pub struct VacantEntry<'a> {
     pairs: &'a mut Dictionary,
@@ -143,7 +143,7 @@ impl<'a> VacantEntry<'a> {
         &self.key
     }
 
-    /// Adds the key with this value, as the last pair, and returns a mutable reference to the
+    /// Adds the key with the given value, as the last pair, and returns a mutable reference to the
     /// value.
     ///
     /// # Errors
@@ -175,8 +175,8 @@ impl<'a> Entry<'a> {
         }
     }
 
-    /// Returns a mutable reference to the key's value. If the key isn't there, it is first added
-    /// with this value.
+    /// Returns a mutable reference to the key's value. If the key is missing, it is first added
+    /// with the given value.
     ///
     /// # Errors
     ///

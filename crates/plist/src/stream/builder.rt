@@ -17,7 +17,7 @@ use std::alloc::Global;
 /// A key that is repeated keeps its first position and takes its last value. The lengths of starts
 /// are ignored. An event that can't follow the preceding ones changes nothing. It is rejected with
 /// `UnexpectedEventType` before the root is complete, and with `ExpectedEndOfEventStream` after
-/// that. If an allocation fails, the builder has failed: its contents are dropped, and each later
+/// that. If an allocation fails, the builder has failed: its contents are dropped, and every later
 /// call returns `WriterFailed`.
 ///
 /// # Examples
@@ -100,7 +100,7 @@ impl Builder {
     /// An error leaves the builder unchanged.
     ///
     /// - `WriterFailed` if it has failed.
-    /// - `UnexpectedEndOfEventStream` if the events aren't those of a value yet.
+    /// - `UnexpectedEndOfEventStream` if the events don't form a value yet.
     pub fn finish(&mut self) -> Result<Value, Error>
         // Result.
         ensures value { IfOk result (λ value. AreAlike
@@ -137,7 +137,7 @@ pub trait AnyEvent: Drop {
     ///
     /// # Errors
     ///
-    /// The errors are those of the builder's `write`.
+    /// Any error of the builder's `write`.
     fn write_to(self, builder: &mut Builder) -> Result<(), Error>
         requires { (built_of builder.old).failed ≡ false }
         ensures taken { OnOk result (TakesOne (built_of builder.old) (Ok (plain self))

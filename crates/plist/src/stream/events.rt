@@ -30,7 +30,7 @@ enum Next<'a> {
     Value(&'a Value),
 }
 
-/// An iterator over the events of a value, depth first: each start has its length, and strings and
+/// An iterator over the events of a value, depth first: every start has its length, and strings and
 /// data are borrowed from the value.
 ///
 /// # Errors

@@ -15,7 +15,7 @@ impl<V> Pairs<V> {
     ghost use Rattle.plist_pairs.specs.Bulk.{ExtendsByIterable, IterableEnds, IsMadeOfIterable, Retains};
 
     /// Keeps the pairs for which the closure returns `true`, in their order, and drops the others.
-    /// The closure is called once for each pair, in their order.
+    /// The closure is called once for every pair, in their order.
     pub fn retain<F: Fn(&String, &V) -> bool>(&mut self, keep: F)
     where
         V: Discard,
@@ -81,8 +81,8 @@ impl<V> Pairs<V> {
         Ok(())
     }
 
-    /// Makes a `Pairs` from these pairs, inserted in their order. The caller has to prove that the
-    /// iterator ends.
+    /// Makes a `Pairs` from the given pairs, inserted in their order. The caller has to prove that
+    /// the iterator ends.
     ///
     /// # Errors
     ///

@@ -36,7 +36,7 @@ impl<V> Pairs<V> {
         self.store.as_mut().unwrap().value_at(index)
     }
 
-    /// Appends a pair, whose key must not be present.
+    /// Appends a pair. Its key must not be present.
     ///
     /// # Errors
     ///
@@ -60,7 +60,7 @@ impl<V> Pairs<V> {
     }
 
     /// Removes the pair at an index, which must be less than the number of pairs, and returns its
-    /// value. The last pair moves to this index.
+    /// value. The last pair moves to `index`.
     pub fn swap_remove_at(&mut self, index: usize) -> V
         requires { index < length self.old }
         ensures value { slice_get (values_of self.old) index ≡ Some result }
