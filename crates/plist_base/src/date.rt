@@ -132,6 +132,26 @@ impl Date {
         self.plist_secs() + PLIST_EPOCH
     }
 
+    /// Returns the start of the second in which this date lies, which is the date without its fraction.
+    /// A date without a fraction is returned unchanged.
+    ///
+    /// # Examples
+    ///
+    /// ```rust
+    /// let second = value.as_date()?.start_of_second();
+    /// second.to_xml_format(alloc).ok()
+    /// ```
+    pub fn start_of_second(self) -> Date
+        // Result.
+        ensures second { second_of_bytes result ≡ second_of_bytes self }
+        ensures date { IsDate result }
+        ensures whole { IsWhole result }
+        // Laws.
+        ensures unchanged { IsWhole self → result ≡ self }
+    {
+        Date::from_plist_secs(self.plist_secs()).unwrap()
+    }
+
     /// Returns `true` if this date lies between two seconds.
     pub fn has_fraction(&self) -> bool
         ensures { result ≡ has_fraction (real_bits self.now) }

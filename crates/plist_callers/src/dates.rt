@@ -1,7 +1,7 @@
 //! Proved callers of dates and their texts: each text is read back as its date, some reals aren't
 //! dates, and some dates have no text.
 
-ghost use Rattle.std.specs.Prelude.{◌≡◌, IfOk, None, Some, string_bytes};
+ghost use Rattle.std.specs.Prelude.{◌≡◌, IfOk, None, Some, false, string_bytes};
 ghost use Rattle.plist_base.specs.Date.{IsWhole};
 ghost use Rattle.plist_base.specs.DateTexts.{HasOtherYear, IsInUtc, IsRefused, second_of_text};
 ghost use Rattle.plist_base.specs.Faults.{FractionalDate, InvalidDateString, YearOutOfRange};
@@ -56,6 +56,28 @@ pub fn other_year(alloc: Global, date: &Date) -> Result<String, Error>
     ensures { IsRefused YearOutOfRange result }
 {
     date.to_xml_format(alloc)
+}
+
+/// Returns whether the start of a date's second lies in another second than the date.
+pub fn start_changes_second(date: Date) -> bool
+    ensures { result ≡ false }
+{
+    date.start_of_second().plist_secs() != date.plist_secs()
+}
+
+/// Returns whether the start of a date's second has a fraction.
+pub fn start_keeps_fraction(date: Date) -> bool
+    ensures { result ≡ false }
+{
+    date.start_of_second().has_fraction()
+}
+
+/// Returns whether a date without a fraction differs from the start of its second.
+pub fn start_changes_whole(date: Date) -> bool
+    requires whole { IsWhole date }
+    ensures { result ≡ false }
+{
+    date.start_of_second() != date
 }
 
 /// Returns the error of making a date of an infinite real.

@@ -91,6 +91,14 @@ fn real_text(alloc: Global, bytes: [u8; 8]) -> Result<String, AllocError> {
     }
 }
 
+// Returns the text of the start of the second in which a real's date lies.
+fn start_text(alloc: Global, bytes: [u8; 8]) -> Result<String, AllocError> {
+    match Date::from_plist_real(bytes) {
+        Ok(date) => date_text(alloc, &date.start_of_second()),
+        Err(_) => String::from_str(alloc, "none"),
+    }
+}
+
 // Returns the text of a second's date.
 fn second_text(alloc: Global, second: i64) -> Result<String, AllocError> {
     match Date::from_plist_secs(second) {
@@ -142,6 +150,7 @@ fn words_found(alloc: Global, check: &str, text: &str) -> Result<String, Wrong> 
         "unix" => unix_words(alloc, second_of(alloc, text)?),
         "date" => date_words(alloc, text),
         "text of real" => real_text(alloc, real_of(alloc, text)?),
+        "start of second" => start_text(alloc, real_of(alloc, text)?),
         "text of second" => second_text(alloc, second_of(alloc, text)?),
         "data" => data_words(alloc, text),
         "text of data" => data_text(alloc, &Data::new(bytes_of(alloc, text)?)),

@@ -1,7 +1,7 @@
 //! What a filter has read and changed.
 
+use plist::Error;
 use plist::stream::Event;
-use plist::{Date, Error};
 use std::alloc::Global;
 use std::cmp::Reverse;
 use std::collections::HashMap;
@@ -17,14 +17,6 @@ pub struct Stats {
     pub deepest: usize,
     text_bytes: usize,
     first_date: Option<String>,
-}
-
-// Returns the text of a date without its fraction.
-fn date_text(alloc: Global, date: &Date) -> Result<String, Error> {
-    match Date::from_unix_secs(date.unix_secs()) {
-        Some(second) => second.to_xml_format(alloc),
-        None => date.to_xml_format(alloc),
-    }
 }
 
 impl Stats {
@@ -56,7 +48,7 @@ impl Stats {
                 self.text_bytes = self.text_bytes.saturating_add(bytes.len());
             }
             Event::Date(date) => {
-                let text = date_text(alloc, date)?;
+                let text = date.start_of_second().to_xml_format(alloc)?;
                 match &self.first_date {
                     Some(first) if *first <= text => {}
                     _ => self.first_date = Some(text),

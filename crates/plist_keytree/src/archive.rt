@@ -1,7 +1,7 @@
 //! A keyed archive, and what its Uids reach.
 
 use crate::failure::Failure;
-use plist::{Date, Dictionary, Error, Uid, Value};
+use plist::{Dictionary, Error, Uid, Value};
 use std::alloc::Global;
 use std::collections::{BTreeMap, HashMap, VecDeque};
 
@@ -127,14 +127,6 @@ impl<'a> Keyed<'a> {
     }
 }
 
-// Returns the text of a date without its fraction.
-fn date_text(alloc: Global, date: &Date) -> Result<String, Error> {
-    match Date::from_unix_secs(date.unix_secs()) {
-        Some(second) => second.to_xml_format(alloc),
-        None => date.to_xml_format(alloc),
-    }
-}
-
 /// Returns a short text for a value.
 ///
 /// # Errors
@@ -151,7 +143,7 @@ pub fn brief(alloc: Global, value: &Value) -> Result<String, Error> {
         Value::Real(number) => number.to_f64().to_string(alloc)?,
         Value::Boolean(flag) => flag.to_string(alloc)?,
         Value::Data(bytes) => format!(in alloc; "{} bytes", bytes.len())?,
-        Value::Date(date) => date_text(alloc, date)?,
+        Value::Date(date) => date.start_of_second().to_xml_format(alloc)?,
         Value::Array(items) => format!(in alloc; "{} items", items.len())?,
         Value::Dictionary(pairs) => format!(in alloc; "{} pairs", pairs.len())?,
         Value::Uid(uid) => format!(in alloc; "#{}", uid.get())?,

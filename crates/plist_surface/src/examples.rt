@@ -150,6 +150,17 @@ fn second_day() -> Option<i64> {
     Some(day.plist_secs())
 }
 
+fn text_of_second(alloc: Global, value: &Value) -> Option<String> {
+    let second = value.as_date()?.start_of_second();
+    second.to_xml_format(alloc).ok()
+}
+
+// Returns the text of the second in which the date half a second after 2001-01-01T00:00:00Z lies.
+fn text_without_half(alloc: Global) -> Option<String> {
+    let half = Date::from_plist_real([0x3f, 0xe0, 0, 0, 0, 0, 0, 0]).ok()?;
+    text_of_second(alloc, &Value::Date(half))
+}
+
 fn data_again(alloc: Global) -> Option<String> {
     let data = Data::from_xml_format(alloc, "AP 8=").ok()?;
     data.to_xml_format(alloc).ok()
@@ -196,6 +207,7 @@ fn print_scalars<W: Write>(alloc: Global, out: &mut W) -> Result<(), Error> {
     print_result(out, "in_eight_bytes", &in_eight_bytes(&half))?;
     print_result(out, "number_in_hexadecimal", &number_in_hexadecimal())?;
     print_result(out, "second_day", &second_day())?;
+    print_result(out, "text_of_second", &text_without_half(alloc))?;
     print_result(out, "data_again", &data_again(alloc))
 }
 

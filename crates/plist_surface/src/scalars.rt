@@ -96,6 +96,7 @@ pub fn date_calls(date: Date) -> Option<Date> {
     is_debug(&date);
     let plist_second: i64 = date.plist_secs();
     let unix_second: i64 = date.unix_secs();
+    let _second: Date = date.start_of_second();
     let bytes: [u8; 8] = date.to_plist_real();
     let _again: Result<Date, ErrorKind> = Date::from_plist_real(bytes);
     let _same: Option<Date> = Date::from_plist_secs(plist_second);
