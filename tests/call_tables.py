@@ -409,6 +409,45 @@ def far(calls):
             calls.prints(name, str(most), "right")
 
 
+def sizes(calls):
+    reads = "next next-file visit visit-file Reader Reader-visit from_reader from_reader_within"
+    writes = "Builder BinaryWriter SharingWriter to_writer_binary write_value clone tree"
+    ascii_reads = "hand_over Reader Reader-visit from_reader"
+
+    def add(form, shape, numbers, ways):
+        told = "".join(f"{way} " for way in ways.replace("|", "").split())
+        for number in numbers:
+            calls.prints(f"{form} of size: {shape}", f"{number} {ways}", told)
+
+    # the characters of a string, or the bytes of data; the unproved program takes some 1 to 10 microseconds a
+    # character, so not every way has every size
+    for shape in ("string", "key", "UTF-16 string", "UTF-16 key", "data"):
+        add("binary", shape, (0, 1), f"{reads} | {writes}")
+        add("binary", shape, [65_536], f"{reads} | Builder")
+        add("binary", shape, [65_537], f"{reads} | {'BinaryWriter tree' if 'key' in shape else writes}")
+        # data has no form in ASCII, and a bare string isn't empty
+        if shape != "data":
+            add("ASCII", shape, (0, 1, 65_536, 65_537), ascii_reads)
+        if shape in ("string", "key"):
+            add("bare", shape, (1, 65_536, 65_537), ascii_reads)
+    add("binary", "string", [1_000_000], "next from_reader | BinaryWriter tree")
+    add("binary", "UTF-16 string", [1_000_000], "next-file visit |")
+    add("binary", "UTF-16 key", [1_000_000], "next |")
+    add("binary", "data", [1_000_000], "next-file | SharingWriter")
+    add("ASCII", "string", (0, 1, 65_537), "next from_reader_ascii")
+    add("ASCII", "UTF-16 string", [1_000_000], "Reader")
+    add("bare", "key", [1_000_000], "from_reader")
+    # the objects of a file, all of them the same string
+    add("binary", "objects", (1, 65_536, 65_537), f"{reads} |")
+    add("binary", "objects", [1_000_000], "next |")
+    # the integers of an array, and the arrays that are open at once; `deep.rt` has more of them
+    for shape in ("items", "levels"):
+        add("binary", shape, (0, 1), f"{reads} | {writes}")
+        add("ASCII", shape, (0, 1), ascii_reads)
+    add("binary", "items", [65_537], "| BinaryWriter")
+    add("binary", "levels", [65_537], "next visit |")
+
+
 def file_of_objects(objects, root):
     """Returns a file with these objects, and references and offsets of two and four bytes."""
     places = list(itertools.accumulate(map(len, objects), initial=8))
@@ -454,6 +493,7 @@ def counted(calls):
 
 def run(calls):
     far(calls)
+    sizes(calls)
     counted(calls)
     readers(calls)
     writers(calls)

@@ -87,7 +87,7 @@ class Calls:
     """The calls, the expected results, and the actual ones."""
 
     def __init__(self):
-        self.lines, self.tests, self.names = [], [], set()
+        self.lines, self.tests, self.names, self.swept = [], [], set(), set()
         self.all, self.most = collections.Counter(), 0
 
     def add(self, way, name, given, test):
@@ -105,6 +105,7 @@ class Calls:
 
         A call that stops at such an error makes no other allocation after it.
         """
+        self.swept.add(name)
         self.add("sweep", name, given,
                  lambda call, runs: self.test_sweep(call, runs, ample, wants, stops))
 
@@ -196,7 +197,7 @@ def main():
     calls.look_at(runs_of(output))
     print(f"at most {calls.most:.0f} bytes of memory for each byte of a file with false sizes")
     told = ", ".join(f"{number} {what}" for what, number in sorted(calls.all.items()))
-    print(f"{len(calls.names)} kinds of calls: {told}")
+    print(f"{len(calls.names)} kinds of calls, {len(calls.swept)} of them with allocations that fail: {told}")
     return 1 if calls.all["otherwise"] else 0
 
 
