@@ -58,21 +58,21 @@ pub fn other_year(alloc: Global, date: &Date) -> Result<String, Error>
     date.to_xml_format(alloc)
 }
 
-/// Returns whether the start of a date's second lies in another second than the date.
+/// Returns `true` if the start of a date's second lies in another second than the date.
 pub fn start_changes_second(date: Date) -> bool
     ensures { result ≡ false }
 {
     date.start_of_second().plist_secs() != date.plist_secs()
 }
 
-/// Returns whether the start of a date's second has a fraction.
+/// Returns `true` if the start of a date's second has a fraction.
 pub fn start_keeps_fraction(date: Date) -> bool
     ensures { result ≡ false }
 {
     date.start_of_second().has_fraction()
 }
 
-/// Returns whether a date without a fraction differs from the start of its second.
+/// Returns `true` if a date without a fraction differs from the start of its second.
 pub fn start_changes_whole(date: Date) -> bool
     requires whole { IsWhole date }
     ensures { result ≡ false }
