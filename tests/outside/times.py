@@ -32,8 +32,8 @@ FROM_NOTHING = {"first", "gate"}
 # A line of a function, and another that does the same.
 CHANGES = {
     "plist_decode": ("src/trailer.rt", "if end <= trailer =>", "if trailer >= end =>"),
-    "plist_pairs": ("src/dictionary/store.rt", "        self.keys.contains(key)\n",
-                    "        let found = self.keys.contains(key);\n        found\n"),
+    "plist_pairs": ("src/pairs.rt", "        self.keys.len()\n",
+                    "        let count = self.keys.len();\n        count\n"),
 }
 
 

@@ -16,10 +16,9 @@ use Rattle.plist_base.specs.Trees.{Dictionary}
 use Rattle.plist.specs.declared.equal.DeferredPairs.{DeferredPairs}
 use Rattle.plist.specs.declared.equal.Pair.{Pair}
 use Rattle.plist.specs.declared.value.Value.{Value, Value-F, fold_out-Value}
-use Rattle.plist_pairs.specs.inner.PairsSame.{as_map}
+use Rattle.plist_pairs.proofs.PairsSame.{as_map}
 use Rattle.plist.specs.inner.DeferredPairs.{Compares, ComparesItems, ComparesPairs, ComparesValues, ItemsLeft, PairsLeft, are_covered, are_same, same_values, to_compare, waiting}
-use Rattle.plist_pairs.specs.TreeEquality.{same, same_items}
-use Rattle.plist_pairs.specs.Equal.{same_pairs}
+use Rattle.plist_pairs.specs.TreeEquality.{same, same_items, same_pairs}
 use Rattle.plist.specs.ValueTrees.{item_trees, pair_trees}
 use Rattle.plist.specs.inner.Weights.{pairs_step, weight, weight_step, weights}
 use Rattle.plist.proofs.DropWeights.{weights-more}

@@ -10,10 +10,9 @@ use Rattle.std.specs.Cmp.Lexicographic.{nat_list_eq_equiv}
 use Rattle.std_collections.specs.HashMap.Eq.{get_from_hash_map_eq, hash_map_eq_from_get}
 use Rattle.plist_base.specs.Trees.{Tree, Dictionary, members_of}
 use Rattle.plist.specs.declared.value.Value.{Value}
-use Rattle.plist_pairs.specs.TreeEquality.{AreSameAt, same, same_items, first_value}
-use Rattle.plist_pairs.specs.Equal.{same_pairs}
+use Rattle.plist_pairs.specs.TreeEquality.{AreSameAt, same, same_items, first_value, same_pairs}
 use Rattle.plist_pairs.proofs.TreeEquality.{dictionaries_alike, refl_tree, same_by, scalars_alike, symmetric, trans_tree}
-use Rattle.plist_pairs.specs.inner.PairsSame.{as_map}
+use Rattle.plist_pairs.proofs.PairsSame.{as_map}
 use Rattle.plist.specs.ValueTrees.{tree_of, tree_pairs, item_trees, pair_trees}
 use Rattle.plist.proofs.Tops.{trees-once}
 

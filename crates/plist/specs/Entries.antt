@@ -10,8 +10,7 @@ use Rattle.indexmap.specs.Layout.{length-set_value_at}
 use Rattle.std.proofs.Common.{sym, subst}
 use mir.Syntax.{named}
 use Rattle.std.specs.declared.alloc.Global.{Global}
-use Rattle.plist_pairs.specs.EntryLends.{IsRemovedAt}
-use Rattle.plist_pairs.specs.Keys.{IsSetAt, IsTakenAt}
+use Rattle.plist_pairs.specs.Keys.{IsRemovedAt, IsSetAt, IsTakenAt}
 use Rattle.plist.specs.declared.dictionary.entry.Entry.{Entry}
 use Rattle.plist.specs.declared.dictionary.entry.OccupiedEntry.{OccupiedEntry}
 use Rattle.plist.specs.contracts.dictionary.Dictionary.{the_row}

@@ -1,39 +1,36 @@
 //! Dictionaries: pairs of a key and a value, in an order in which a new key is last.
 
-ghost use Rattle.std.specs.Prelude.{◌≡◌, ◌<◌, ◌++◌, ◌∷◌, ◌↔◌, MatchOption, IsTrue, Some, [], length, is_some, string_bytes, IfOk, IfSome, OnOk, IfErr, OnErr, slice_get};
+ghost use Rattle.std.specs.Prelude.{◌≡◌, ◌<◌, ◌↔◌, MatchOption, IsSome, IsTrue, Some, [], length, is_some, string_bytes, IfOk, IfSome, OnOk, IfErr, OnErr, slice_get};
 ghost use Rattle.std.specs.Str.{bytes_eq};
 ghost use Rattle.std.specs.Option.{option_copied, option_copied_mut};
 ghost use Rattle.std.specs.Map.{lookup, keys_of, values_of};
 ghost use Rattle.std.specs.Map.Iter.{ShowsInOrder, ShowsValuesInOrder, deref};
 ghost use Rattle.std.specs.List.{IsAmong, IsDistinct};
 ghost use Rattle.std.specs.Borrow.{sem};
-ghost use Rattle.plist_pairs.specs.Keys.{HasNone, IsAbsent, IsIndexOf, IsSetAt, IsTakenAt};
-ghost use Rattle.plist_pairs.specs.EntryLends.{IsRemovedAt};
+ghost use Rattle.plist_pairs.specs.Keys.{HasNone, IsAbsent, IsIndexOf, IsRemovedAt, IsSetAt, IsTakenAt};
 ghost use Rattle.plist_pairs.specs.Shown.{shown_key, shown_pair};
 ghost use Rattle.plist.specs.Dictionaries.{pairs_of};
-ghost use Rattle.plist.specs.DictionaryLends.{DictionaryLendsAtKey, DictionaryLendsIndex};
+ghost use Rattle.plist.specs.DictionaryLends.{DictionaryLendsAtKey, DictionaryLendsIndex, DictionaryLendsValue};
 
 mod bulk;
 mod entry;
-mod index;
 mod into_iter;
 
 use crate::Value;
 use crate::value::destroy_all;
 pub use entry::{Entry, OccupiedEntry, VacantEntry};
 pub use into_iter::IntoIter;
-use plist_base::Error;
-pub use plist_pairs::dictionary::Keys;
-pub(crate) use plist_pairs::dictionary::{Discard, TryCopy};
-use plist_pairs::{Pairs, dictionary};
+use plist_pairs::BoxedPairs;
+pub use plist_pairs::Keys;
 use std::alloc::Global;
 use std::fmt;
+use std::ops::{Index, IndexMut};
 
 /// An iterator over the pairs, in their order.
-pub type Iter<'a> = dictionary::Iter<'a, Value>;
+pub type Iter<'a> = plist_pairs::Iter<'a, Value>;
 
 /// An iterator over the values, in the order of the pairs.
-pub type Values<'a> = dictionary::Values<'a, Value>;
+pub type Values<'a> = plist_pairs::Values<'a, Value>;
 
 /// A dictionary of a property list: pairs of a key and a value, each key once.
 ///
@@ -44,13 +41,13 @@ pub type Values<'a> = dictionary::Values<'a, Value>;
 /// are.
 #[cycle(value)]
 pub struct Dictionary {
-    pairs: Pairs<Value>,
+    pairs: BoxedPairs<Value>,
 }
 
 impl Drop for Dictionary {
     fn drop(self) {
         let Dictionary { pairs } = self;
-        destroy_all(pairs.into_items());
+        destroy_all(pairs.into_inner().into_items());
     }
 }
 
@@ -62,7 +59,7 @@ impl Dictionary {
         ensures empty { pairs_of result ≡ [] }
     {
         Dictionary {
-            pairs: Pairs::new(alloc),
+            pairs: BoxedPairs::new(alloc),
         }
     }
 
@@ -81,7 +78,10 @@ impl Dictionary {
     pub fn clear(&mut self)
         ensures empty { pairs_of self.new ≡ [] }
     {
-        self.pairs.clear();
+        match self.pairs.as_mut() {
+            None => {}
+            Some(pairs) => pairs.clear(),
+        }
     }
 
     /// Returns the value of the key, or `None` if the key is missing.
@@ -99,7 +99,7 @@ impl Dictionary {
         ensures member { IfSome result (λ value. IsAmong (values_of
             (pairs_of self.now)) value.now) }
     {
-        self.pairs.get(key)
+        self.pairs.as_ref()?.get(key)
     }
 
     /// Returns `true` if the dictionary contains the key.
@@ -115,7 +115,7 @@ impl Dictionary {
     pub fn contains_key(&self, key: &str) -> bool
         ensures { result ≡ is_some (lookup (bytes_eq key.now) (pairs_of self.now)) }
     {
-        self.pairs.contains_key(key)
+        self.get(key).is_some()
     }
 
     /// Returns a mutable reference to the key's value, or `None` if the key is missing.
@@ -133,7 +133,10 @@ impl Dictionary {
             borrowed.now) }
         ensures* writes_back { sem 𝓛 (DictionaryLendsAtKey self.entry key.now result) }
     {
-        self.pairs.get_mut(key)
+        match self.pairs.as_mut() {
+            None => None,
+            Some(pairs) => pairs.get_mut(key),
+        }
     }
 
     /// Sets the key's value, and returns the value that it had.
@@ -168,15 +171,6 @@ impl Dictionary {
         self.pairs.insert(key, value)
     }
 
-    // Sets the key's value, and drops the value that it had. If an allocation fails, the new value
-    // is dropped.
-    pub(crate) fn set(&mut self, key: String, value: Value) -> Result<(), Error>
-        ensures pairs { OnOk result (IsSetAt (pairs_of self.old) (string_bytes key) value
-            (pairs_of self.new)) }
-    {
-        self.pairs.set(key, value)
-    }
-
     /// Removes the key and returns its value, or returns `None` if the key is missing.
     ///
     /// The last pair moves to the index of the removed one.
@@ -190,7 +184,7 @@ impl Dictionary {
         ensures value { result ≡ lookup (bytes_eq key.now) (pairs_of self.old) }
         ensures pairs { IsTakenAt (pairs_of self.old) key.now (pairs_of self.new) }
     {
-        self.pairs.remove(key)
+        self.pairs.as_mut()?.remove(key)
     }
 
     /// Returns the number of pairs. The contract also states that their keys are distinct.
@@ -205,7 +199,7 @@ impl Dictionary {
     pub fn is_empty(&self) -> bool
         ensures { IsTrue result ↔ (pairs_of self.now ≡ []) }
     {
-        self.pairs.is_empty()
+        self.len() == 0
     }
 
     /// Returns an iterator over the pairs, in their order.
@@ -255,19 +249,12 @@ impl Dictionary {
         self.pairs.values()
     }
 
-    // Takes the pairs out of the dictionary, whose own drop isn't run.
-    fn into_pairs(self) -> Pairs<Value>
-        ensures { result ≡ pairs_of self }
-    {
-        let Dictionary { pairs } = self;
-        pairs
-    }
-
     /// Returns the values, without their keys, in the order of the pairs.
     pub fn into_items(self) -> Vec<Value>
         ensures { result.items ≡ values_of (pairs_of self) }
     {
-        self.into_pairs().into_items()
+        let Dictionary { pairs } = self;
+        pairs.into_inner().into_items()
     }
 
     /// Returns the allocator of the pairs.
@@ -280,7 +267,8 @@ impl Dictionary {
         requires { index < length (pairs_of self.now) }
         ensures { slice_get (pairs_of self.now) index ≡ Some (result.0.now, result.1.now) }
     {
-        self.pairs.pair_at(index)
+        let (key, value) = self.pairs.as_ref().unwrap().pair_at(index);
+        (key.as_str(), value)
     }
 }
 
@@ -290,14 +278,14 @@ impl Dictionary {
         ensures { MatchOption result (HasNone key.now (pairs_of self.now))
             (IsIndexOf key.now (pairs_of self.now)) }
     {
-        self.pairs.index_of(key)
+        self.pairs.as_ref()?.index_of(key)
     }
 
     fn key_at(&self, index: usize) -> &String
         requires { index < length (pairs_of self.now) }
         ensures { slice_get (keys_of (pairs_of self.now)) index ≡ Some (string_bytes result.now) }
     {
-        self.pairs.key_at(index)
+        self.pairs.as_ref().unwrap().pair_at(index).0
     }
 
     // Returns a mutable reference to the value at an index.
@@ -306,18 +294,7 @@ impl Dictionary {
         ensures value { slice_get (values_of (pairs_of self.old)) index ≡ Some result.now }
         ensures* writes_back { sem 𝓛 (DictionaryLendsIndex self.entry index result) }
     {
-        self.pairs.value_at(index)
-    }
-
-    // Adds a pair whose key must not be there.
-    fn push(&mut self, key: String, value: Value) -> Result<(), (String, Value)>
-        requires { IsAbsent (string_bytes key) (pairs_of self.old) }
-        ensures pairs { OnOk result (pairs_of self.new
-            ≡ pairs_of self.old ++ (string_bytes key, value) ∷ []) }
-        ensures handed_back { IfErr result (λ back. back ≡ (key, value)) }
-        ensures unchanged { OnErr result (self.new ≡ self.old) }
-    {
-        self.pairs.push(key, value)
+        self.pairs.as_mut().unwrap().value_at(index)
     }
 
     // Removes the pair at an index, to which the last pair moves, and returns its value.
@@ -326,7 +303,7 @@ impl Dictionary {
         ensures value { slice_get (values_of (pairs_of self.old)) index ≡ Some result }
         ensures pairs { IsRemovedAt (pairs_of self.old) index (pairs_of self.new) }
     {
-        self.pairs.swap_remove_at(index)
+        self.pairs.as_mut().unwrap().swap_remove_at(index)
     }
 }
 
@@ -355,31 +332,28 @@ impl fmt::Debug for Dictionary {
     }
 }
 
-/// Dictionaries are equal if they have the same keys, with equal values. The order of the pairs
-/// doesn't matter.
-impl PartialEq for Dictionary {
-    ghost use Rattle.std.specs.Cmp.{partial_equiv_from_equiv};
-    ghost use Rattle.std.proofs.lemmas.Cmp.{on_equiv};
-    ghost use Rattle.plist_pairs.specs.inner.PairsSame.{same_pairs_equiv};
-    ghost use Rattle.plist_pairs.proofs.TreeEquality.{same_by_equiv};
-    ghost use Rattle.plist.specs.inner.DeferredPairs.{same_values_at};
-    ghost use Rattle.plist.specs.ValueTrees.{tree_of};
+/// Returns the value of a key, which must be there; [`Dictionary::contains_key`] tests that.
+impl<'q> Index<&'q str> for Dictionary {
+    type Output = Value;
 
-    ghost eq = { λ a b. same_values_at (pairs_of a) (pairs_of b) };
+    ghost can_index = { λ dictionary key. IsSome (lookup (bytes_eq key.now)
+        (pairs_of dictionary)) };
 
-    ghost laws = { partial_equiv_from_equiv
-        (on_equiv pairs_of (same_pairs_equiv (same_by_equiv tree_of))) };
+    ghost index_gives = { λ dictionary key value.
+        lookup (bytes_eq key.now) (pairs_of dictionary) ≡ Some value };
 
-    fn eq(&self, other: &Dictionary) -> bool {
-        self.pairs == other.pairs
+    fn index(&self, key: &'q str) -> &Value {
+        self.get(key).unwrap()
     }
 }
 
-impl Eq for Dictionary {
-    ghost use Rattle.std.proofs.lemmas.Cmp.{on_equiv};
-    ghost use Rattle.plist_pairs.specs.inner.PairsSame.{same_pairs_equiv};
-    ghost use Rattle.plist_pairs.proofs.TreeEquality.{same_by_equiv};
-    ghost use Rattle.plist.specs.ValueTrees.{tree_of};
-
-    ghost laws = { on_equiv pairs_of (same_pairs_equiv (same_by_equiv tree_of)) };
+/// Returns a mutable reference to the value of a key, which must be there.
+impl<'q> IndexMut<&'q str> for Dictionary {
+    fn index_mut(&mut self, key: &'q str) -> &mut Value
+        requires { IsSome (lookup (bytes_eq key.now) (pairs_of self.old)) }
+        ensures value { lookup (bytes_eq key.now) (pairs_of self.old) ≡ Some result.now }
+        ensures* writes_back { sem 𝓛 (DictionaryLendsValue self.entry key.now result) }
+    {
+        self.get_mut(key).unwrap()
+    }
 }

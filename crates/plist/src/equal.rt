@@ -1,4 +1,4 @@
-//! Equality of values.
+//! Equality of values and dictionaries.
 //!
 //! Values are compared recursively down to a fixed number of levels. A pair of collections that is
 //! deeper is deferred, and compared after the others. So a comparison uses a fixed amount of the
@@ -7,7 +7,7 @@
 
 ghost use Rattle.std.specs.Prelude.{◌≡◌, ◌-◌};
 ghost use Rattle.plist_base.specs.Trees.{Dictionary};
-ghost use Rattle.plist.specs.inner.DeferredPairs.{Compares, ComparesItems, ComparesPairs, ComparesValues, PutsOff, TakesLast, same_values, waiting};
+ghost use Rattle.plist.specs.inner.DeferredPairs.{Compares, ComparesItems, ComparesPairs, ComparesValues, PutsOff, TakesLast, are_same, same_values, waiting};
 ghost use Rattle.plist.specs.Dictionaries.{pairs_of};
 ghost use Rattle.plist_pairs.specs.TreeEquality.{same};
 ghost use Rattle.plist.specs.ValueTrees.{tree_of};
@@ -38,12 +38,7 @@ impl PartialEq for Value {
         if !deferred.compare(self, other, LEVELS) {
             return false;
         }
-        while let Some(pair) = deferred.pop() {
-            if !deferred.compare_content(pair.value, pair.other, LEVELS) {
-                return false;
-            }
-        }
-        true
+        deferred.are_equal()
     }
 }
 
@@ -51,6 +46,40 @@ impl Eq for Value {
     ghost use Rattle.plist_pairs.proofs.TreeEquality.{same_by_equiv};
 
     ghost laws = { same_by_equiv tree_of };
+}
+
+/// Dictionaries are equal if they have the same keys, with equal values. The order of the pairs
+/// doesn't matter.
+impl PartialEq for Dictionary {
+    ghost use Rattle.std.specs.Cmp.{partial_equiv_from_equiv};
+    ghost use Rattle.std.proofs.lemmas.Cmp.{on_equiv};
+    ghost use Rattle.plist_pairs.proofs.PairsSame.{same_pairs_equiv};
+    ghost use Rattle.plist_pairs.proofs.TreeEquality.{same_by_equiv};
+    ghost use Rattle.plist.specs.inner.DeferredPairs.{same_values_at};
+
+    ghost eq = { λ a b. same_values_at (pairs_of a) (pairs_of b) };
+
+    ghost laws = { partial_equiv_from_equiv
+        (on_equiv pairs_of (same_pairs_equiv (same_by_equiv tree_of))) };
+
+    #[tactic(auto, using(crate::proofs::Equality::defer, crate::proofs::SameTrees::same_dictionaries))]
+    fn eq(&self, other: &Dictionary) -> bool {
+        // These are called only for their contracts, which say that the keys are distinct.
+        let _counts = (self.len(), other.len());
+        let mut deferred = DeferredPairs { pairs: None };
+        if !deferred.compare_pairs(self, other, LEVELS) {
+            return false;
+        }
+        deferred.are_equal()
+    }
+}
+
+impl Eq for Dictionary {
+    ghost use Rattle.std.proofs.lemmas.Cmp.{on_equiv};
+    ghost use Rattle.plist_pairs.proofs.PairsSame.{same_pairs_equiv};
+    ghost use Rattle.plist_pairs.proofs.TreeEquality.{same_by_equiv};
+
+    ghost laws = { on_equiv pairs_of (same_pairs_equiv (same_by_equiv tree_of)) };
 }
 
 // Two values that are still to be compared.
@@ -75,6 +104,19 @@ impl<'a> DeferredPairs<'a> {
             None => None,
             Some(pairs) => pairs.pop(),
         }
+    }
+
+    // Returns whether the two values of each deferred pair are equal.
+    #[tactic(auto, using(crate::proofs::Equality::defer))]
+    fn are_equal(&mut self) -> bool
+        ensures { result ≡ are_same (waiting self.old) }
+    {
+        while let Some(pair) = self.pop() {
+            if !self.compare_content(pair.value, pair.other, LEVELS) {
+                return false;
+            }
+        }
+        true
     }
 
     // Returns the list of the deferred pairs, and leaves none.

@@ -26,7 +26,6 @@ mod from;
 
 use crate::Dictionary;
 use crate::collect::{collect, collect_visited};
-use crate::copy::copy;
 use crate::stream::Events;
 use crate::stream::builder::AnyEvent;
 pub(crate) use crate::value::dropping::destroy_all;
@@ -443,7 +442,8 @@ impl Value {
         ensures copy { IfOk result (λ copy. tree_of copy ≡ tree_of self.now) }
         ensures memory { OnlyMemory result }
     {
-        Ok(copy(alloc, self)?)
+        // A copy is built from the value's events, so that no call recurses, however deep it is.
+        collect(alloc, self.events(alloc))
     }
 
     /// Makes a value from a string.

@@ -23,8 +23,6 @@ use plist::{Dictionary, Value, write_value};
 use plist_base::{Error, Source};
 use plist_binread::BinaryReader;
 use plist_binwrite::{FileWriter, Sharing};
-use plist_pairs::Pairs;
-use plist_pairs::dictionary::Discard;
 use std::alloc::Global;
 use std::mem;
 
@@ -32,31 +30,33 @@ use std::mem;
 ///
 /// # Errors
 ///
-/// `OutOfMemory`, without an offset, if an allocation fails. The pairs are as [`Pairs::extend`]
-/// leaves them after an error.
-pub fn insert_each<V: Discard>(to: &mut Pairs<V>, all: Vec<(String, V)>) -> Result<(), Error>
-    ensures { OnOk result (to.new ≡ insert_all bytes_eq to.old (map shown_owned_pair all.items)) }
+/// `OutOfMemory`, without an offset, if an allocation fails. The pairs are as
+/// [`Dictionary::extend`] leaves them after an error.
+pub fn insert_each(to: &mut Dictionary, all: Vec<(String, Value)>) -> Result<(), Error>
+    ensures { OnOk result (pairs_of to.new
+        ≡ insert_all bytes_eq (pairs_of to.old) (map shown_owned_pair all.items)) }
 {
     to.extend(all)
 }
 
-/// Makes a `Pairs` from the pairs of a list, inserted in their order.
+/// Makes a dictionary from a list, whose pairs are inserted in their order.
 ///
 /// # Errors
 ///
 /// `OutOfMemory`, without an offset, if an allocation fails. All pairs are dropped then.
-pub fn of_list<V: Discard>(alloc: Global, all: Vec<(String, V)>) -> Result<Pairs<V>, Error>
-    ensures { IfOk result (λ made. made ≡ insert_all bytes_eq [] (map shown_owned_pair all.items)) }
+pub fn of_list(alloc: Global, all: Vec<(String, Value)>) -> Result<Dictionary, Error>
+    ensures { IfOk result (λ made.
+        pairs_of made ≡ insert_all bytes_eq [] (map shown_owned_pair all.items)) }
 {
-    Pairs::from_pairs(alloc, all)
+    Dictionary::from_pairs(alloc, all)
 }
 
 /// Drops all pairs except the one with the given key.
-pub fn keep_only<V: Discard>(pairs: &mut Pairs<V>, name: &str)
-    ensures { pairs.new ≡ filter (λ pair. bytes_eq pair.0 name.now) pairs.old }
+pub fn keep_only(pairs: &mut Dictionary, name: &str)
+    ensures { pairs_of pairs.new ≡ filter (λ pair. bytes_eq pair.0 name.now) (pairs_of pairs.old) }
 {
     pairs.retain(
-        |key: &String, _value: &V| -> bool
+        |key: &String, _value: &Value| -> bool
             ensures { result ≡ bytes_eq (string_bytes key.now) name.entry.now }
         { key.as_str() == name },
     );
@@ -66,7 +66,7 @@ pub fn keep_only<V: Discard>(pairs: &mut Pairs<V>, name: &str)
 ///
 /// # Errors
 ///
-/// Any error of [`Value::from_events`].
+/// The errors are those of [`Value::from_events`].
 pub fn value_of_binary<R: Source>(alloc: Global, source: R) -> Result<Value, Error>
     ensures value { ReadsItems items_of_file (R.known source) result }
 {
@@ -100,8 +100,8 @@ pub fn file_by_events<S: Sharing>(alloc: Global, value: &Value) -> Result<Vec<u8
     Ok(writer.into_inner())
 }
 
-/// Returns `true` if two values are equal, that is, if their trees are the same up to the order of
-/// a dictionary's pairs. The laws say that `same`, which compares trees in this way, is an
+/// Returns whether two values are equal, that is, whether their trees are the same up to the order
+/// of a dictionary's pairs. The laws say that `same`, which compares trees in this way, is an
 /// equivalence. Two scalars are the same if and only if they are equal, and two dictionaries are
 /// the same if and only if they have the same values at all keys.
 #[tactic(auto, using(plist::proofs::SameTrees::sameness))]
@@ -118,7 +118,7 @@ pub fn are_equal(value: &Value, other: &Value) -> bool
     value == other
 }
 
-/// Returns `true` if two dictionaries are equal, that is, if they are equal as values.
+/// Returns whether two dictionaries are equal, that is, whether they are equal as values.
 #[tactic(auto, using(plist::proofs::SameTrees::same_dictionaries))]
 pub fn are_equal_dictionaries(pairs: &Dictionary, others: &Dictionary) -> bool
     ensures same { result ≡ same_members (pair_trees (pairs_of pairs.now))
@@ -138,7 +138,7 @@ pub struct Replaced {
 }
 
 /// Sets the value of a key through its entry if the key is there, and then removes the key. Returns
-/// the two values, or `None` if the key is missing.
+/// the two values, or `None` if the key isn't there.
 pub fn set_and_take(pairs: &mut Dictionary, key: String, value: Value) -> Option<Replaced>
     ensures was { option_map (λ r. r.was) result ≡ lookup (bytes_eq (string_bytes key))
         (pairs_of pairs.old) }
@@ -155,7 +155,7 @@ pub fn set_and_take(pairs: &mut Dictionary, key: String, value: Value) -> Option
 }
 
 /// Writes a value through the entry of a key if the key is there, and then removes the key. Returns
-/// the two values, or `None` if the key is missing.
+/// the two values, or `None` if the key isn't there.
 pub fn write_and_take(pairs: &mut Dictionary, key: String, value: Value) -> Option<Replaced>
     ensures was { option_map (λ r. r.was) result ≡ lookup (bytes_eq (string_bytes key))
         (pairs_of pairs.old) }

@@ -6,3 +6,4 @@ pub mod Inserts
 pub mod ColumnAppends
 pub mod PairValues
 pub mod TreeEquality
+pub mod PairsSame

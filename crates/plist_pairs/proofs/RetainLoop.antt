@@ -165,11 +165,6 @@ module _ {X : Type 0} (A : X → Bool → Type 0) where
             ∙ ap (items_where_true k.answers) (sym all),
       )
 
--- the key of the pair at an index is the key at that index
-pub key-of : {K V : Type 0} (ps : List (K × V)) (i : ℕ) (k l : K) (v : V)
-    → slice_get (keys_of ps) i ≡ Some k → slice_get ps i ≡ Some (l, v) → k ≡ l
-key-of ps i k l v a b = same_Some k l (sym a ∙ get-map (λ p. p.0) ps i (l, v) b)
-
 -- if the answers are those of a test, the items that pass it are kept
 pub where_true : {X : Type 0} (R : X → Bool → Type 0) (test : X → Bool)
     (says : (x : X) (answer : Bool) → R x answer → answer ≡ test x)

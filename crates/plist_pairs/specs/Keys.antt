@@ -1,5 +1,5 @@
 -- Pairs by their keys. Two keys are equal if their bytes are.
-use Rattle.std.specs.Prelude.{◌≡◌, ◌<◌, ℕ, List, None, Some, false, is_some, length, position, bytes_eq}
+use Rattle.std.specs.Prelude.{◌≡◌, ◌<◌, ℕ, List, None, Some, false, is_some, length, position, swap_remove, bytes_eq}
 use Rattle.std.specs.Map.{keys_of, lookup}
 use Rattle.indexmap.specs.IndexMap.{insert_entry, swap_remove_entry}
 
@@ -24,3 +24,7 @@ module _ {V : Type 0} (key : List ℕ) (pairs : List (List ℕ × V)) where
   -- this is the key's index
   abbrev pub IsIndexOf : ℕ → Type 0
   IsIndexOf index = (index < length pairs) × (Some index ≡ position (bytes_eq key) (keys_of pairs))
+
+-- the pair at the index is removed, and the last pair moves there
+abbrev pub IsRemovedAt : {X : Type 0} → List X → ℕ → List X → Type 0
+IsRemovedAt {X} old index new = (d : X) → new ≡ swap_remove old index d

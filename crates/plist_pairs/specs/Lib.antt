@@ -2,9 +2,5 @@ pub mod formers
 pub mod Keys
 pub mod Lends
 pub mod Shown
-pub mod EntryLends
 pub mod Bulk
-pub mod Equal
 pub mod TreeEquality
-pub mod Copies
-pub mod inner

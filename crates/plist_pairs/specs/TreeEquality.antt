@@ -2,6 +2,7 @@
 -- than once, its first value counts.
 use Rattle.std.specs.Prelude.{◌≡◌, ℕ, Bool, true, false, ◌&&◌, ◌||◌, if◌then◌else◌, Option, Some, None, is_some, List, [], ◌∷◌, ◌↔◌, bytes_eq}
 use Rattle.std.specs.List.{list_any}
+use Rattle.std.specs.HashMap.{entries_eq}
 use Rattle.plist_base.specs.Scalars.{scalar_eq}
 use Rattle.plist_base.specs.Trees.{Scalar, Tree, Leaf, Array, Dictionary, Trees, NoTrees, TreeAnd, Members, NoMembers, MemberAnd}
 
@@ -77,3 +78,7 @@ DecidesDictionaries = (left right : Members) → (same (Dictionary left) (Dictio
 -- dictionaries with these members are the same
 abbrev pub same_members : Members → Members → Bool
 same_members members others = same (Dictionary members) (Dictionary others)
+
+-- does each key of either list have a value in both lists, and does `E` find the two values equal?
+abbrev pub same_pairs : {V : Type 0} → (V → V → Bool) → List (List ℕ × V) → List (List ℕ × V) → Bool
+same_pairs E pairs others = entries_eq bytes_eq (λ p q. E p.1 q.1) pairs others

@@ -1,1 +1,2 @@
-pub mod dictionary
+pub mod pairs
+pub mod boxed

@@ -3,6 +3,10 @@
 //! The main contract is that every call of [`Pairs`] is an operation on the list of the pairs.
 #![tactic(auto)]
 
-pub mod dictionary;
+mod boxed;
+mod iter;
+mod pairs;
 
-pub use dictionary::Pairs;
+pub use boxed::BoxedPairs;
+pub use iter::{IntoIter, Iter, Keys, Values};
+pub use pairs::{Discard, Pairs};

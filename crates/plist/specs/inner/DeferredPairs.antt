@@ -6,8 +6,7 @@ use Rattle.std.specs.declared.alloc.Global.{Global}
 use Rattle.plist.specs.declared.equal.DeferredPairs.{DeferredPairs}
 use Rattle.plist.specs.declared.equal.Pair.{Pair}
 use Rattle.plist.specs.declared.value.Value.{Value}
-use Rattle.plist_pairs.specs.TreeEquality.{same, same_items, same_members}
-use Rattle.plist_pairs.specs.Equal.{same_pairs}
+use Rattle.plist_pairs.specs.TreeEquality.{same, same_items, same_members, same_pairs}
 use Rattle.plist.specs.ValueTrees.{item_trees, pair_trees, tree_of}
 use Rattle.plist.specs.inner.Weights.{weight, weights}
 

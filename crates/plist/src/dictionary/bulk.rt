@@ -1,17 +1,17 @@
 //! Calls that insert, keep, sort or copy many pairs.
 
-ghost use Rattle.std.specs.Prelude.{◌≡◌, IfOk, OnErr, OnOk, IsPermutation, IsSorted};
+ghost use Rattle.std.specs.Prelude.{◌≡◌, IfOk, OnErr, OnOk, IsPermutation, IsSorted, string_bytes};
 ghost use Rattle.std.specs.Cmp.Lexicographic.{slice_cmp};
 ghost use Rattle.std.specs.Ordering.{nat_cmp};
 ghost use Rattle.std.specs.Map.{keys_of};
 ghost use Rattle.plist_base.specs.Outcomes.{OnlyMemory};
 ghost use Rattle.plist_pairs.specs.Bulk.{ExtendsByIterable, IterableEnds, IsMadeOfIterable, Retains};
+ghost use Rattle.plist_pairs.specs.Keys.{IsAbsent, IsSetAt};
 ghost use Rattle.plist.specs.Dictionaries.{pairs_of};
 ghost use Rattle.plist.specs.ValueTrees.{tree_pairs};
 
 use crate::{Dictionary, Value};
-use plist_base::Error;
-use plist_pairs::Pairs;
+use plist_base::{Error, ErrorKind};
 use std::alloc::Global;
 
 impl Dictionary {
@@ -27,7 +27,32 @@ impl Dictionary {
         requires { F.IsAlwaysCallable keep }
         ensures kept { Retains F.Fn keep (pairs_of self.old) (pairs_of self.new) }
     {
-        self.pairs.retain(keep);
+        match self.pairs.as_mut() {
+            None => {}
+            Some(pairs) => pairs.retain(keep),
+        }
+    }
+
+    // Sets the key's value, and drops the value that it had. If an allocation fails, the pairs are
+    // unchanged, and the key and the value are dropped.
+    pub(crate) fn set(&mut self, key: String, value: Value) -> Result<(), Error>
+        ensures pairs { OnOk result (IsSetAt (pairs_of self.old) (string_bytes key) value
+            (pairs_of self.new)) }
+        ensures absent { OnErr result (IsAbsent (string_bytes key) (pairs_of self.old)) }
+        ensures memory { OnlyMemory result }
+        ensures unchanged { OnErr result (pairs_of self.new ≡ pairs_of self.old) }
+    {
+        match self.insert(key, value) {
+            Ok(None) => Ok(()),
+            Ok(Some(old)) => {
+                old.destroy();
+                Ok(())
+            }
+            Err((_key, refused)) => {
+                refused.destroy();
+                Err(ErrorKind::OutOfMemory.without_position())
+            }
+        }
     }
 
     /// Inserts the pairs, in their order. Values that are replaced are dropped without recursion.
@@ -51,7 +76,11 @@ impl Dictionary {
             (pairs_of self.old) result (pairs_of self.new) }
         ensures memory { OnlyMemory result }
     {
-        self.pairs.extend(more)
+        let mut rest = more.into_iter();
+        while let Some((key, value)) = rest.next() {
+            self.set(key, value)?;
+        }
+        Ok(())
     }
 
     /// Makes a dictionary from the given pairs, inserted in their order. The caller has to prove
@@ -76,10 +105,9 @@ impl Dictionary {
             IsMadeOfIterable I.into_iter_gives I.IntoIter.next_gives pairs (pairs_of made)) }
         ensures memory { OnlyMemory result }
     {
-        match Pairs::from_pairs(alloc, pairs) {
-            Ok(pairs) => Ok(Dictionary { pairs }),
-            Err(error) => Err(error),
-        }
+        let mut made = Dictionary::new(alloc);
+        made.extend(pairs)?;
+        Ok(made)
     }
 
     /// Sorts the pairs by the bytes of their keys.
@@ -94,7 +122,11 @@ impl Dictionary {
         ensures memory { OnlyMemory result }
         ensures unchanged { OnErr result (self.new ≡ self.old) }
     {
-        self.pairs.sort_keys()
+        let alloc = self.allocator();
+        match self.pairs.as_mut() {
+            None => Ok(()),
+            Some(pairs) => Ok(pairs.sort_keys(alloc)?),
+        }
     }
 
     /// Copies the pairs, in the same order and with the same allocator.
@@ -107,9 +139,14 @@ impl Dictionary {
             tree_pairs (pairs_of copy) ≡ tree_pairs (pairs_of self.now)) }
         ensures memory { OnlyMemory result }
     {
-        match self.pairs.clone() {
-            Ok(pairs) => Ok(Dictionary { pairs }),
-            Err(error) => Err(error),
+        let alloc = self.allocator();
+        let mut copies = Dictionary::new(alloc);
+        for i in 0..self.len() {
+            let (key, value) = self.pair_at(i);
+            let name = String::from_str(alloc, key)?;
+            let copy = value.clone(alloc)?;
+            copies.set(name, copy)?;
         }
+        Ok(copies)
     }
 }

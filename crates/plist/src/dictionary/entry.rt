@@ -156,7 +156,7 @@ impl<'a> VacantEntry<'a> {
     {
         let VacantEntry { pairs, key } = self;
         let at = pairs.len();
-        pairs.push(key, value)?;
+        pairs.insert(key, value)?;
         Ok(pairs.value_at(at))
     }
 }

@@ -7,13 +7,12 @@ ghost use Rattle.std.specs.Map.Iter.{TakesFirst};
 ghost use Rattle.plist_pairs.specs.Shown.{shown_owned_pair};
 
 use crate::{Dictionary, Value};
-use plist_pairs::dictionary;
 use std::marker::Model;
 
 /// An iterator over the pairs by value, in their order. The remaining values are dropped without
 /// recursion.
 pub struct IntoIter {
-    pairs: dictionary::IntoIter<Value>,
+    pairs: plist_pairs::IntoIter<Value>,
 }
 
 impl Model for IntoIter {
@@ -85,8 +84,9 @@ impl IntoIterator for Dictionary {
         × IsDistinct bytes_eq (keys_of (pairs_of dictionary)) };
 
     fn into_iter(self) -> IntoIter {
+        let Dictionary { pairs } = self;
         IntoIter {
-            pairs: self.into_pairs().into_iter(),
+            pairs: pairs.into_inner().into_pairs(),
         }
     }
 }

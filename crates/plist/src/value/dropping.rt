@@ -7,7 +7,6 @@ ghost use Rattle.std.specs.Vec.{vec_capacity};
 ghost use Rattle.plist.specs.inner.Weights.{IsLess, SplitsInto};
 
 use crate::Value;
-use crate::dictionary::Discard;
 use std::mem;
 
 impl Value {
@@ -50,7 +49,7 @@ impl Value {
     }
 }
 
-impl Discard for Value {
+impl plist_pairs::Discard for Value {
     fn discard(self) {
         self.destroy();
     }

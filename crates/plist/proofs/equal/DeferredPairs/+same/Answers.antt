@@ -6,7 +6,7 @@ use Rattle.std_collections.proofs.HashMapEq.{unequal_len}
 use Rattle.plist_base.specs.Trees.{Dictionary}
 use Rattle.plist.specs.declared.dictionary.Dictionary.{size_is-Dictionary}
 use Rattle.plist.specs.declared.value.Value.{size-Value}
-use Rattle.plist_pairs.specs.inner.PairsSame.{as_map}
+use Rattle.plist_pairs.proofs.PairsSame.{as_map}
 use Rattle.plist.specs.inner.DeferredPairs.{are_covered, are_same, same_values, waiting}
 use Rattle.plist_pairs.specs.TreeEquality.{same, same_items}
 use Rattle.plist.specs.Dictionaries.{pairs_of}

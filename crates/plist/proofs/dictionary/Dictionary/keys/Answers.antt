@@ -1,0 +1,5 @@
+use Rattle.std_collections.proofs.IterRuns.{shows_in_order}
+use Rattle.plist.proofs.dictionary.Dictionary.keys.Goals as goal
+
+pub returns-clause-runs : goal.returns-clause-runs
+returns-clause-runs c = shows_in_order _

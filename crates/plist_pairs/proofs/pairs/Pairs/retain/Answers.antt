@@ -1,0 +1,36 @@
+use Rattle.std.proofs.Common.{◌≡◌, List, ℕ, string_bytes, refl, subst, ◌∙◌, arith}
+use Rattle.plist_pairs.specs.Bulk.{AnswersAtPair}
+use Rattle.plist_pairs.proofs.RetainLoop.{kept-none, kept-all, step-one, step-other}
+use Rattle.plist_pairs.proofs.pairs.Pairs.retain.Goals.{then-keep, else-keep}
+use Rattle.plist_pairs.proofs.pairs.Pairs.retain.Goals as goal
+
+pub loop-i-init : goal.loop-i-init
+loop-i-init g c = kept-none _ _
+
+pub loop-i-preserved : goal.loop-i-preserved
+loop-i-preserved g c =
+    let A = AnswersAtPair g.F.Fn c.args.keep in
+    let l = c.loop-i in
+    let x : List ℕ × _ = (string_bytes c.pair_at.result.0.now, c.pair_at.result.1.now) in
+    let answered : A x c.keep.result = record {
+      key = c.pair_at.result.0;
+      value = c.pair_at.result.1;
+      shows = (refl, refl);
+      says = c.keep.ensures;
+    } in
+    elim c.if-keep.branch [
+      | then-keep w ↦ step-one A c.args.self.now l.self c.if-keep.self l.i l.kept c.if-keep.kept x
+          l.invariant c.pair_at.ensures (subst (A x) w.if-keep.true answered)
+          (w.self-is ∙ w.swap.ensures) w.kept-is
+      | else-keep w ↦ step-other A c.args.self.now l.self c.if-keep.self l.i l.kept c.if-keep.kept x
+          l.invariant c.pair_at.ensures (subst (A x) w.if-keep.false answered) w.self-is w.kept-is
+    ]
+
+pub returns : goal.returns
+returns g c =
+    let l = c.loop-i in
+    record {
+      kept = kept-all (AnswersAtPair g.F.Fn c.args.keep) c.args.self.now l.self c.truncate.new.self
+          l.i l.kept l.invariant (omega arith)
+          c.truncate.ensures;
+    }

@@ -1,4 +1,0 @@
--- Definitions that are used by bodies and proofs, but by no public clause.
-pub mod PairsSame
-pub mod Capacities
-pub mod StoreLends
