@@ -41,7 +41,7 @@ long_decoded kind low count first rest following more is fits short lies large w
     let there : drop (1 + k) (first ∷ (rest ++ more)) ≡ following ++ more =
     rw next (drop-append-le k rest more (omega arith) ∙ ap (λ xs. xs ++ more) lies) in
     let means : counted_with kind low (rest ++ more)
-        ≡ content_means kind (take (count * unit_size kind) (following ++ more)) =
+    ≡ content_means kind (take (count * unit_size kind) (following ++ more)) =
     rw (is, le-leb (count * unit_size kind) (length (following ++ more)) fits) refl in (
       omega (arith, length-append rest more, length-append following more, fits, short),
       means ∙ ap (λ xs. content_means kind (take (count * unit_size kind) xs)) (sym there),

@@ -12,7 +12,7 @@ use Rattle.plist_base.specs.declared.limits.Limit.{Limit}
 use Rattle.plist_base.specs.declared.limits.Limits.{Limits}
 use Rattle.plist_base.specs.declared.limits.LimitCounter.{LimitCounter}
 use Rattle.plist_base.specs.Allowances.{PassesNext as PassesAllowed, iterator_of}
-use Rattle.plist_base.specs.Limits.{GivesLimited, IsLimitReached, items_admitted, limited_items, limited_by}
+use Rattle.plist_base.specs.Limits.{GivesLimited, IfLimitReached, IsLimitReached, KeepsLimits, items_admitted, limited_items, limited_by}
 use Rattle.plist_base.specs.Faults.{FaultKind, Fault, Io, OutOfMemory, LimitReached, MatchFault, XmlUnsupported, kind_of, error_kind_of, fault_of, offset_of}
 use Rattle.plist_base.specs.Sequential.{from_place, sequential_place}
 use Rattle.plist_base.specs.Sources.{CountsIo}
@@ -20,6 +20,7 @@ use Rattle.plist_base.specs.FirstItems.{MatchItem, StopsIf}
 use Rattle.plist_base.proofs.FirstItems.{first_allowed_if_known, first_weaker_if_known, none_allowed}
 use Rattle.plist_base.proofs.Refusals.{MatchFault-weaker}
 use Rattle.plist_binread.proofs.LimitedSteps.{limits_remain}
+use Rattle.plist_binread.proofs.ReaderLimits.{is_limit}
 use Rattle.plist_decode.specs.FaultOffsets.{HasOffset, MatchGiven}
 use Rattle.plist_binread.specs.Remaining.{SomeRemain}
 use Rattle.plist_ascii.specs.Ascii.{items_of_ascii, BeginsWithText, IsAsciiEvent, IsFaultOfBytes}
@@ -150,6 +151,37 @@ module _ (now : Bool) (old new : LimitCounter) where
   passes-ends (Some (Err fault)) None p = absurd p
   passes-ends (Some (Err fault)) (Some given) p = rw p.0 (inr p.1)
 
+-- without limits, each event is admitted, and no fault is that of a limit
+no-limit : (fault : Fault) (P : Type 0) → IsReaderFault false fault → IfLimitReached fault.kind P
+no-limit fault P h = by fault.kind h
+  where
+    by : (kind : FaultKind) → IsReaderFault false (record { kind = kind; offset = fault.offset })
+        → IfLimitReached kind P
+    by (LimitReached limit) (inl (inl xml, place)) = absurd (cc)
+    by (LimitReached limit) (inl (inr bytes, place)) = absurd bytes
+    by (LimitReached limit) (inr given) = absurd (cc given.0)
+    by kind h = tt
+
+all-admitted : (item : Given) → IsReaderItem false item
+    → KeepsLimits event_of (λ items. items) item (λ items. items)
+all-admitted None h = tt
+all-admitted (Some (Ok event)) h = λ items. refl
+all-admitted (Some (Err error)) h = no-limit (fault_of error) _ h
+
+-- the limits admit an event that is passed on, and a limit's fault replaces one that they don't
+passes-admitted : (was now : Bool) (old new : LimitCounter) (asked item : Given) → was ≡ false
+    → IsReaderItem false asked → PassesNext old asked item new now
+    → KeepsLimits event_of (come was old) item (come now new)
+passes-admitted was now old new None item going h p = rw p.0 tt
+passes-admitted was now old new (Some (Ok asked)) None going h p = absurd p
+passes-admitted was now old new (Some (Ok asked)) (Some (Ok passed)) going h p =
+    λ items. rw (going, p.2, p.0) (p.1 items)
+passes-admitted was now old new (Some (Ok asked)) (Some (Err error)) going h p =
+    rw going (is_limit (fault_of error) _ p.0.0 (event_of asked, p.0))
+passes-admitted was now old new (Some (Err fault)) None going h p = absurd p
+passes-admitted was now old new (Some (Err fault)) (Some given) going h p =
+    rw p.0 (no-limit (fault_of fault) _ h)
+
 -- a reader of ASCII that has yielded nothing has all items of its source left
 fresh-text : {R : Type 0} (known : R → Option (List ℕ)) (dialect : Dialect) (source : R) (sequence : BufferedSource R) (reader : AsciiReaderOf R)
     → buffered_source sequence ≡ source → sequential_place sequence.inner ≡ 0
@@ -187,6 +219,7 @@ module _ {R : Type 0} {g : Ghosts R} (known : R → Option (List ℕ)) (failed :
         (λ before after p. (text-remain before p.0, p.1))
         (ascii.ascii_items_to_come (stream_bytes_left known) old)
         (ascii.ascii_items_to_come (stream_bytes_left known) new) item h.items;
+    admitted = all-admitted item (ascii-faults false (ascii.place_of new) item h.kinds h.offset);
     failures = counted-failures (failed (buffered_source (ascii.device_of old)))
         (failed (buffered_source (ascii.device_of new))) item h.failures;
     ended = h.ended;
@@ -202,6 +235,7 @@ module _ {R : Type 0} {g : Ghosts R} (known : R → Option (List ℕ)) (failed :
   over-gives old over = record {
     items = none_allowed event_of (StopsIf (λ _. ⊤)) (StopsIf SomeRemain) (items_admitted old) (ascii.ascii_items_to_come (stream_bytes_left known) (iterator_of old))
         (λ items. rw over refl);
+    admitted = tt;
     failures = refl;
     ended = λ _. refl;
     ends = over;
@@ -231,6 +265,8 @@ module _ {R : Type 0} {g : Ghosts R} (known : R → Option (List ℕ)) (failed :
                 (ascii.ascii_items_to_come (stream_bytes_left known) old.inner)
                 (ascii.ascii_items_to_come (stream_bytes_left known) new.inner) asked
                 item going inner.items passes;
+            admitted = passes-admitted old.ended new.ended old.limiter new.limiter asked item going
+                (ascii-faults false (ascii.place_of new.inner) asked gave.kinds gave.offset) passes;
             failures = passes-count new.ended old.limiter new.limiter asked item
                 (failed (buffered_source (ascii.device_of old.inner)))
                 (failed (buffered_source (ascii.device_of new.inner))) inner.failures passes;
@@ -255,7 +291,7 @@ module _ {R : Type 0} {g : Ghosts R} (known : R → Option (List ℕ)) (failed :
   begun-ascii source dialect sequence old new item from inside at none is bytes place chosen h =
       let kept : buffered_source (ascii.device_of old) ≡ source = ap buffered_source inside ∙ from in
       chosen-gives {g = g} known failed source None dialect (state.Ascii old) (state.Ascii new) item
-      (fresh-text known dialect source sequence old from at none is bytes place chosen) refl
+      (fresh-text known dialect source sequence old from at none is bytes place chosen) refl refl
       (subst (λ n. CountsIo item n (failed (buffered_source (ascii.device_of new))))
       (ap (λ (s : BufferedSource R). failed (buffered_source s)) inside ∙ ap failed from)
       (counted-failures _ _ item h.failures))
@@ -282,7 +318,7 @@ module _ {R : Type 0} {g : Ghosts R} (known : R → Option (List ℕ)) (failed :
       ((λ i. option_map (come i) (ascii.ascii_items_to_come (stream_bytes_left known) (is-fresh i)))
       ∙ ap (option_map (limited_items limits))
       (fresh-text known dialect source sequence fresh from at none is bytes place chosen)
-      ∙ joined limits dialect (known source)) refl
+      ∙ joined limits dialect (known source)) refl come
       (subst (λ n. CountsIo item n (failed (buffered_source (ascii.device_of (iterator_of new)))))
       (ap (λ (r : AsciiReaderOf R). failed (buffered_source (ascii.device_of r))) is-fresh
       ∙ ap (λ (s : BufferedSource R). failed (buffered_source s)) inside ∙ ap failed from) gives.failures)

@@ -86,6 +86,7 @@ module _ {R : Type 0} {g : Ghosts R} where
         (StopsIf (λ _. ⊤)) (StopsIf SomeRemain) (λ before after p. (tt, p.1))
         (λ before after p. (either-remain (binary.is_new old) before p.0, p.1))
         (binary.items_to_come bytes old) (binary.items_to_come bytes new) item gives));
+    admitted = h.admitted;
     failures = h.failures;
     ended = h.ended;
     ends = over-ends (binary.HasEndedBinary new) item h.ends;
@@ -106,14 +107,15 @@ module _ {R : Type 0} {g : Ghosts R} where
       → binary.has_limits old ≡ is_some limits
       → IfSome (g.known source) (λ bytes. format.Binary ≡ format_of bytes)
       → IfSome (g.known source) (λ bytes. binary.items_to_come bytes old ≡ items_within limits (items_of_file bytes))
+      → binary.admitted_by old ≡ items_within limits
       → binary.GivesBinary old item new
       → StateGives g.known g.failures (state.Unread source limits dialect) item (state.Binary new)
-  begun-binary source limits dialect old new item at fresh limited is begins h =
+  begun-binary source limits dialect old new item at fresh limited is begins admits h =
       chosen-gives {g = g} g.known g.failures source limits dialect (state.Binary old) (state.Binary new) item
       (same-items (g.known source) (g.known (binary.binary_source old))
       (λ bytes. binary.items_to_come bytes old)
       (input_within dialect limits) (ap g.known at) (binary-items limits dialect (g.known source) old is begins))
-      limited
+      limited admits
       (subst (λ n. CountsIo item n (g.failures (binary.binary_source new)))
       (ap g.failures at) h.failures)
       (old, (ap g.known at, ap g.failures at), fresh, limited, h) (binary-gives old new item h)

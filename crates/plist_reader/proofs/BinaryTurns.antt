@@ -48,6 +48,7 @@ module _ {R : Type 0} {g : Ghosts R} where
   gives_event from to handed step = let gives = step.gives in record {
     unchanged = gives.unchanged;
     items = gives.items;
+    admitted = gives.admitted;
     failures = gives.failures;
     ended = λ over. absurd (none-some _ (sym (gives.ended over)));
     unasked = gives.unasked;
@@ -66,6 +67,7 @@ module _ {R : Type 0} {g : Ghosts R} where
   gives_error from to error step = let gives = step.gives in record {
     unchanged = gives.unchanged;
     items = gives.items;
+    admitted = gives.admitted;
     failures = gives.failures;
     ended = λ over. absurd (none-some _ (sym (gives.ended over)));
     unasked = gives.unasked;
@@ -83,6 +85,7 @@ module _ {R : Type 0} {g : Ghosts R} where
   gives_none from to step = let gives = step.gives in record {
     unchanged = gives.unchanged;
     items = gives.items;
+    admitted = gives.admitted;
     failures = gives.failures;
     ended = λ over. refl;
     unasked = gives.unasked;

@@ -8,8 +8,8 @@ use Rattle.plist_base.specs.declared.source.Source.{Ghosts}
 use Rattle.plist_base.specs.Events.{Item, event_of}
 use Rattle.plist_base.specs.FirstItems.{GivesFirst, GivesFirstIfKnown, StopsIf}
 use Rattle.plist_base.specs.declared.limits.Limits.{Limits}
-use Rattle.plist_base.specs.Limits.{items_within, limited_items}
-use Rattle.plist_base.specs.Faults.{FaultKind, Fault, Io, MatchFault, XmlUnsupported, IsIo, fault_at, kind_of, error_kind_of, fault_of}
+use Rattle.plist_base.specs.Limits.{IfLimitReached, KeepsLimits, items_within, limited_items}
+use Rattle.plist_base.specs.Faults.{FaultKind, Fault, Io, LimitReached, MatchFault, XmlUnsupported, IsIo, fault_at, kind_of, error_kind_of, fault_of}
 use Rattle.plist_base.specs.Outcomes.{IfFault}
 use Rattle.plist_base.specs.Sources.{CountsIo}
 use Rattle.plist_base.proofs.Refusals.{MatchFault-weaker}
@@ -19,7 +19,7 @@ use Rattle.plist_ascii.specs.declared.dialect.Dialect.{Dialect}
 use Rattle.plist_binread.specs.Remaining.{SomeRemain}
 use Rattle.plist_reader.specs.declared.reader.State.{State}
 use Rattle.plist_reader.specs.declared.reader.State.TheVariants as state
-use Rattle.plist_reader.specs.Reader.{BeginsInside, state_items, is_limited_in, items_in_format, items_of_dialect, IsReaderFault, StateGives, source_in}
+use Rattle.plist_reader.specs.Reader.{BeginsInside, admitted_in, state_items, is_limited_in, items_in_format, items_of_dialect, IsReaderFault, StateGives, source_in}
 use Rattle.plist_decode.specs.declared.format.Format.TheVariants as format
 use Rattle.plist_decode.specs.Formats.{format_of}
 
@@ -60,6 +60,12 @@ HoldsSource failed old item new =
 -- why no reader was chosen: the source is XML, or a read failed
 abbrev pub IsRefusedKind : FaultKind → Type 0
 IsRefusedKind kind = (kind ≡ XmlUnsupported) ⊎ IsIo kind
+
+-- the limits aren't why no reader was chosen
+refused-limit : (kind : FaultKind) (P : Type 0) → IsRefusedKind kind → IfLimitReached kind P
+refused-limit (LimitReached limit) P (inl xml) = absurd (cc)
+refused-limit (LimitReached limit) P (inr io) = absurd io
+refused-limit kind P refused = tt
 
 -- two functions that agree on known bytes yield the same items that remain before the first call
 pub same-items : (k l : Option (List ℕ)) (f g : List ℕ → List Item) → l ≡ k
@@ -121,12 +127,13 @@ module _ {R : Type 0} {g : Ghosts R} (known : R → Option (List ℕ)) (failed :
   -- what is yielded in a state with the same items and source is yielded before the choice, too
   pub chosen-gives : (source : R) (limits : Option Limits) (dialect : Dialect) (old new : State R g) (item : Given)
       → state_items known old ≡ option_map (input_within dialect limits) (known source)
-      → is_limited_in old ≡ is_some limits
+      → is_limited_in old ≡ is_some limits → admitted_in old ≡ items_within limits
       → HoldsSource failed (Some source) item (source_in new)
       → BeginsInside known failed (source, limits, dialect) item new → StateGives known failed old item new
       → StateGives known failed (state.Unread source limits dialect) item new
-  chosen-gives source limits dialect old new item same limited count inside h = record {
+  chosen-gives source limits dialect old new item same limited admits count inside h = record {
     items = subst (λ o. FirstIfKnown o item (state_items known new)) same h.items;
+    admitted = subst (λ lets. KeepsLimits event_of lets item (admitted_in new)) admits h.admitted;
     failures = count;
     ended = λ e. absurd e;
     ends = h.ends;
@@ -156,7 +163,7 @@ module _ {R : Type 0} {g : Ghosts R} (known : R → Option (List ℕ)) (failed :
       → StateGives known failed (state.Unread source limits dialect) item new
   other-source source other limits dialect new item e f h =
       chosen-gives source limits dialect (state.Unread other limits dialect) new item
-      (ap (option_map (input_within dialect limits)) e) refl (is-kept (source_in new) h.failures)
+      (ap (option_map (input_within dialect limits)) e) refl refl (is-kept (source_in new) h.failures)
       (begun-other source other limits dialect new item e f h.inside) h
     where
       is-kept : (kept : Option R) → HoldsSource failed (Some other) item kept
@@ -174,6 +181,7 @@ module _ {R : Type 0} {g : Ghosts R} (known : R → Option (List ℕ)) (failed :
       (state.Refused other)
   refused-gives source other limits dialect error items kind count fault = record {
     items = empty (known source) items;
+    admitted = refused-limit (kind_of (error_kind_of error)) _ kind;
     failures = count;
     ended = λ e. absurd e;
     ends = inr tt;

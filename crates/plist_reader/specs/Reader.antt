@@ -8,7 +8,7 @@ use Rattle.plist_base.specs.declared.limited_items.LimitedItems.{LimitedItems}
 use Rattle.plist_base.specs.declared.limits.Limits.{Limits}
 use Rattle.plist_base.specs.declared.limits.LimitCounter.{LimitCounter}
 use Rattle.plist_base.specs.Allowances.{HasEndedLimited, iterator_of}
-use Rattle.plist_base.specs.Limits.{GivesLimited, items_admitted, items_within}
+use Rattle.plist_base.specs.Limits.{GivesLimited, KeepsLimits, items_admitted, items_within}
 use Rattle.plist_base.specs.Faults.{Fault, IsIo, XmlUnsupported, fault_of, fault_at}
 use Rattle.plist_base.specs.Events.{Item, event_of}
 use Rattle.plist_base.specs.FirstItems.{GivesFirstIfKnown, StopsIf}
@@ -123,6 +123,13 @@ is_limited_in (state.Binary reader) = binary.has_limits reader
 is_limited_in (state.Limited reader) = true
 is_limited_in other = false
 
+-- the items of a list that the limits in a state admit, or all of them without limits
+abbrev pub admitted_in : {R : Type 0} {g : Ghosts R} → State R g → List Item → List Item
+admitted_in (state.Unread source limits dialect) = items_within limits
+admitted_in (state.Binary reader) = binary.admitted_by reader
+admitted_in (state.Limited reader) = items_admitted reader
+admitted_in other = λ items. items
+
 -- the number of objects in the binary file, or 0 if this number hasn't been read or the state is
 -- that of another format
 abbrev pub objects_in_state : {R : Type 0} {g : Ghosts R} → State R g → ℕ
@@ -205,6 +212,8 @@ module _ {R : Type 0} {g : Ghosts R} (known : R → Option (List ℕ)) (failed :
     -- and `OutOfMemory`, and `OutOfMemory` is yielded only if an item remained
     pub items : GivesFirstIfKnown event_of (StopsIf (λ _. ⊤)) (StopsIf SomeRemain)
         (state_items known old) item (state_items known new)
+    -- an event is one that the limits admit, and `LimitReached` replaces one that they don't admit
+    pub admitted : KeepsLimits event_of (admitted_in old) item (admitted_in new)
     -- the source is kept, and its count of failures rises if the item is `Io`, and else is unchanged
     pub failures : IfSome (source_in old) (λ source. IsSomeAnd (source_in new)
         (λ kept. CountsIo item (failed source) (failed kept)))

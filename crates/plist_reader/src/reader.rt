@@ -3,7 +3,7 @@
 ghost use Rattle.std.specs.Prelude.{◌≡◌, ◌<◌, IfSome, Some, true};
 ghost use Rattle.std.specs.Option.{is_some};
 ghost use Rattle.plist_base.specs.Limits.{items_within};
-ghost use Rattle.plist_binread.specs.BinaryReader.{WillGive, has_limits as is_limited_file, is_new, binary_source as source_of_file};
+ghost use Rattle.plist_binread.specs.BinaryReader.{WillGive, admitted_by, has_limits as is_limited_file, is_new, binary_source as source_of_file};
 ghost use Rattle.plist_base.specs.Unfolding.{items_of_file};
 ghost use Rattle.plist_decode.specs.Formats.{format_of};
 ghost use Rattle.plist_reader.specs.Reader.{StateGives, all_steps, steps_in_state};
@@ -39,6 +39,7 @@ pub(crate) enum State<R: Source> {
 fn binary_reader<R: Source>(alloc: Global, source: R, limits: Option<Limits>) -> BinaryReader<R>
     ensures items { WillGive (R.known source)
         (λ bytes. items_within limits (items_of_file bytes)) result }
+    ensures limits { admitted_by result ≡ items_within limits }
     ensures source { source_of_file result ≡ source }
     ensures new { is_new result ≡ true }
     ensures limited { is_limited_file result ≡ is_some limits }

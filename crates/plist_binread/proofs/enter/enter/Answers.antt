@@ -32,7 +32,7 @@ returns-in-Small-clause-handed g c =
     let found = rw c.in-Small.is at c.in_ok-kind.ensures.found in
     let event = ScalarEvent (unpacked c.in-Small.kind c.in-Small.content) in
     let caches : is_small_event event ≡ true
-        → 0 < unmarked (get_or c.args.walk.now.tags.items c.args.reference.number 0) = λ _. found.0 in
+    → 0 < unmarked (get_or c.args.walk.now.tags.items c.args.reference.number 0) = λ _. found.0 in
     record {
       event = event;
       is = (
