@@ -1,2 +1,3 @@
 pub mod SmallInputs
 pub mod Failures
+pub mod LimitedReaders

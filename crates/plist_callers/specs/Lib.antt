@@ -1,3 +1,4 @@
 pub mod Objects
 pub mod ReadBackFaults
 pub mod SmallInputs
+pub mod LimitedItems
