@@ -1,5 +1,5 @@
--- A value that is found among pairs is one of their values. Pairs that have an index are present.
-use Rattle.std.proofs.Common.{◌≡◌, refl, ◌∷◌, ℕ, zero, suc, arith, Bool, List, [], Option, Some, None, IfSome, IsSome, MatchOption, ◌<◌, ap, length, Bor, MutBor, slice_get, sym}
+-- A value that is found among pairs is one of their values.
+use Rattle.std.proofs.Common.{◌≡◌, ◌∷◌, ℕ, zero, suc, arith, Bool, List, [], Option, Some, None, IfSome, Bor, MutBor, slice_get, sym}
 use Rattle.std.proofs.lemmas.Option.{none-some, same_Some}
 use Rattle.std.specs.List.{IsAmong}
 use Rattle.std.specs.Map.{lookup, values_of}
@@ -27,9 +27,3 @@ read_among [] i x e = absurd (none-some x e)
 read_among (y ∷ xs) zero x e = (0, (omega arith, same_Some x y (sym e)))
 read_among (y ∷ xs) (suc i) x e =
     let below = read_among xs i x e in let lt = below.1.0 in (suc below.0, (omega arith, below.1.1))
-
--- if there is an index, there is a reference to the pairs
-pub present : {A X : Type 0} (found : Option A) (pairs : List X) (P : A → Type 0) (i : ℕ)
-    → MatchOption found (pairs ≡ []) P → i < length pairs → IsSome found
-present None pairs P i none within = absurd (omega (arith, ap length none, within))
-present (Some one) pairs P i some within = refl
