@@ -23,9 +23,10 @@ const MAX_WINDOWS: usize = 8192;
 // The number of first fills that cancel one refill. A refill fills a window again.
 const REFILL_WEIGHT: u64 = 8;
 
-// The number of windows in the first 512 MiB of a file. Whether a window was ever filled is stored
-// only for these.
-const TRACKED_WINDOWS: usize = 65_536;
+// The number of bits that tell whether a window was ever filled. In a file of more than 512 MiB,
+// windows share a bit if their numbers are equal modulo this one, so some first fills count as
+// refills.
+const FILL_BITS: usize = 65_536;
 
 // Short windows, which need no allocation.
 #[derive(Drop)]
@@ -45,11 +46,10 @@ struct ShortWindows {
 struct LongWindows {
     headers: Vec<Header>,
     bytes: Vec<u8>,
-    // Has a bit for each tracked window of the file, which is set once the window was filled.
+    // Has `FILL_BITS` bits. That of a window is set once the window was filled.
     ever_filled: Vec<u64>,
     // The number of refills since the last doubling times `REFILL_WEIGHT`, minus the number of
-    // first fills. Each fill of a window that isn't tracked counts as a first fill. A first fill
-    // changes nothing if this is 0.
+    // first fills. A first fill changes nothing if this is 0.
     refills: u64,
     ghost room: { length headers.items * 8256 ≤ length bytes.items },
 }
@@ -82,20 +82,21 @@ impl LongWindows {
         if !self.headers.is_empty() {
             return true;
         }
-        let _ = self.ever_filled.resize(TRACKED_WINDOWS / 64, 0);
+        let _ = self.ever_filled.resize(FILL_BITS / 64, 0);
         self.extend_to(INITIAL_WINDOWS)
     }
 
-    // Stores that window `number` of the file is filled, and returns whether it was filled before.
-    // Returns `false` for a window that isn't tracked.
+    // Stores that window `number` of the file is filled, and returns whether it, or a window with
+    // the same bit, was filled before. Returns `false` if the bits couldn't be allocated.
     fn mark_filled(&mut self, number: u64) -> bool
         ensures { KeepsWindows self.old self.new }
     {
-        let (word, bit) = ((number / 64) as usize, 1 << (number % 64));
-        match self.ever_filled.get_mut(word) {
+        let bit = number % FILL_BITS as u64;
+        let mask = 1 << (bit % 64);
+        match self.ever_filled.get_mut((bit / 64) as usize) {
             Some(ever_filled) => {
-                let before = *ever_filled & bit != 0;
-                *ever_filled |= bit;
+                let before = *ever_filled & mask != 0;
+                *ever_filled |= mask;
                 before
             }
             None => false,
