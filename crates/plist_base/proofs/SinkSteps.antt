@@ -1,15 +1,12 @@
 -- Putting bytes into a sink, one part after the other.
-use Rattle.std.proofs.Common.{◌≡◌, ℕ, ◌+◌, List, [], ◌++◌, length, arith, length-append, subst, Option, Result, Ok, Err, refl, sym, ap, ◌∙◌, append_assoc, append-nil}
-use Rattle.std.specs.Result.{IsErrAnd, OnOk}
+use Rattle.std.proofs.Common.{◌≡◌, ℕ, ◌+◌, List, [], ◌++◌, length, arith, length-append, subst, Option, None, Some, true, false, inl, inr, refl, sym, ap, ◌∙◌, append_assoc, append-nil}
+use Rattle.std.proofs.lemmas.Bool.{cases_Bool, true≢false}
 use Rattle.std.specs.Io.KnownBytes.{Appends}
 use Rattle.std.proofs.KnownBytes.{Appends-trans, Appends-nil}
-use Rattle.plist_base.specs.declared.error.Error.{Error}
+use Rattle.plist_base.specs.declared.sink.Progress.{Progress}
 use Rattle.plist_base.specs.declared.sink.Sink.{Sink}
-use Rattle.plist_base.specs.Faults.{Fault, Io, fault_without_offset, fault_of}
-use Rattle.plist_base.specs.Outcomes.{IsSizeOrNone}
 use Rattle.plist_base.specs.Prefixes.{AppendsPrefix}
-use Rattle.plist_base.specs.Writing.{Answer, answer_of}
-use Rattle.plist_base.specs.Sinks.{HasPut, IsSameSink, Puts, pending}
+use Rattle.plist_base.specs.Sinks.{Advances, HasPut, IsSameSink, Puts, is_open, pending}
 
 -- ---- lists
 
@@ -37,196 +34,135 @@ same_itself = record { writer = refl; buffer = refl }
 pub same_then : {W : Type 0} {a b c : Sink W} → IsSameSink a b → IsSameSink b c → IsSameSink a c
 same_then p q = record { writer = q.writer ∙ p.writer; buffer = q.buffer ∙ p.buffer }
 
--- if each of two calls counts the bytes that it puts, both count all of them
-counted_then : {W : Type 0} {a b : Sink W} (c : Sink W) (xs ys : List ℕ) (answer : Answer)
-    → ((size : ℕ) → HasPut a size → HasPut b (size + length xs))
-    → OnOk answer ((size : ℕ) → HasPut b size → HasPut c (size + length ys))
-    → OnOk answer ((size : ℕ) → HasPut a size → HasPut c (size + length (xs ++ ys)))
-counted_then c xs ys (Ok done) first next = λ size put.
-    subst (HasPut c) (omega (arith, length-append xs ys)) (next _ (first size put))
-counted_then c xs ys (Err fault) first next = tt
-
--- these bytes are counted as written, after those that were before
-abbrev Counts : {W : Type 0} → (a b : Sink W) → (xs : List ℕ) → Type 0
-Counts a b xs = (n : ℕ) → IsSizeOrNone a.sent n → IsSizeOrNone b.sent (n + length xs)
-
 module _ {W : Type 0} {contents : W → Option (List ℕ)} where
   -- no bytes are put
-  pub puts_none : {a : Sink W} → Puts contents a [] (Ok tt) a
+  pub puts_none : {a : Sink W} → Puts contents a [] a
   puts_none {a} = record {
     same = same_itself;
     sent = [];
     written = Appends-nil (contents a.writer.now);
     rest = pending a;
-    kept = refl;
     all = append-nil (pending a);
-    fault = tt;
-    counted = λ size put. subst (HasPut a) (omega arith) put;
+    kept = λ works. refl;
+    counted = λ works size put. subst (HasPut a) (omega arith) put;
+    was_open = λ works. works;
+    unasked = λ closed. refl;
   }
 
   -- bytes are put, and stay pending
   pub puts_pending : {a b : Sink W} {xs : List ℕ} → IsSameSink a b
-      → b.writer.now ≡ a.writer.now → pending b ≡ pending a ++ xs → b.sent ≡ a.sent
-      → Puts contents a xs (Ok tt) b
+      → b.writer.now ≡ a.writer.now → pending b ≡ pending a ++ xs → b.progress ≡ a.progress
+      → Puts contents a xs b
   puts_pending {a} {b} {xs} same kept grown still = record {
     same = same;
     sent = [];
     written = rw kept (Appends-nil (contents a.writer.now));
     rest = pending b;
-    kept = refl;
     all = sym grown;
-    fault = tt;
-    counted = λ size put. record {
+    kept = λ works. refl;
+    counted = λ works size put. record {
       sent = put.sent;
       counted = rw still put.counted;
       whole = omega (arith, put.whole, ap length grown, length-append (pending a) xs);
     };
+    was_open = λ works. rw still at works;
+    unasked = λ closed. kept;
   }
 
-  -- nothing changes, and then bytes are put
-  pub puts_after : {a b c : Sink W} {xs : List ℕ} {answer : Answer} → b ≡ a
-      → Puts contents b xs answer c → Puts contents a xs answer c
-  puts_after {c = c} {xs} {answer} is p = subst (λ s. Puts contents s xs answer c) is p
-
-  -- bytes are put, and then more
-  pub puts_then : {a b c : Sink W} {xs ys : List ℕ} {answer : Answer}
-      → Puts contents a xs (Ok tt) b → Puts contents b ys answer c
-      → Puts contents a (xs ++ ys) answer c
-  puts_then {a} {b} {c} {xs} {ys} {answer} p q = record {
-    same = same_then p.same q.same;
-    sent = p.sent ++ q.sent;
-    written = Appends-trans (contents a.writer.now) (contents b.writer.now) (contents c.writer.now)
-        _ _ p.written q.written;
-    rest = q.rest;
-    kept = q.kept;
-    all = joined (pending a) xs ys p.sent (pending b) q.sent q.rest (rw p.kept p.all) q.all;
-    fault = q.fault;
-    counted = counted_then c xs ys answer p.counted q.counted;
-  }
-
-  -- if putting the first bytes fails, so does putting all
-  pub puts_front : {a b : Sink W} {xs : List ℕ} {fault : Fault} (ys : List ℕ)
-      → Puts contents a xs (Err fault) b → Puts contents a (xs ++ ys) (Err fault) b
-  puts_front {a} {b} {xs} ys p = record {
-    same = p.same;
-    sent = p.sent;
-    written = p.written;
-    rest = p.rest ++ ys;
-    kept = tt;
-    all = sym (append_assoc (pending a) xs ys)
-        ∙ more_rest (pending a ++ xs) ys p.sent p.rest p.all;
-    fault = p.fault;
-    counted = tt;
-  }
-
-  -- the call fails with the error that `?` passes on
-  pub puts_refused : {a b : Sink W} {xs : List ℕ} (ys : List ℕ)
-      (answer : Result (Unit {0}) Error) (error : Error) → IsErrAnd answer (λ e. e ≡ error)
-      → Puts contents a xs (Err (fault_of error)) b
-      → Puts contents a (xs ++ ys) (answer_of answer) b
-  puts_refused ys (Ok done) error is p = absurd is
-  puts_refused ys (Err e) error is p = rw is (puts_front ys p)
-
-  pub puts_as : {a b : Sink W} {xs ys : List ℕ} {answer : Answer} → xs ≡ ys
-      → Puts contents a xs answer b → Puts contents a ys answer b
+  pub puts_as : {a b : Sink W} {xs ys : List ℕ} → xs ≡ ys → Puts contents a xs b
+      → Puts contents a ys b
   puts_as e p = rw (← e) p
 
-  -- the writer fails before all that was pending is written
-  pub puts_broken : {a b : Sink W} {xs : List ℕ} (answer : Result (Unit {0}) Error) (error : Error)
-      → IsErrAnd answer (λ e. e ≡ error) → IsSameSink a b
-      → fault_of error ≡ fault_without_offset Io
+  -- once a write has failed, any bytes may follow
+  pub puts_closed : {a b c : Sink W} {xs : List ℕ} (zs : List ℕ) → is_open b ≡ false
+      → Puts contents a xs b → IsSameSink b c → c.writer.now ≡ b.writer.now
+      → (is_open c ≡ true → is_open b ≡ true) → Puts contents a (xs ++ zs) c
+  puts_closed {a} {b} {c} {xs} zs closed p same kept before = record {
+    same = same_then p.same same;
+    sent = p.sent;
+    written = rw kept p.written;
+    rest = p.rest ++ zs;
+    all = sym (append_assoc (pending a) xs zs) ∙ more_rest (pending a ++ xs) zs p.sent p.rest p.all;
+    kept = λ works. absurd (true≢false (sym (before works) ∙ closed));
+    counted = λ works. absurd (true≢false (sym (before works) ∙ closed));
+    was_open = λ works. p.was_open (before works);
+    unasked = λ fails. kept ∙ p.unasked fails;
+  }
+
+  -- bytes are put, and then more
+  pub puts_then : {a b c : Sink W} {xs ys : List ℕ} → Puts contents a xs b
+      → Puts contents b ys c → Puts contents a (xs ++ ys) c
+  puts_then {a} {b} {c} {xs} {ys} p q = elim (cases_Bool (is_open b)) [
+    | inl works ↦ record {
+      same = same_then p.same q.same;
+      sent = p.sent ++ q.sent;
+      written = Appends-trans (contents a.writer.now) (contents b.writer.now)
+          (contents c.writer.now) _ _ p.written q.written;
+      rest = q.rest;
+      all = joined (pending a) xs ys p.sent (pending b) q.sent q.rest (rw (p.kept works) p.all)
+          q.all;
+      kept = q.kept;
+      counted = λ still size put. subst (HasPut c) (omega (arith, length-append xs ys))
+          (q.counted still _ (p.counted works size put));
+      was_open = λ still. p.was_open works;
+      unasked = λ fails. absurd (true≢false (sym (p.was_open works) ∙ fails));
+    }
+    | inr closed ↦ puts_closed ys closed p q.same (q.unasked closed) q.was_open
+  ]
+
+  -- the pending bytes and these are written past the buffer
+  pub puts_past : {a b : Sink W} {xs ys : List ℕ} → IsSameSink a b → pending a ++ xs ≡ ys
+      → pending b ≡ []
+      → Advances contents (a.progress, a.writer.now) ys (b.progress, b.writer.now)
+      → Puts contents a xs b
+  puts_past {a} {b} {xs} {ys} same is empty p = record {
+    same = same;
+    sent = p.sent;
+    written = p.written;
+    rest = p.rest;
+    all = is ∙ p.all;
+    kept = λ works. empty ∙ sym (p.whole works);
+    counted = λ works size put. record {
+      sent = put.sent + length ys;
+      counted = p.counted works put.sent put.counted;
+      whole = omega (arith, put.whole, ap length is, length-append (pending a) xs, ap length empty);
+    };
+    was_open = p.was_open;
+    unasked = p.unasked;
+  }
+
+  -- what a call that puts nothing writes begins the pending bytes, and if the sink is open then, it
+  -- is all of them
+  pub none_prefix : {a b : Sink W} → Puts contents a [] b
       → AppendsPrefix (contents a.writer.now) (contents b.writer.now) (pending a)
-      → Puts contents a xs (answer_of answer) b
-  puts_broken (Ok done) error is same io front = absurd is
-  puts_broken {a} {b} {xs} (Err e) error is same io front = rw is (record {
-    same = same;
-    sent = front.0;
-    written = front.2;
-    rest = front.1 ++ xs;
-    kept = tt;
-    all = more_rest (pending a) xs front.0 front.1 front.3;
-    fault = io;
-    counted = tt;
-  })
+  none_prefix {a} p = (p.sent, p.rest, p.written, sym (append-nil (pending a)) ∙ p.all)
 
-  -- bytes are written when nothing is pending
-  pub puts_written : {a b : Sink W} {xs : List ℕ} → IsSameSink a b
-      → pending a ≡ [] → pending b ≡ [] → Counts a b xs
-      → Appends (contents a.writer.now) (contents b.writer.now) xs → Puts contents a xs (Ok tt) b
-  puts_written {a} {b} {xs} same none still counts sent = record {
-    same = same;
-    sent = xs;
-    written = sent;
-    rest = [];
-    kept = still;
-    all = rw none (sym (append-nil xs));
-    fault = tt;
-    counted = λ size put. record {
-      sent = put.sent + length xs;
-      counted = counts put.sent put.counted;
-      whole = omega (arith, put.whole, ap length none, ap length still);
-    };
-  }
-
-  -- the pending bytes are written
-  pub puts_flushed : {a b : Sink W} → IsSameSink a b → pending b ≡ []
-      → Counts a b (pending a)
+  pub none_whole : {a b : Sink W} → Puts contents a [] b → is_open b ≡ true → pending b ≡ []
       → Appends (contents a.writer.now) (contents b.writer.now) (pending a)
-      → Puts contents a [] (Ok tt) b
-  puts_flushed {a} {b} same still counts sent = record {
-    same = same;
-    sent = pending a;
-    written = sent;
-    rest = [];
-    kept = still;
-    all = refl;
-    fault = tt;
-    counted = λ size put. record {
-      sent = put.sent + length (pending a);
-      counted = counts put.sent put.counted;
-      whole = omega (arith, put.whole, ap length still);
-    };
-  }
-
-  -- the write of bytes fails when nothing is pending
-  pub puts_halted : {a b : Sink W} {xs : List ℕ} (answer : Result (Unit {0}) Error) (error : Error)
-      → IsErrAnd answer (λ e. e ≡ error) → IsSameSink a b → pending a ≡ []
-      → fault_of error ≡ fault_without_offset Io
-      → AppendsPrefix (contents a.writer.now) (contents b.writer.now) xs
-      → Puts contents a xs (answer_of answer) b
-  puts_halted (Ok done) error is same none io front = absurd is
-  puts_halted {a} {b} {xs} (Err e) error is same none io front = rw is (record {
-    same = same;
-    sent = front.0;
-    written = front.2;
-    rest = front.1;
-    kept = tt;
-    all = rw none front.3;
-    fault = io;
-    counted = tt;
-  })
+  none_whole {a} p works empty =
+      rw (sym (append-nil (pending a)) ∙ p.all
+      ∙ ap (λ l. p.sent ++ l) (sym (p.kept works) ∙ empty) ∙ append-nil p.sent) p.written
 
   -- ---- all that was put since nothing was pending
 
   pub sent_whole : {a b : Sink W} {xs : List ℕ} (end : Option (List ℕ)) → pending a ≡ []
-      → Puts contents a xs (Ok tt) b → Appends (contents b.writer.now) end (pending b)
+      → Puts contents a xs b → is_open b ≡ true → Appends (contents b.writer.now) end (pending b)
       → Appends (contents a.writer.now) end xs
-  sent_whole {a} {b} end none p more =
-      rw (rw (none, ← p.kept) at p.all) (Appends-trans (contents a.writer.now)
+  sent_whole {a} {b} end none p works more =
+      rw (rw (none, ← p.kept works) at p.all) (Appends-trans (contents a.writer.now)
       (contents b.writer.now) end _ _ p.written more)
 
   pub sent_part : {a b : Sink W} {xs : List ℕ} (end : Option (List ℕ)) → pending a ≡ []
-      → Puts contents a xs (Ok tt) b → AppendsPrefix (contents b.writer.now) end (pending b)
+      → Puts contents a xs b → (is_open b ≡ false → end ≡ contents b.writer.now)
+      → AppendsPrefix (contents b.writer.now) end (pending b)
       → AppendsPrefix (contents a.writer.now) end xs
-  sent_part {a} {b} end none p more = (
-    p.sent ++ more.0,
-    more.1,
-    Appends-trans (contents a.writer.now) (contents b.writer.now) end _ _ p.written more.2,
-    (rw none at p.all) ∙ ap (λ l. p.sent ++ l) (sym p.kept ∙ more.3)
-        ∙ sym (append_assoc p.sent more.0 more.1),
-  )
-
-  pub put_part : {a b : Sink W} {xs : List ℕ} {fault : Fault} → pending a ≡ []
-      → Puts contents a xs (Err fault) b
-      → AppendsPrefix (contents a.writer.now) (contents b.writer.now) xs
-  put_part none p = (p.sent, p.rest, p.written, rw none at p.all)
+  sent_part {a} {b} end none p unasked more = elim (cases_Bool (is_open b)) [
+    | inl works ↦ (
+      p.sent ++ more.0,
+      more.1,
+      Appends-trans (contents a.writer.now) (contents b.writer.now) end _ _ p.written more.2,
+      (rw none at p.all) ∙ ap (λ l. p.sent ++ l) (sym (p.kept works) ∙ more.3)
+          ∙ sym (append_assoc p.sent more.0 more.1),
+    )
+    | inr closed ↦ (p.sent, p.rest, rw (unasked closed) p.written, rw none at p.all)
+  ]

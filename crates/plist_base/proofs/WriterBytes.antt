@@ -39,9 +39,3 @@ front_none a b c bytes done h none = (
       (Appends-trans a b c _ _ h none),
   sym (take-append-drop done bytes),
 )
-
--- all bytes are written, and then the writer is flushed
-pub front_whole : (a b c : Option (List ℕ)) (bytes : List ℕ) → Appends a b bytes → Keeps b c
-    → AppendsPrefix a c bytes
-front_whole a b c bytes h kept =
-    (bytes, [], Appends-kept a b c _ h kept, sym (append-nil _))

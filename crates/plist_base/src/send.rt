@@ -1,12 +1,11 @@
 //! Writes bytes to a writer.
 
 ghost use Rattle.std.specs.Prelude.{OnOk};
-ghost use Rattle.plist_base.specs.Outcomes.{OnlyDevice};
 ghost use Rattle.std.specs.Io.KnownBytes.{Appends, Keeps};
-ghost use Rattle.plist_base.specs.Faults.{Io};
+ghost use Rattle.plist_base.specs.Outcomes.{OnlyDevice};
 ghost use Rattle.plist_base.specs.Prefixes.{AppendsPrefix};
 
-use crate::{Error, ErrorKind};
+use crate::Error;
 use std::io;
 use std::io::Write;
 
@@ -14,22 +13,18 @@ use std::io::Write;
 ///
 /// # Errors
 ///
-/// `Io`, without an offset, if a write fails or accepts no byte. A prefix of the bytes is written
-/// then.
-pub fn send<W: Write>(writer: &mut W, bytes: &[u8]) -> Result<(), Error>
+/// The error of a write that fails, or `WriteZero` if a write accepts no byte. A prefix of the
+/// bytes is written then.
+pub fn send<W: Write>(writer: &mut W, bytes: &[u8]) -> Result<(), io::Error>
     ensures sent { OnOk result (Appends (W.contents writer.old) (W.contents writer.new) bytes.now) }
-    ensures fault { OnlyDevice result }
     ensures prefix { AppendsPrefix (W.contents writer.old) (W.contents writer.new) bytes.now }
 {
     let mut done = 0;
     while done < bytes.len() {
         match writer.write(&bytes[done..]) {
-            Ok(0) => {
-                let failure = io::Error::from(io::ErrorKind::WriteZero);
-                return Err(ErrorKind::Io(failure).without_position());
-            }
+            Ok(0) => return Err(io::Error::from(io::ErrorKind::WriteZero)),
             Ok(count) => done += count,
-            Err(failure) => return Err(ErrorKind::Io(failure).without_position()),
+            Err(failure) => return Err(failure),
         }
     }
     Ok(())
@@ -44,25 +39,6 @@ pub fn flush<W: Write>(writer: &mut W) -> Result<(), Error>
     ensures fault { OnlyDevice result }
     ensures unchanged { Keeps (W.contents writer.old) (W.contents writer.new) }
 {
-    match writer.flush() {
-        Ok(()) => Ok(()),
-        Err(failure) => Err(ErrorKind::Io(failure).without_position()),
-    }
-}
-
-/// Writes all the bytes, and then flushes the writer.
-///
-/// # Errors
-///
-/// `Io`, without an offset. If a write fails or accepts no byte, a prefix of the bytes was written;
-/// if the flush fails, all of them were.
-#[tactic(auto, using(crate::proofs::WriterBytes::front_whole))]
-pub fn send_and_flush<W: Write>(writer: &mut W, bytes: &[u8]) -> Result<(), Error>
-    ensures sent { OnOk result (Appends (W.contents writer.old) (W.contents writer.new) bytes.now) }
-    ensures fault { OnlyDevice result }
-    ensures prefix { AppendsPrefix (W.contents writer.old) (W.contents writer.new) bytes.now }
-{
-    send(writer, bytes)?;
-    flush(writer)?;
+    writer.flush()?;
     Ok(())
 }

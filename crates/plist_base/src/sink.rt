@@ -1,15 +1,15 @@
 //! A sink, which writes bytes to a writer through a buffer of fixed size.
 
-ghost use Rattle.std.specs.Prelude.{◌≡◌, ◌++◌, ◌+◌, ◌≤◌, ◌<◌, ℕ, [], Ok, true, false, OnOk, length};
+ghost use Rattle.std.specs.Prelude.{◌≡◌, ◌+◌, ◌≤◌, ℕ, [], length, true, false, OnErr, OnOk};
 ghost use Rattle.std.specs.Io.KnownBytes.{Appends};
-ghost use Rattle.plist_base.specs.FixedBuffers.{room, buffer_capacity};
+ghost use Rattle.plist_base.specs.FixedBuffers.{buffer_capacity, room};
 ghost use Rattle.plist_base.specs.Outcomes.{IsSizeOrNone, OnlyDevice};
 ghost use Rattle.plist_base.specs.Prefixes.{AppendsPrefix};
-ghost use Rattle.plist_base.specs.Sinks.{HasPut, IsSameSink, Puts, pending};
-ghost use Rattle.plist_base.specs.Writing.{answer_of};
+ghost use Rattle.plist_base.specs.Sinks.{Advances, HasPut, IsSameSink, Puts, is_open, pending};
 
-use crate::send::{send, send_and_flush};
+use crate::send::{flush, send};
 use crate::{Error, FixedBuffer};
+use std::io;
 use std::io::Write;
 
 /// Writes bytes to a writer through a buffer of [`BUFFER_CAPACITY`] bytes.
@@ -18,26 +18,33 @@ use std::io::Write;
 /// pending bytes and then the new ones directly, so that no call allocates memory. [`Sink::finish`]
 /// writes the bytes that are still pending.
 ///
+/// A sink is open until a write fails or accepts no byte. It keeps that error, and
+/// [`Sink::finish`] returns it. A prefix of all the bytes that were put is written then. A sink
+/// that isn't open drops its bytes, and never calls its writer again. A failed write isn't retried,
+/// not even after `Interrupted`.
+///
 /// ```text
 /// let mut buffer = FixedBuffer::new(alloc)?;
 /// let mut sink = Sink::new(&mut buffer, writer);
-/// sink.put(b"bplist00")?;
+/// sink.put(b"bplist00");
 /// sink.finish()?;
 /// ```
-///
-/// # Errors
-///
-/// Every call returns `Io`, without an offset, if a write fails or accepts no byte. A failed write
-/// isn't retried, not even after `Interrupted`. A prefix of all the bytes that were put is written
-/// then, and the sink must not be used any more.
 #[derive(Drop)]
 pub struct Sink<'s, W> {
     /// The writer.
     pub writer: &'s mut W,
     /// The bytes that are pending.
     pub buffer: &'s mut FixedBuffer,
+    progress: Progress,
+}
+
+// What a sink has written to its writer.
+#[derive(Clone, Copy)]
+struct Progress {
     // The number of bytes that were written, or `None` if it is 2^64 or more.
     sent: Option<u64>,
+    // The error of the write that failed, if one did.
+    failure: Option<io::Error>,
 }
 
 // Returns the sum of two numbers of bytes, or `None` if it is 2^64 or more.
@@ -47,43 +54,58 @@ fn sum(sent: Option<u64>, more: usize) -> Option<u64>
     sent?.checked_add(more as u64)
 }
 
-// Pushes bytes. Copying a few bytes from a local array avoids a call that copies memory.
-#[inline(always)]
-fn push_bytes(buffer: &mut FixedBuffer, bytes: &[u8])
-    requires { length bytes.now ≤ room buffer.old }
-    ensures pushed { buffer.new ≡ buffer.old ++ bytes.now }
-    ensures room { room buffer.new + length bytes.now ≡ room buffer.old }
-{
-    match bytes {
-        [a] => buffer.push(&[*a]),
-        [a, b] => buffer.push(&[*a, *b]),
-        [a, b, c, d] => buffer.push(&[*a, *b, *c, *d]),
-        _ => buffer.push(bytes),
+impl Progress {
+    // Writes bytes, unless an earlier write failed.
+    fn write<W: Write>(&mut self, writer: &mut W, bytes: &[u8])
+        ensures { Advances W.contents (self.old, writer.old) bytes.now (self.new, writer.new) }
+    {
+        if self.failure.is_some() {
+            return;
+        }
+        match send(writer, bytes) {
+            Ok(()) => self.sent = sum(self.sent, bytes.len()),
+            Err(failure) => self.failure = Some(failure),
+        }
     }
 }
 
 impl<'s, W: Write> Sink<'s, W> {
-    /// Creates a sink over a writer and a buffer. The bytes that the buffer contains are pending.
+    /// Creates an open sink over a writer and a buffer. The bytes that the buffer contains are
+    /// pending.
     pub fn new(buffer: &'s mut FixedBuffer, writer: &'s mut W) -> Sink<'s, W>
         ensures writer { result.writer.ghost_name ≡ writer.entry.ghost_name }
         ensures buffer { result.buffer.ghost_name ≡ buffer.entry.ghost_name }
         ensures unwritten { result.writer.now ≡ writer.old }
         ensures pending { result.buffer.now ≡ buffer.old }
         ensures position { HasPut result (length (pending result)) }
+        ensures working { is_open result ≡ true }
     {
         Sink {
             writer,
             buffer,
-            sent: Some(0),
+            progress: Progress {
+                sent: Some(0),
+                failure: None,
+            },
         }
     }
 
+    /// Returns `true` until a write fails. A loop over many parts tests this once for each part,
+    /// and ends if it is `false`, since nothing more is written.
+    #[inline(always)]
+    pub fn is_open(&self) -> bool
+        ensures { result ≡ is_open self.now }
+    {
+        self.progress.failure.is_none()
+    }
+
     /// Returns the number of bytes that were put since the sink was created, including those that
-    /// were pending then, or `None` if it is 2^64 or more.
+    /// were pending then, or `None` if it is 2^64 or more. The number is unspecified unless the
+    /// sink is open.
     pub fn position(&self) -> Option<u64>
         ensures { (size : ℕ) → HasPut self.now size → IsSizeOrNone result size }
     {
-        sum(self.sent, self.buffer.as_slice().len())
+        sum(self.progress.sent, self.buffer.as_slice().len())
     }
 
     /// Returns how many more bytes fit into the buffer.
@@ -94,124 +116,88 @@ impl<'s, W: Write> Sink<'s, W> {
         self.buffer.room()
     }
 
-    /// Puts bytes if they fit into the buffer, and returns `true` if they do. A loop that puts
-    /// small numbers calls this first: the memory of a result is zeroed on every call, and a `bool`
-    /// is smaller than the result of [`Sink::put`].
-    #[inline(always)]
-    pub fn try_put(&mut self, bytes: &[u8]) -> bool
-        ensures put { result ≡ true → Puts W.contents self.old bytes.now (Ok tt) self.new }
-        ensures unchanged { result ≡ false → self.new ≡ self.old }
-        ensures full { result ≡ false → room self.old.buffer.now < length bytes.now }
-    {
-        if bytes.len() > self.buffer.room() {
-            return false;
-        }
-        push_bytes(self.buffer, bytes);
-        true
-    }
-
     /// Writes the pending bytes, and empties the buffer.
     #[cold]
     #[inline(never)]
-    pub fn write_pending(&mut self) -> Result<(), Error>
-        ensures put { Puts W.contents self.old [] (answer_of result) self.new }
-        ensures empty { OnOk result (pending self.new ≡ []) }
-        ensures room { OnOk result (room self.new.buffer.now ≡ buffer_capacity) }
+    pub fn write_pending(&mut self)
+        ensures put { Puts W.contents self.old [] self.new }
+        ensures empty { pending self.new ≡ [] }
+        ensures room { room self.new.buffer.now ≡ buffer_capacity }
     {
-        let bytes = self.buffer.as_slice();
-        send(self.writer, bytes)?;
-        self.sent = sum(self.sent, bytes.len());
+        self.progress.write(self.writer, self.buffer.as_slice());
         self.buffer.clear();
-        Ok(())
     }
 
     /// Makes room for `size` more bytes, by writing the pending bytes if there isn't enough. `size`
     /// may be at most [`BUFFER_CAPACITY`](crate::BUFFER_CAPACITY).
     #[inline(always)]
-    pub fn make_room(&mut self, size: usize) -> Result<(), Error>
+    pub fn make_room(&mut self, size: usize)
         requires { size ≤ buffer_capacity }
-        ensures put { Puts W.contents self.old [] (answer_of result) self.new }
-        ensures room { OnOk result (size ≤ room self.new.buffer.now) }
+        ensures put { Puts W.contents self.old [] self.new }
+        ensures room { size ≤ room self.new.buffer.now }
     {
-        if size <= self.room() {
-            return Ok(());
+        if size > self.room() {
+            self.write_pending();
         }
-        self.write_pending()
     }
 
     // Writes the pending bytes, and then these.
     #[cold]
     #[inline(never)]
-    fn write_through(&mut self, bytes: &[u8]) -> Result<(), Error>
-        ensures { Puts W.contents self.old bytes.now (answer_of result) self.new }
+    fn write_through(&mut self, bytes: &[u8])
+        ensures { Puts W.contents self.old bytes.now self.new }
     {
-        self.write_pending()?;
-        send(self.writer, bytes)?;
-        self.sent = sum(self.sent, bytes.len());
-        Ok(())
+        self.write_pending();
+        self.progress.write(self.writer, bytes);
     }
 
     /// Puts bytes after all that were put before.
-    pub fn put(&mut self, bytes: &[u8]) -> Result<(), Error>
-        ensures { Puts W.contents self.old bytes.now (answer_of result) self.new }
+    pub fn put(&mut self, bytes: &[u8])
+        ensures { Puts W.contents self.old bytes.now self.new }
     {
-        if self.try_put(bytes) {
-            return Ok(());
+        if bytes.len() <= self.room() {
+            self.buffer.push(bytes);
+        } else {
+            self.write_through(bytes);
         }
-        self.write_through(bytes)
     }
 
-    // Puts two slices if both fit into the buffer, and returns whether they do.
-    fn try_put_both(&mut self, first: &[u8], second: &[u8]) -> bool
-        ensures put { result ≡ true → Puts W.contents self.old (first.now ++ second.now)
-            (Ok tt) self.new }
-        ensures unchanged { result ≡ false → self.new ≡ self.old }
-    {
-        let room = self.buffer.room();
-        if first.len() > room || second.len() > room - first.len() {
-            return false;
-        }
-        push_bytes(self.buffer, first);
-        push_bytes(self.buffer, second);
-        true
-    }
-
-    // Puts two slices that don't both fit into the buffer.
-    #[cold]
-    #[inline(never)]
-    fn put_apart(&mut self, first: &[u8], second: &[u8]) -> Result<(), Error>
-        ensures { Puts W.contents self.old (first.now ++ second.now) (answer_of result) self.new }
-    {
-        self.put(first)?;
-        self.put(second)
-    }
-
-    /// Puts two slices, one after the other.
-    pub fn put_both(&mut self, first: &[u8], second: &[u8]) -> Result<(), Error>
-        ensures { Puts W.contents self.old (first.now ++ second.now) (answer_of result) self.new }
-    {
-        if self.try_put_both(first, second) {
-            return Ok(());
-        }
-        self.put_apart(first, second)
-    }
-
-    /// Writes the pending bytes, and then flushes the writer once. The buffer isn't emptied, so a
-    /// second call would write the same bytes again.
+    /// Returns the error of the write that failed.
     ///
     /// # Errors
     ///
-    /// `Io`, without an offset. If a write fails or accepts no byte, a prefix of the pending bytes
-    /// was written; if the flush fails, all of them were.
+    /// `Io`, without an offset, unless the sink is open.
+    pub fn result(&self) -> Result<(), Error>
+        ensures working { OnOk result (is_open self.now ≡ true) }
+        ensures stopped { OnErr result (is_open self.now ≡ false) }
+        ensures fault { OnlyDevice result }
+    {
+        match self.progress.failure {
+            None => Ok(()),
+            Some(failure) => Err(Error::from(failure)),
+        }
+    }
+
+    /// Writes the pending bytes, and then flushes the writer once.
+    ///
+    /// # Errors
+    ///
+    /// `Io`, without an offset. If an earlier write failed, it has that error, and the writer isn't
+    /// called. If a write fails or accepts no byte, a prefix of the pending bytes was written; if
+    /// the flush fails, all of them were.
     pub fn finish(&mut self) -> Result<(), Error>
         ensures sent { OnOk result (Appends (W.contents self.old.writer.now)
             (W.contents self.new.writer.now) (pending self.old)) }
+        ensures working { OnOk result (is_open self.old ≡ true) }
         ensures fault { OnlyDevice result }
         ensures prefix { AppendsPrefix (W.contents self.old.writer.now)
             (W.contents self.new.writer.now) (pending self.old) }
-        ensures kept { pending self.new ≡ pending self.old }
+        ensures unasked { is_open self.old ≡ false → self.new.writer.now ≡ self.old.writer.now }
+        ensures empty { pending self.new ≡ [] }
         ensures same { IsSameSink self.old self.new }
     {
-        send_and_flush(self.writer, self.buffer.as_slice())
+        self.write_pending();
+        self.result()?;
+        flush(self.writer)
     }
 }

@@ -56,12 +56,6 @@ pub length-big_endian : (w n : ℕ) → length (bytes_high_first w n) ≡ w
 length-big_endian zero n = refl
 length-big_endian (suc w) n = ap suc (length-big_endian w n)
 
-pub drop-big_endian : (j w n : ℕ) → drop j (bytes_high_first (j + w) n) ≡ bytes_high_first w n
-drop-big_endian zero w n = let e : zero + w ≡ w = omega arith in ap (λ k. bytes_high_first k n) e
-drop-big_endian (suc j) w n =
-    let e : suc j + w ≡ suc (j + w) = omega arith in
-    cc (drop-big_endian j w n)
-
 pow_positive : (w : ℕ) → 0 < 256 ^ w
 pow_positive zero = omega arith
 pow_positive (suc w) = omega (arith, pow-succ' 256 w, pow_positive w)
@@ -94,15 +88,6 @@ pub number_back : (w n : ℕ) → n < 256 ^ w → number_of (bytes_high_first w 
 number_back w n h =
     let small = mod-eq_of_lt h in
     number_after w 0 n ∙ (let e : 0 * 256 ^ w + n % 256 ^ w ≡ n = omega arith in e)
-
-pub tail_of_digits : (digits : List ℕ) (w n : ℕ) → digits ≡ bytes_high_first 8 n → w ≤ 8
-    → take (8 - (8 - w)) (drop (8 - w) digits) ≡ bytes_high_first w n
-tail_of_digits digits w n is h =
-    let e : 8 ≡ 8 - w + w = omega arith in
-    let tail = ap (drop (8 - w))
-    (is ∙ ap (λ k. bytes_high_first k n) e) ∙ drop-big_endian (8 - w) w n in
-    let back : 8 - (8 - w) ≡ length (bytes_high_first w n) = omega (arith, length-big_endian w n) in
-    rw (tail, back) (take-length (bytes_high_first w n))
 
 -- ---- numbers in the highest bytes of another one
 

@@ -16,14 +16,6 @@ pub length_long : (kind : CountedKind) (count : ℕ) → 15 ≤ count
 unfolding length_form
 length_long kind count h = rw (le-ltb _ 15 h) refl
 
--- these are the bytes of a length that follows its marker
-pub length_told : (kind : CountedKind) (count width marker : ℕ) → 15 ≤ count → width ≡ least_width count
-    → marker ≡ byte_of (integer_marker width)
-    → (high_half kind * 16 + 15) ∷ marker ∷ bytes_high_first width count ≡ length_form kind count
-length_told kind count width marker long least number =
-    let given : marker ∷ bytes_high_first width count ≡ unsigned_form count = cc in
-    cc (length_long kind count long)
-
 high_zero : (k n : ℕ) → n < 256 ^ k → byte_at k n ≡ 0
 high_zero zero n h = omega arith
 high_zero (suc k) n h = let e = div-eq_of_lt h in rw e refl

@@ -1,6 +1,6 @@
 -- A planned file is that of its tree, with one object for each class, and what is written is that
 -- file.
-use Rattle.std.proofs.Common.{◌≡◌, ◌≢◌, ℕ, ◌+◌, ◌-◌, ◌*◌, ◌^◌, ◌<◌, List, [], ◌++◌, length, take, drop, get_or, map, Some, Ok, refl, ap, sym, ◌∙◌, arith, ◌≤◌, Option, Result, Err, OnOk, subst}
+use Rattle.std.proofs.Common.{◌≡◌, ◌≢◌, ℕ, ◌+◌, ◌-◌, ◌*◌, ◌^◌, ◌<◌, List, [], ◌++◌, length, take, drop, get_or, map, Some, Ok, true, false, refl, ap, sym, ◌∙◌, arith, ◌≤◌, Option, Result, Err, OnOk, subst}
 use Rattle.std.specs.List.{slice_get}
 use Rattle.std.specs.Prelude.{option_map}
 use Rattle.std.proofs.lemmas.List.Elements.{All-from_get_or, recursion_from_All}
@@ -31,7 +31,6 @@ use Rattle.plist_binwrite.proofs.ReadingNumbers.{with_table_and_trailer, drop_fr
 use Rattle.plist_buffer.proofs.TreeOccurrences.{occurs_whole}
 use Rattle.plist_binwrite.proofs.Unfold.{Shows, unfolds_whole, no_fault}
 use Rattle.plist_binwrite.proofs.LeastWidths.{width_holds}
-use Rattle.plist_base.specs.Faults.{Fault}
 use Rattle.plist_base.specs.Outcomes.{OnlyDevice}
 use Rattle.plist_base.specs.declared.error.Error.{Error}
 use Rattle.plist_base.specs.Writing.{answer_of}
@@ -39,8 +38,8 @@ use Rattle.plist_buffer.proofs.Grammar.{complete_of_whole}
 use Rattle.std.specs.Io.KnownBytes.{Appends}
 use Rattle.plist_base.specs.declared.sink.Sink.{Sink}
 use Rattle.plist_base.specs.Prefixes.{AppendsPrefix}
-use Rattle.plist_base.specs.Sinks.{pending}
-use Rattle.plist_base.proofs.SinkSteps.{put_part, sent_part, sent_whole}
+use Rattle.plist_base.specs.Sinks.{is_open, pending}
+use Rattle.plist_base.proofs.SinkSteps.{sent_part, sent_whole}
 use Rattle.plist_binwrite.specs.SendingAs.{IsOfTree, SendsAs}
 use Rattle.plist_buffer.proofs.Lengthless.{plain_lengthless}
 
@@ -221,26 +220,25 @@ file_made {plan} r {objects} {order} {offsets} l all t alike =
 
 module _ (plan : FilePlan) {W : Type 0} {contents : W → Option (List ℕ)} {start : Sink W}
     (empty : pending start ≡ []) (tree : AreTreeEvents (events_in plan.given)) where
-  -- the file is put, and the pending bytes are written
-  pub sends_file : {middle : Sink W} (new : Sink W) → PutsFile plan contents start (Ok tt) middle
+  -- the file is put, and the sink is finished
+  pub sends_file : {middle : Sink W} (new : Sink W) → PutsFile plan contents start middle
       → (answer : Result (Unit {0}) Error)
       → OnOk answer
       (Appends (contents middle.writer.now) (contents new.writer.now) (pending middle))
+      → OnOk answer (is_open middle ≡ true)
       → AppendsPrefix (contents middle.writer.now) (contents new.writer.now) (pending middle)
+      → (is_open middle ≡ false → new.writer.now ≡ middle.writer.now)
       → OnlyDevice answer → SendsAs (files_by (class_in plan.given)) contents
       (events_in plan.given) (answer_of answer) start.writer.now new.writer.now
-  sends_file new (file, of, put) (Ok done) sent prefix failed =
-      (file, (complete_of_whole _ tree, of), sent_whole _ empty put sent)
-  sends_file new (file, of, put) (Err error) sent prefix failed =
+  sends_file new (file, of, put) (Ok done) sent works prefix unasked failed =
+      (file, (complete_of_whole _ tree, of), sent_whole _ empty put works sent)
+  sends_file new (file, of, put) (Err error) sent works prefix unasked failed =
       subst (λ fault. SendsAs (files_by (class_in plan.given)) contents (events_in plan.given)
-      (Err fault) start.writer.now new.writer.now) (sym failed)
-      (refl, (file, (complete_of_whole _ tree, of), sent_part _ empty put prefix))
-
-  -- a write fails before the file is put
-  pub sends_part : {new : Sink W} {fault : Fault} → PutsFile plan contents start (Err fault) new
-      → SendsAs (files_by (class_in plan.given)) contents (events_in plan.given) (Err fault)
-      start.writer.now new.writer.now
-  sends_part {new} (file, of, put) =
-      subst (λ fault. SendsAs (files_by (class_in plan.given)) contents (events_in plan.given)
-      (Err fault) start.writer.now new.writer.now) (sym put.fault)
-      (refl, (file, (complete_of_whole _ tree, of), put_part empty put))
+      (Err fault) start.writer.now new.writer.now) (sym failed) (
+        refl,
+        (
+          file,
+          (complete_of_whole _ tree, of),
+          sent_part _ empty put (λ no. ap contents (unasked no)) prefix,
+        ),
+      )

@@ -119,14 +119,6 @@ module _ {es : List PlainEvent} {k : EventShape} {p : ℕ} (at : k ≡ shape_of 
   of_dictionary is h (Array ts) s = cc (ap shape_of (starts_array s))
   of_dictionary is h (Dictionary ms) s = h ms s
 
-  -- no collection begins at this index
-  module _ (other : (k ≡ shape.Scalar) ⊎ (k ≡ shape.EndCollection)) where
-    -- neither a collection nor a scalar is at this index
-    pub of_nothing : is_leaf (event_at es p) ≡ false → (t : Tree) → OccursAt es t p → P t
-    of_nothing n (Leaf x) s = cc (ap is_leaf (stands_single s))
-    of_nothing n (Array ts) s = absurd ((no_start other).0 (cc (starts_array s)))
-    of_nothing n (Dictionary ms) s = absurd ((no_start other).1 (cc (starts_dictionary s)))
-
 -- a scalar is at this index
 pub of_scalar : {es : List PlainEvent} {p : ℕ} (P : Tree → Type 0) {x : Scalar}
     → event_at es p ≡ ScalarEvent x → P (Leaf x) → (t : Tree) → OccursAt es t p → P t

@@ -1,193 +1,216 @@
 //! Puts the parts of a file: scalars, lengths, references, the offset table and the trailer.
 //!
-//! The functions put their bytes into a [`Sink`]. They return any error of [`Sink::put`]: `Io`,
-//! without an offset. After an error the writer has received a prefix of all the bytes that were
-//! put.
+//! The functions put their bytes into a [`Sink`], which keeps the error of a write that fails.
 //!
 //! For the plan of a file, the lengths of scalars are computed before any byte is put.
 
-ghost use Rattle.std.specs.Prelude.{◌≡◌, ◌≤◌, ◌<◌, ◌+◌, Ok, length, true, false};
+ghost use Rattle.std.specs.Prelude.{◌≡◌, ◌≤◌, ◌+◌, ◌∷◌, length, true};
 ghost use Rattle.plist_base.specs.Trees as trees;
-ghost use Rattle.plist_binwrite.specs.Forms.{IsWritableScalar, unsigned_form, length_form, scalar_form, table_form};
+ghost use Rattle.plist_binwrite.specs.Forms.{IsWritableScalar, integer_marker, unsigned_form, length_form, scalar_form, table_form};
 ghost use Rattle.plist_binwrite.specs.inner.Numbering.{IsCapped};
 ghost use Rattle.std.specs.Int.{bytes_high_first};
 ghost use Rattle.plist_base.specs.Utf16.{utf8_of_utf16};
 ghost use Rattle.plist_buffer.specs.AsciiTexts.{is_ascii_text};
 ghost use Rattle.plist_buffer.specs.StoredScalars.{IsStored, IsWide, scalar_of_ref};
-ghost use Rattle.plist_base.specs.FixedBuffers.{room};
+ghost use Rattle.plist_base.specs.Object.{byte_of};
 ghost use Rattle.plist_base.specs.Sinks.{Puts};
-ghost use Rattle.plist_base.specs.Writing.{answer_of};
 ghost use Rattle.plist_binwrite.specs.Written.{table_and_trailer, trailer_of};
 
-use crate::push::{
-    push_boolean, push_date, push_integer, push_length, push_number, push_real, push_uid,
-};
 pub use crate::text::put_text;
 use crate::text::{count_units, put_ascii, put_wide};
 use crate::widths::{least_width, offset_width, reference_width};
 pub use plist_base::marker::CountedKind;
-use plist_base::marker::LowHalf;
-use plist_base::{Date, Error, Integer, RealBits, Sink, Uid};
+use plist_base::marker::{LowHalf, Marker, UidWidth};
+use plist_base::{Date, Integer, RealBits, Sink, Uid};
 use plist_buffer::stored_scalar::ScalarRef;
 use plist_buffer::wide::is_ascii_text;
 use std::io::Write;
 
-/// The greatest number of bytes in the object of a scalar other than a string or data.
-pub(crate) const MAX_FIXED_OBJECT: usize = 17;
-
 /// Puts the lowest `width` bytes of a number in big-endian order. `width` is at most 8.
-pub fn put_number<W: Write>(sink: &mut Sink<'_, W>, width: usize, number: u64) -> Result<(), Error>
+#[inline(always)]
+pub fn put_number<W: Write>(sink: &mut Sink<'_, W>, width: usize, number: u64)
     requires width { width ≤ 8 }
-    ensures { Puts W.contents sink.old (bytes_high_first width number) (answer_of result) sink.new }
+    ensures { Puts W.contents sink.old (bytes_high_first width number) sink.new }
 {
-    let digits = number.to_be_bytes();
-    sink.put(&digits[8 - width..])
+    sink.make_room(8);
+    // A shift by 64 bits, for which no byte is pushed, leaves the number as it is.
+    let shifted = number.wrapping_shl(64 - 8 * width as u32);
+    sink.buffer.push_first(shifted.to_be_bytes(), width);
 }
 
-/// Puts the lowest `width` bytes of a number in big-endian order, if there is room for eight bytes
-/// in the buffer of the sink, and returns `true` if there is. `width` is at most 8. A loop calls
-/// this before [`put_number`], because there mostly is room, and then no large `Result` is zeroed.
+// Puts a marker and the bytes of an array.
 #[inline(always)]
-pub fn try_put_number<W: Write>(sink: &mut Sink<'_, W>, width: usize, number: u64) -> bool
-    requires width { width ≤ 8 }
-    ensures put { result ≡ true → Puts W.contents sink.old (bytes_high_first width number)
-        (Ok tt) sink.new }
-    ensures unchanged { result ≡ false → sink.new ≡ sink.old }
-    ensures full { result ≡ false → room sink.old.buffer.now < 8 }
+fn put_marked<W: Write, const N: usize>(sink: &mut Sink<'_, W>, marker: Marker, bytes: [u8; N])
+    requires { N ≤ 16 }
+    ensures { Puts W.contents sink.old (byte_of marker ∷ bytes.entry) sink.new }
 {
-    if sink.room() < 8 {
-        return false;
+    sink.make_room(1 + N);
+    sink.buffer.push_array([marker.encode()]);
+    sink.buffer.push_array(bytes);
+}
+
+// Puts a marker and the lowest `width` bytes of a number.
+#[inline(always)]
+fn put_marked_number<W: Write>(sink: &mut Sink<'_, W>, marker: Marker, width: usize, number: u64)
+    requires width { width ≤ 8 }
+    ensures { Puts W.contents sink.old (byte_of marker ∷ bytes_high_first width number) sink.new }
+{
+    put_marked(sink, marker, []);
+    put_number(sink, width, number);
+}
+
+// Returns the marker of a number of this width.
+#[inline(always)]
+fn number_marker(width: usize) -> Marker
+    ensures { result ≡ integer_marker width }
+{
+    match width {
+        1 => Marker::Integer1,
+        2 => Marker::Integer2,
+        4 => Marker::Integer4,
+        _ => Marker::Integer8,
     }
-    push_number(sink.buffer, width, number);
-    true
 }
 
-/// Puts a marker of the given kind with a length. A length below 15 is in the low half of the
-/// marker, and any other length follows the marker as an unsigned integer.
+// Puts an unsigned integer.
 #[inline(always)]
-pub fn put_length<W: Write>(
-    sink: &mut Sink<'_, W>,
-    kind: CountedKind,
-    count: u64,
-) -> Result<(), Error>
-    ensures { Puts W.contents sink.old (length_form kind count) (answer_of result) sink.new }
+fn put_unsigned<W: Write>(sink: &mut Sink<'_, W>, number: u64)
+    ensures { Puts W.contents sink.old (unsigned_form number) sink.new }
 {
-    sink.make_room(MAX_FIXED_OBJECT)?;
-    push_length(sink.buffer, kind, count);
-    Ok(())
+    let width = least_width(number);
+    put_marked_number(sink, number_marker(width), width, number);
 }
 
-/// Puts the object of a scalar. Returns any error of [`Sink::put`].
-pub fn put_scalar<W: Write>(sink: &mut Sink<'_, W>, scalar: ScalarRef<'_>) -> Result<(), Error>
+/// Puts a marker of this kind with a length. A length below 15 is in the low half of the marker,
+/// and any other length follows the marker as an unsigned integer.
+#[inline(always)]
+pub fn put_length<W: Write>(sink: &mut Sink<'_, W>, kind: CountedKind, count: u64)
+    ensures { Puts W.contents sink.old (length_form kind count) sink.new }
+{
+    match LowHalf::of_length(count) {
+        Some(low) => put_marked(sink, Marker::Counted(kind, low), []),
+        None => {
+            put_marked(sink, Marker::Counted(kind, LowHalf::follows()), []);
+            put_unsigned(sink, count);
+        }
+    }
+}
+
+/// Puts the object of a scalar.
+pub fn put_scalar<W: Write>(sink: &mut Sink<'_, W>, scalar: ScalarRef<'_>)
     requires { IsStored scalar }
-    ensures { Puts W.contents sink.old (scalar_form (scalar_of_ref scalar.entry)) (answer_of result)
-        sink.new }
+    ensures { Puts W.contents sink.old (scalar_form (scalar_of_ref scalar.entry)) sink.new }
 {
-    sink.make_room(MAX_FIXED_OBJECT)?;
     match scalar {
-        ScalarRef::AsciiString(text) => return put_ascii(sink, text),
-        ScalarRef::String(text) => return put_text(sink, text),
-        ScalarRef::WideString(units) => return put_wide(sink, units),
-        ScalarRef::Data(bytes) => return put_data(sink, bytes),
-        ScalarRef::Boolean(value) => push_boolean(sink.buffer, value),
-        ScalarRef::Date(date) => push_date(sink.buffer, date),
-        ScalarRef::Integer(value) => push_integer(sink.buffer, value),
-        ScalarRef::Real(bits) => push_real(sink.buffer, bits),
-        ScalarRef::Uid(uid) => push_uid(sink.buffer, uid),
+        ScalarRef::AsciiString(text) => put_ascii(sink, text),
+        ScalarRef::String(text) => put_text(sink, text),
+        ScalarRef::WideString(units) => put_wide(sink, units),
+        ScalarRef::Data(bytes) => put_data(sink, bytes),
+        ScalarRef::Boolean(value) => put_boolean(sink, value),
+        ScalarRef::Date(date) => put_date(sink, date),
+        ScalarRef::Integer(value) => put_integer(sink, value),
+        ScalarRef::Real(bits) => put_real(sink, bits),
+        ScalarRef::Uid(uid) => put_uid(sink, uid),
     }
-    Ok(())
 }
 
 /// Puts a Boolean.
-pub fn put_boolean<W: Write>(sink: &mut Sink<'_, W>, value: bool) -> Result<(), Error>
-    ensures { Puts W.contents sink.old (scalar_form (trees.Boolean value)) (answer_of result)
-        sink.new }
+#[inline(always)]
+pub fn put_boolean<W: Write>(sink: &mut Sink<'_, W>, value: bool)
+    ensures { Puts W.contents sink.old (scalar_form (trees.Boolean value)) sink.new }
 {
-    put_scalar(sink, ScalarRef::Boolean(value))
+    put_marked(sink, Marker::Boolean(value), []);
 }
 
 /// Puts data.
-pub fn put_data<W: Write>(sink: &mut Sink<'_, W>, content: &[u8]) -> Result<(), Error>
-    ensures { Puts W.contents sink.old (scalar_form (trees.Data content.now)) (answer_of result)
-        sink.new }
+pub fn put_data<W: Write>(sink: &mut Sink<'_, W>, content: &[u8])
+    ensures { Puts W.contents sink.old (scalar_form (trees.Data content.now)) sink.new }
 {
-    let count = content.len();
-    put_length(sink, CountedKind::Data, count as u64)?;
-    sink.put(content)
+    put_length(sink, CountedKind::Data, content.len() as u64);
+    sink.put(content);
 }
 
 /// Puts a date: a marker and its eight bytes.
-pub fn put_date<W: Write>(sink: &mut Sink<'_, W>, date: Date) -> Result<(), Error>
-    ensures { Puts W.contents sink.old (scalar_form (trees.Date date)) (answer_of result) sink.new }
+#[inline(always)]
+pub fn put_date<W: Write>(sink: &mut Sink<'_, W>, date: Date)
+    ensures { Puts W.contents sink.old (scalar_form (trees.Date date)) sink.new }
 {
-    put_scalar(sink, ScalarRef::Date(date))
+    put_marked(sink, Marker::Date, date.to_plist_real());
 }
 
 /// Puts a real: a marker and its four or eight bytes.
-pub fn put_real<W: Write>(sink: &mut Sink<'_, W>, bits: RealBits) -> Result<(), Error>
-    ensures { Puts W.contents sink.old (scalar_form (trees.Real bits)) (answer_of result) sink.new }
+#[inline(always)]
+pub fn put_real<W: Write>(sink: &mut Sink<'_, W>, bits: RealBits)
+    ensures { Puts W.contents sink.old (scalar_form (trees.Real bits)) sink.new }
 {
-    put_scalar(sink, ScalarRef::Real(bits))
+    match bits {
+        RealBits::Four(bytes) => put_marked(sink, Marker::Real4, bytes),
+        RealBits::Eight(bytes) => put_marked(sink, Marker::Real8, bytes),
+    }
 }
 
 /// Puts a Uid in the smallest of 1, 2, 4 and 8 bytes into which it fits.
-pub fn put_uid<W: Write>(sink: &mut Sink<'_, W>, uid: Uid) -> Result<(), Error>
-    ensures { Puts W.contents sink.old (scalar_form (trees.Uid uid)) (answer_of result) sink.new }
+#[inline(always)]
+pub fn put_uid<W: Write>(sink: &mut Sink<'_, W>, uid: Uid)
+    ensures { Puts W.contents sink.old (scalar_form (trees.Uid uid)) sink.new }
 {
-    put_scalar(sink, ScalarRef::Uid(uid))
+    let width = least_width(uid.get());
+    put_marked_number(sink, Marker::Uid(UidWidth::new(width)), width, uid.get());
+}
+
+// Puts an integer above `i64::MAX`, in sixteen bytes.
+fn put_wide_integer<W: Write>(sink: &mut Sink<'_, W>, number: u64)
+    ensures { Puts W.contents sink.old (byte_of Marker.Integer16 ∷ bytes_high_first 16 number)
+        sink.new }
+{
+    put_marked_number(sink, Marker::Integer16, 8, 0);
+    put_number(sink, 8, number);
 }
 
 /// Puts an integer. One from 0 to `i64::MAX` has the smallest of 1, 2, 4 and 8 bytes into which it
 /// fits, a negative one has eight bytes, and one above `i64::MAX` has sixteen.
-pub fn put_integer<W: Write>(sink: &mut Sink<'_, W>, value: Integer) -> Result<(), Error>
-    ensures { Puts W.contents sink.old (scalar_form (trees.Integer value)) (answer_of result)
-        sink.new }
+#[inline(always)]
+pub fn put_integer<W: Write>(sink: &mut Sink<'_, W>, value: Integer)
+    ensures { Puts W.contents sink.old (scalar_form (trees.Integer value)) sink.new }
 {
-    put_scalar(sink, ScalarRef::Integer(value))
+    match (value.as_unsigned(), value.as_signed()) {
+        (Some(number), Some(_)) => put_unsigned(sink, number),
+        (Some(number), None) => put_wide_integer(sink, number),
+        (None, Some(number)) => {
+            put_marked_number(sink, Marker::Integer8, 8, number.cast_unsigned())
+        }
+        (None, None) => unreachable!(),
+    }
 }
 
 /// Puts each number of a list in `width` bytes, as in an offset table. `width` is at most 8.
-pub fn put_numbers<W: Write>(
-    sink: &mut Sink<'_, W>,
-    width: usize,
-    list: &[u64],
-) -> Result<(), Error>
+pub fn put_numbers<W: Write>(sink: &mut Sink<'_, W>, width: usize, list: &[u64])
     requires width { width ≤ 8 }
-    ensures { Puts W.contents sink.old (table_form width list.now) (answer_of result) sink.new }
+    ensures { Puts W.contents sink.old (table_form width list.now) sink.new }
 {
     for index in 0..list.len() {
-        let number = list[index];
-        if !try_put_number(sink, width, number) {
-            put_number(sink, width, number)?;
-        }
+        put_number(sink, width, list[index]);
     }
-    Ok(())
 }
 
 /// Puts the trailer of a file with `count` objects, whose offset table lies at the byte offset
 /// `table`. The root is object 0.
-pub fn put_trailer<W: Write>(sink: &mut Sink<'_, W>, count: usize, table: u64) -> Result<(), Error>
-    ensures { Puts W.contents sink.old (trailer_of count table) (answer_of result) sink.new }
+pub fn put_trailer<W: Write>(sink: &mut Sink<'_, W>, count: usize, table: u64)
+    ensures { Puts W.contents sink.old (trailer_of count table) sink.new }
 {
     let wide = offset_width(table) as u8;
     let narrow = reference_width(count as u64) as u8;
-    sink.put(&[0, 0, 0, 0, 0, 0, wide, narrow])?;
-    put_numbers(sink, 8, &[count as u64, 0, table])
+    sink.put(&[0, 0, 0, 0, 0, 0, wide, narrow]);
+    put_numbers(sink, 8, &[count as u64, 0, table]);
 }
 
-/// Puts the offset table, which contains the byte offset of every object, and then the trailer. The
+/// Puts the offset table, which contains the byte offset of each object, and then the trailer. The
 /// table itself lies at the byte offset `table`.
-pub fn put_table_and_trailer<W: Write>(
-    sink: &mut Sink<'_, W>,
-    offsets: &[u64],
-    table: u64,
-) -> Result<(), Error>
-    ensures { Puts W.contents sink.old (table_and_trailer offsets.now table) (answer_of result)
-        sink.new }
+pub fn put_table_and_trailer<W: Write>(sink: &mut Sink<'_, W>, offsets: &[u64], table: u64)
+    ensures { Puts W.contents sink.old (table_and_trailer offsets.now table) sink.new }
 {
-    let width = offset_width(table);
-    put_numbers(sink, width, offsets)?;
-    put_trailer(sink, offsets.len(), table)
+    put_numbers(sink, offset_width(table), offsets);
+    put_trailer(sink, offsets.len(), table);
 }
 
 // Returns the length of an unsigned integer with its marker, in bytes.

@@ -8,14 +8,12 @@
 pub mod classes;
 pub mod forms;
 mod plan;
-mod push;
 pub mod send;
 mod sharing;
 mod text;
 pub mod widths;
 mod writer;
 
-pub use plist_base::send::send_and_flush;
 pub use plist_buffer::{EventTable, stored_scalar};
 pub use send::{write_file, write_file_by_class};
 pub use sharing::{EqualScalars, Sharing};

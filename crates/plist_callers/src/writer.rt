@@ -1,8 +1,8 @@
 //! Proved callers of a writer: a new one hasn't failed, and returns the inner writer that it was
-//! given; one that ran out of memory for an event has failed; a sink that is finished keeps its
+//! given; one that ran out of memory for an event has failed; a sink that is finished has no
 //! pending bytes.
 
-ghost use Rattle.std.specs.Prelude.{◌≡◌, Err, IfErr, IfSome, ⊤};
+ghost use Rattle.std.specs.Prelude.{◌≡◌, [], Err, IfErr, IfSome, ⊤};
 ghost use Rattle.plist_base.specs.Faults.{WriterFailed, error_kind_of, fault_without_offset, kind_of};
 ghost use Rattle.plist_base.specs.Sinks.{pending};
 ghost use Rattle.plist_base.specs.Writing.{MatchKind, answer_of};
@@ -54,14 +54,13 @@ pub fn next_without_memory<W: Write + Drop>(
     }
 }
 
-/// Finishes a sink, which keeps its pending bytes. So it isn't finished twice, which would write
-/// them again.
+/// Finishes a sink, which then has no pending bytes.
 ///
 /// # Errors
 ///
 /// Any error of [`Sink::finish`].
 pub fn finish_empties<W: Write>(sink: &mut Sink<'_, W>) -> Result<(), Error>
-    ensures { pending sink.new ≡ pending sink.old }
+    ensures { pending sink.new ≡ [] }
 {
     sink.finish()
 }

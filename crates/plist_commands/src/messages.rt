@@ -1,6 +1,8 @@
 //! The messages that the program writes to standard error.
 
-ghost use Rattle.std.specs.Prelude.{◌≡◌, Bool, IfOk, is_ok};
+ghost use Rattle.std.specs.Prelude.{◌≡◌, Bool, IfOk, OnOk, is_ok};
+ghost use Rattle.std.specs.Io.KnownBytes.{Appends};
+ghost use Rattle.plist_base.specs.Prefixes.{AppendsPrefix};
 ghost use Rattle.plist_commands.specs.Commands.{plain_failure_of, PlainMessage, message_text, plain_message_of, TakesMessage, Fault};
 
 use crate::failure::Failure;
@@ -49,6 +51,15 @@ fn line_of_failure(failure: &Failure) -> Result<ArrayString<256>, Error>
     }
 }
 
+// Writes a line. An error is that of [`send`].
+fn send_line<W: Write>(writer: &mut W, line: &[u8]) -> Result<(), Error>
+    ensures sent { OnOk result (Appends (W.contents writer.old) (W.contents writer.new) line.now) }
+    ensures prefix { AppendsPrefix (W.contents writer.old) (W.contents writer.new) line.now }
+{
+    send(writer, line)?;
+    Ok(())
+}
+
 /// Every message is one line, which is passed to the writer as a whole.
 impl<W: Write> Messages for W {
     ghost reports = { λ old said whole new. TakesMessage said whole (W.contents old)
@@ -56,13 +67,13 @@ impl<W: Write> Messages for W {
 
     fn report(&mut self, message: Message<'_>) -> Result<(), Error> {
         match message {
-            Message::Usage => send(
+            Message::Usage => send_line(
                 self,
                 b"Usage: plist_tool print FILE | convert IN OUT | keyed FILE KEY\n",
             ),
             Message::Fault(failure) => {
                 let line = line_of_failure(failure)?;
-                send(self, line.as_bytes())
+                send_line(self, line.as_bytes())
             }
         }
     }

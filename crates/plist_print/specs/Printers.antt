@@ -1,5 +1,5 @@
 -- What a printer does when it takes an event.
-use Rattle.std.specs.Prelude.{◌≡◌, ◌⊎◌, ℕ, List, Option, Ok, Err}
+use Rattle.std.specs.Prelude.{◌≡◌, ◌⊎◌, ℕ, List, Option, false, true}
 use Rattle.std.specs.Io.KnownBytes.{Appends}
 use Rattle.std.specs.declared.ops.ControlFlow.TheVariants.{Continue, Break}
 use Rattle.plist_base.specs.declared.error.Error.{Error}
@@ -7,7 +7,7 @@ use Rattle.plist_base.specs.declared.sink.Sink.{Sink}
 use Rattle.plist_base.specs.Events.{PlainEvent}
 use Rattle.plist_base.specs.Faults.{Io, fault_without_offset, fault_of}
 use Rattle.plist_base.specs.Prefixes.{AppendsPrefix}
-use Rattle.plist_base.specs.Sinks.{IsSameSink, Puts, pending}
+use Rattle.plist_base.specs.Sinks.{IsSameSink, Puts, is_open, pending}
 use Rattle.plist_base.specs.Visits.{Flow}
 use Rattle.plist_print.specs.declared.printer.Printer.{Printer}
 use Rattle.plist_print.specs.EscapedLines.{line_of}
@@ -29,14 +29,15 @@ module _ {W : Type 0} (contents : W → Option (List ℕ)) where
   abbrev pub printed : Printer W → Option (List ℕ)
   printed printer = contents printer.sink.writer.now
 
-  -- the bytes are put into the sink, after the pending lines; or a write fails, and the printer
-  -- stops and its result is the error
+  -- The bytes are put into the sink, after the pending lines. `Continue` means that no write has
+  -- failed, if none had before.
   abbrev pub PrintsBytes : (old : Printer W) → (bytes : List ℕ) → Flow → (new : Printer W) → Type 0
   PrintsBytes old bytes (Continue more) new =
-      Puts contents (printer_sink old) bytes (Ok tt) (printer_sink new)
+      Puts contents (printer_sink old) bytes (printer_sink new)
+      × (is_open (printer_sink old) ≡ true → is_open (printer_sink new) ≡ true)
   PrintsBytes old bytes (Break stop) new =
-      (error : Error) × (new.result ≡ Err error)
-      × Puts contents (printer_sink old) bytes (Err (fault_of error)) (printer_sink new)
+      Puts contents (printer_sink old) bytes (printer_sink new)
+      × (is_open (printer_sink new) ≡ false)
 
   -- the line of the event is put into the sink
   abbrev pub PrintsLine : (old : Printer W) → PlainEvent → Flow → (new : Printer W) → Type 0

@@ -1,12 +1,12 @@
 //! Defines a visitor that prints every event on a line of its own.
 
-ghost use Rattle.std.specs.Prelude.{◌≡◌, ◌++◌, ◌+◌, ◌*◌, ◌≤◌, [], Ok, OnOk, codes, length};
+ghost use Rattle.std.specs.Prelude.{◌≡◌, ◌++◌, ◌+◌, ◌*◌, ◌≤◌, [], OnOk, codes, false, length, true};
 ghost use Rattle.plist_base.specs.Events.{ScalarEvent};
 ghost use Rattle.plist_base.specs.FixedBuffers.{room, buffer_capacity};
 ghost use Rattle.plist_base.specs.Sinks.{Puts};
 ghost use Rattle.plist_base.specs.Trees.{Data, String};
 ghost use Rattle.plist_base.specs.Utf16Strings.{chars_left, string_of_utf16};
-ghost use Rattle.plist_base.specs.Writing.{answer_of};
+ghost use Rattle.plist_base.specs.Outcomes.{OnlyDevice};
 ghost use Rattle.plist_print.specs.EscapedLines.{escaped_chars, event_of_short, in_notation};
 ghost use Rattle.plist_print.specs.PrintRuns.{PrintsRun};
 
@@ -21,7 +21,6 @@ use plist_base::{
 };
 use std::borrow::{CowSlice, CowStr};
 use std::io::Write;
-use std::mem;
 use std::ops::ControlFlow;
 
 // The line of a string or data of at most this many bytes fits into an empty buffer, even if each
@@ -45,45 +44,37 @@ struct Parts<'b> {
 }
 
 // Puts the printed form of a block of a string or data into the sink.
-fn put_block<W: Write>(
-    sink: &mut Sink<'_, W>,
-    block: &[u8],
-    notation: Notation,
-) -> Result<(), Error>
+fn put_block<W: Write>(sink: &mut Sink<'_, W>, block: &[u8], notation: Notation)
     requires { length block.now ≤ 4096 }
-    ensures { Puts W.contents sink.old (in_notation notation block.now) (answer_of result)
-        sink.new }
+    ensures { Puts W.contents sink.old (in_notation notation block.now) sink.new }
 {
-    sink.make_room(4 * BLOCK)?;
+    sink.make_room(4 * BLOCK);
     push_bytes(sink.buffer, block, notation);
-    Ok(())
 }
 
-// Puts the printed form of a string or data into the sink, block by block.
-fn put_blocks<W: Write>(
-    sink: &mut Sink<'_, W>,
-    bytes: &[u8],
-    notation: Notation,
-) -> Result<(), Error>
-    ensures { Puts W.contents sink.old (in_notation notation bytes.now) (answer_of result)
-        sink.new }
+// Puts the printed form of a string or data into the sink, block by block, unless a write fails.
+fn put_blocks<W: Write>(sink: &mut Sink<'_, W>, bytes: &[u8], notation: Notation)
+    ensures { Puts W.contents sink.old (in_notation notation bytes.now) sink.new }
 {
     let (blocks, rest) = bytes.as_chunks::<BLOCK>();
     for block in blocks {
-        put_block(sink, block, notation)?;
+        if !sink.is_open() {
+            return;
+        }
+        put_block(sink, block, notation);
     }
-    put_block(sink, rest, notation)
+    put_block(sink, rest, notation);
 }
 
 // Puts a line into the sink: its word, its bytes in blocks, and its end.
-fn put_parts<W: Write>(sink: &mut Sink<'_, W>, line: &Parts<'_>) -> Result<(), Error>
+fn put_parts<W: Write>(sink: &mut Sink<'_, W>, line: &Parts<'_>)
     ensures { Puts W.contents sink.old
         (line.now.word.now ++ in_notation line.now.notation line.now.bytes.now ++ line.now.end.now)
-        (answer_of result) sink.new }
+        sink.new }
 {
-    sink.put(line.word)?;
-    put_blocks(sink, line.bytes, line.notation)?;
-    sink.put(line.end)
+    sink.put(line.word);
+    put_blocks(sink, line.bytes, line.notation);
+    sink.put(line.end);
 }
 
 /// A visitor that prints every event on a line of its own.
@@ -93,21 +84,29 @@ fn put_parts<W: Write>(sink: &mut Sink<'_, W>, line: &Parts<'_>) -> Result<(), E
 #[derive(Drop)]
 pub struct Printer<'p, W> {
     sink: Sink<'p, W>,
-    // The error of the write that failed and stopped the printer, or `Ok`.
-    result: Result<(), Error>,
 }
 
 impl<'p, W: Write> Printer<'p, W> {
-    ghost use Rattle.std.specs.declared.ops.ControlFlow.TheVariants.{Continue};
+    ghost use Rattle.std.specs.declared.ops.ControlFlow.TheVariants.{Break, Continue};
+    ghost use Rattle.plist_base.specs.Sinks.{is_open};
     ghost use Rattle.plist_print.specs.Printers.{FailsAfterLines, IsSamePrinter, PrintsBytes, PrintsLine, pending_lines, printed, printer_sink};
 
     /// Creates a printer. The lines that are pending in the sink stay pending.
     pub fn new(sink: Sink<'p, W>) -> Printer<'p, W>
         ensures { result.sink ≡ sink.entry }
     {
-        Printer {
-            sink,
-            result: Ok(()),
+        Printer { sink }
+    }
+
+    // Returns `Break` if a write has failed.
+    fn flow(&self) -> ControlFlow<()>
+        ensures working { result ≡ Continue tt → is_open (printer_sink self.now) ≡ true }
+        ensures stopped { result ≡ Break tt → is_open (printer_sink self.now) ≡ false }
+    {
+        if self.sink.is_open() {
+            ControlFlow::Continue(())
+        } else {
+            ControlFlow::Break(())
         }
     }
 
@@ -116,16 +115,10 @@ impl<'p, W: Write> Printer<'p, W> {
     #[inline(never)]
     fn write_pending(&mut self) -> ControlFlow<()>
         ensures put { PrintsBytes W.contents self.old [] result self.new }
-        ensures empty { result ≡ Continue tt → pending_lines self.new ≡ [] }
-        ensures room { result ≡ Continue tt → room self.new.sink.buffer.now ≡ buffer_capacity }
+        ensures room { room self.new.sink.buffer.now ≡ buffer_capacity }
     {
-        match self.sink.write_pending() {
-            Ok(()) => ControlFlow::Continue(()),
-            Err(error) => {
-                self.result = Err(error);
-                ControlFlow::Break(())
-            }
-        }
+        self.sink.write_pending();
+        self.flow()
     }
 
     // Makes room for `size` more bytes, by writing the pending lines if there isn't enough.
@@ -133,7 +126,7 @@ impl<'p, W: Write> Printer<'p, W> {
     fn make_room(&mut self, size: usize) -> ControlFlow<()>
         requires { size ≤ buffer_capacity }
         ensures put { PrintsBytes W.contents self.old [] result self.new }
-        ensures room { result ≡ Continue tt → size ≤ room self.new.sink.buffer.now }
+        ensures room { size ≤ room self.new.sink.buffer.now }
     {
         if size <= self.sink.room() {
             return ControlFlow::Continue(());
@@ -146,13 +139,9 @@ impl<'p, W: Write> Printer<'p, W> {
     fn print_short(&mut self, line: ShortLine) -> ControlFlow<()>
         ensures { PrintsLine W.contents self.old (event_of_short line) result self.new }
     {
-        match self.make_room(MAX_FIXED_LINE) {
-            ControlFlow::Continue(()) => {
-                push_short(self.sink.buffer, line);
-                ControlFlow::Continue(())
-            }
-            ControlFlow::Break(()) => ControlFlow::Break(()),
-        }
+        let flow = self.make_room(MAX_FIXED_LINE);
+        push_short(self.sink.buffer, line);
+        flow
     }
 
     // Prints a line in parts.
@@ -163,13 +152,8 @@ impl<'p, W: Write> Printer<'p, W> {
             ++ in_notation line.now.notation line.now.bytes.now ++ line.now.end.now)
             result self.new }
     {
-        match put_parts(&mut self.sink, line) {
-            Ok(()) => ControlFlow::Continue(()),
-            Err(error) => {
-                self.result = Err(error);
-                ControlFlow::Break(())
-            }
-        }
+        put_parts(&mut self.sink, line);
+        self.flow()
     }
 
     // Prints a long string in parts. This is a separate function because the memory of `Parts` is
@@ -195,13 +179,9 @@ impl<'p, W: Write> Printer<'p, W> {
         if text.len() > MOST_AT_ONCE {
             return self.print_long_text(text);
         }
-        match self.make_room(4 * text.len() + MAX_FIXED_LINE) {
-            ControlFlow::Continue(()) => {
-                push_string(self.sink.buffer, text);
-                ControlFlow::Continue(())
-            }
-            ControlFlow::Break(()) => ControlFlow::Break(()),
-        }
+        let flow = self.make_room(4 * text.len() + MAX_FIXED_LINE);
+        push_string(self.sink.buffer, text);
+        flow
     }
 
     // Prints the characters that an iterator still has to yield, and the end of the line. The
@@ -249,22 +229,20 @@ impl<'p, W: Write> Printer<'p, W> {
                 end: b"\n",
             });
         }
-        match self.make_room(2 * bytes.len() + MAX_FIXED_LINE) {
-            ControlFlow::Continue(()) => {
-                push_data(self.sink.buffer, bytes);
-                ControlFlow::Continue(())
-            }
-            ControlFlow::Break(()) => ControlFlow::Break(()),
-        }
+        let flow = self.make_room(2 * bytes.len() + MAX_FIXED_LINE);
+        push_data(self.sink.buffer, bytes);
+        flow
     }
 
     // Writes the pending lines after the last event.
     fn finish(&mut self) -> Result<(), Error>
-        ensures put { Puts W.contents (printer_sink self.old) [] (answer_of result)
-            (printer_sink self.new) }
-        ensures empty { OnOk result (pending_lines self.new ≡ []) }
+        ensures put { Puts W.contents (printer_sink self.old) [] (printer_sink self.new) }
+        ensures empty { pending_lines self.new ≡ [] }
+        ensures sent { OnOk result (is_open (printer_sink self.new) ≡ true) }
+        ensures fault { OnlyDevice result }
     {
-        self.sink.write_pending()
+        self.sink.write_pending();
+        self.sink.result()
     }
 
     // Writes the lines that are pending when an error occurs. Returns this error, or the error of
@@ -282,13 +260,15 @@ impl<'p, W: Write> Printer<'p, W> {
     /// Prints the remaining events of a source, and writes all lines.
     pub fn print_all<I: EventSource>(&mut self, source: &mut I) -> Result<(), Error>
         requires empty { pending_lines self.old ≡ [] }
+        requires working { is_open (printer_sink self.old) ≡ true }
         ensures ran { PrintsRun I.yields source.old result source.new
             (printed W.contents self.old) (printed W.contents self.new) }
         ensures same { IsSamePrinter self.old self.new }
     {
         match source.visit(self) {
             Ok(Visited::Ended) => self.finish(),
-            Ok(Visited::Stopped) => mem::replace(&mut self.result, Ok(())),
+            // A write failed, so nothing more is written.
+            Ok(Visited::Stopped) => self.finish(),
             Err(error) => Err(self.finish_before(error)),
         }
     }

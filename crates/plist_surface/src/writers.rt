@@ -84,7 +84,8 @@ pub fn copied(alloc: Global, file: &[u8]) -> Result<Vec<u8>, Error> {
 
 // Writes the object of a Boolean by itself.
 pub fn put_true(sink: &mut Sink<'_, Vec<u8>>) -> Result<(), Error> {
-    forms::put_boolean(sink, true)
+    forms::put_boolean(sink, true);
+    sink.finish()
 }
 
 // Prints a line with a name and bytes in hexadecimal.

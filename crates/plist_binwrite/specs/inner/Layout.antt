@@ -1,13 +1,9 @@
 -- A planned file, the order of its objects, and their offsets.
-use Rattle.std.specs.Prelude.{◌≡◌, ◌≢◌, ◌↔◌, ℕ, ◌+◌, ◌*◌, ◌^◌, ◌<◌, ◌≤◌, true, eqb, List, ◌++◌, length, slice_index, map, Option, Ok, OnOk}
+use Rattle.std.specs.Prelude.{◌≡◌, ◌≢◌, ◌↔◌, ℕ, ◌^◌, ◌<◌, ◌≤◌, true, eqb, List, ◌++◌, length, slice_index, map, Option}
 use Rattle.std.specs.List.{list_any, IsDistinct}
-use Rattle.std.specs.Str.{IsUtf8}
 use Rattle.plist_base.specs.Bracketing.{bracketing, AreAlike}
-use Rattle.plist_base.specs.FixedBuffers.{room}
-use Rattle.plist_base.specs.Sinks.{HasPut, Puts}
-use Rattle.plist_base.specs.declared.fixed_buffer.FixedBuffer.{FixedBuffer}
+use Rattle.plist_base.specs.Sinks.{HasPut, Puts, is_open}
 use Rattle.plist_base.specs.Trees.{Tree}
-use Rattle.plist_base.specs.Writing.{Answer}
 use Rattle.plist_base.specs.declared.sink.Sink.{Sink}
 use Rattle.plist_base.specs.Object.{Object}
 use Rattle.plist_buffer.specs.Children.{half_of}
@@ -17,21 +13,11 @@ use Rattle.plist_buffer.specs.declared.children.Half.TheVariants.{Keys, Values}
 use Rattle.plist_base.specs.declared.marker.CountedKind.{CountedKind}
 use Rattle.plist_binwrite.specs.Classes.{Describes, IsFileBy, object_of}
 use Rattle.plist_binwrite.specs.EventClasses.{events_in, class_in}
-use Rattle.plist_base.specs.Utf16.{units_of}
 use Rattle.plist_binwrite.specs.Forms.{form, length_form, reference_width, table_form}
 use Rattle.plist_binwrite.specs.Sizes.{size_with}
 use Rattle.plist_binwrite.specs.Written.{Laid, laid_out}
 use Rattle.plist_binwrite.specs.declared.plan.FilePlan.{FilePlan}
 use Rattle.plist_binwrite.specs.inner.Numbering.{IsNumberingOfEvents, object_number, size_below}
-
--- the UTF-16 units of the first characters of a string are pushed; `old` and `new` are the buffer
--- and the rest of the string
-pub record PushesUnits (old new : FixedBuffer × List ℕ) : Type 0 where
-  pub front : List ℕ
-  pub left : units_of old.1 ≡ front ++ units_of new.1
-  pub utf8 : IsUtf8 new.1
-  pub pushed : new.0 ≡ old.0 ++ table_form 2 front
-  pub fewer : room new.0 + 2 * length front ≡ room old.0
 
 module _ (plan : FilePlan) where
   -- the number of the object of the event at an index
@@ -57,14 +43,6 @@ module _ (plan : FilePlan) where
       length_form kind (length (half_of (events_in plan.given) Values index))
       ++ (references_of Keys index ++ references_of Values index)
 
-  -- references are pushed to some of the events at these indices, in order; `old` and `new` are the
-  -- buffer and the indices that are left
-  pub record PushesReferences (old new : FixedBuffer × List ℕ) : Type 0 where
-    pub front : List ℕ
-    pub left : old.1 ≡ front ++ new.1
-    pub pushed : new.0 ≡ old.0 ++ table_form plan.width (map number_of_event front)
-    pub fewer : room new.0 + plan.width * length front ≡ room old.0
-
   -- the object of the event at this index has an offset
   abbrev pub HasStoredOffset : (offsets : List ℕ) → (index : ℕ) → Type 0
   HasStoredOffset offsets index = slice_index offsets (number_of_event index) ≢ 0
@@ -80,38 +58,31 @@ module _ (plan : FilePlan) where
 
   module _ {W : Type 0} (contents : W → Option (List ℕ)) where
     -- the magic and some of the objects are put
-    pub record ArePut (start : Sink W) (offsets : List ℕ) (answer : Answer) (sink : Sink W)
-        : Type 0 where
+    pub record ArePut (start : Sink W) (offsets : List ℕ) (sink : Sink W) : Type 0 where
       pub objects : ℕ → Object
       pub order : List ℕ
       pub layout : IsLayout objects order offsets
-      pub put : Puts contents start (laid_out plan.width objects order) answer sink
+      pub put : Puts contents start (laid_out plan.width objects order) sink
 
     -- a file of the tree with these events is put
-    abbrev pub PutsFile : (start : Sink W) → Answer → Sink W → Type 0
-    PutsFile start answer sink = (file : List ℕ) × ((tree : Tree)
+    abbrev pub PutsFile : (start new : Sink W) → Type 0
+    PutsFile start new = (file : List ℕ) × ((tree : Tree)
         → AreAlike (events_in plan.given) (bracketing tree) → IsFileBy (class_in plan.given) tree file)
-        × Puts contents start file answer sink
+        × Puts contents start file new
 
-    -- a call puts the object of the tree that begins at an index, with this result
-    abbrev pub PutsObject : (index : ℕ) (old : Sink W) → Answer → (new : Sink W) → Type 0
-    PutsObject index old answer new =
+    -- a call puts the object of the tree that begins at an index
+    abbrev pub PutsObject : (index : ℕ) (old new : Sink W) → Type 0
+    PutsObject index old new =
         (tree : Tree) → OccursAt (events_in plan.given) tree index
-        → Puts contents old (form plan.width (object_of number_of_event tree index)) answer new
+        → Puts contents old (form plan.width (object_of number_of_event tree index)) new
 
-    -- the objects of the events at the asked indices, and maybe others, are put, unless they were
-    -- put before, and each object that had an offset has one; `old` and `new` are the offsets and
-    -- the sink before and after
-    pub record PutsObjects (asked : ℕ → Type 0) (old : List ℕ × Sink W) (answer : Answer)
-        (new : List ℕ × Sink W) : Type 0 where
+    -- The objects of the events at the asked indices, and maybe others, are put, unless they were
+    -- put before or a write fails, and each object that had an offset has one. `old` and `new` are
+    -- the offsets and the sink before and after.
+    pub record PutsObjects (asked : ℕ → Type 0) (old new : List ℕ × Sink W) : Type 0 where
       pub long : length new.0 ≡ length old.0
-      pub step : (start : Sink W) → HasPut start 0 → ArePut start old.0 (Ok tt) old.1
-          → ArePut start new.0 answer new.1
+      pub was_open : is_open new.1 ≡ true → is_open old.1 ≡ true
+      pub step : (start : Sink W) → HasPut start 0 → ArePut start old.0 old.1
+          → ArePut start new.0 new.1
           × ((k : ℕ) → slice_index old.0 k ≢ 0 → slice_index new.0 k ≢ 0)
-          × OnOk answer ((p : ℕ) → asked p → HasStoredOffset new.0 p)
-
-    -- only the object of the event at an index, whose offset is stored, still has to be put
-    abbrev pub LacksObject : (index : ℕ) (old new : List ℕ × Sink W) → Type 0
-    LacksObject index old new = (answer : Answer) (after : Sink W)
-        → PutsObject index new.1 answer after
-        → PutsObjects (λ p. index ≡ p) old answer (new.0, after)
+          × (is_open new.1 ≡ true → (p : ℕ) → asked p → HasStoredOffset new.0 p)

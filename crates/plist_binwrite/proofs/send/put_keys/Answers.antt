@@ -1,12 +1,11 @@
-use Rattle.std.proofs.Common.{◌≡◌, Err, Ok, ap, arith, length, sym, subst, ◌∙◌}
-use Rattle.std.proofs.lemmas.Result.{err_from_is_err_and}
+use Rattle.std.proofs.Common.{◌≡◌, ap, arith, length, sym, subst, ◌∙◌}
 use Rattle.std.specs.List.{AllByRecursion, Contains}
 use Rattle.plist_buffer.specs.Children.{half_of, indices_left}
 use Rattle.plist_binwrite.specs.EventClasses.{events_in}
 use Rattle.plist_buffer.specs.EventTable.{HasItem}
 use Rattle.plist_buffer.specs.declared.children.Half.TheVariants.{Keys}
 use Rattle.plist_buffer.proofs.ChildIndices.{are_items}
-use Rattle.plist_binwrite.proofs.PuttingObjects.{next_or_left, puts_before, puts_both, puts_part}
+use Rattle.plist_binwrite.proofs.PuttingObjects.{next_or_left, puts_before, puts_both}
 use Rattle.plist_binwrite.specs.inner.Layout.{PutsObjects}
 use Rattle.plist_binwrite.proofs.send.put_keys.Goals as goal
 use Rattle.plist_binwrite.proofs.send.put_keys.Goals.{After-into_iter-key-iterator as Begun}
@@ -18,7 +17,7 @@ begun g c = cc (c.into_iter-key-iterator.ensures.into_iter_gives, c.new-key-item
 pub loop-key-init : goal.loop-key-init
 loop-key-init g c = record {
   long = c.requires.long;
-  rest = λ answer after all. all;
+  rest = λ after all. all;
   items = subst (AllByRecursion (HasItem _))
       (sym (begun g (goal.at.loop-key-init g c).After-into_iter-key-iterator))
       (are_items _ Keys c.args.index);
@@ -27,39 +26,18 @@ loop-key-init g c = record {
 pub loop-key-preserved : goal.loop-key-preserved
 loop-key-preserved g c =
     let i = c.loop-key.invariant in
-    let one = c.begin_object.ensures.put c.if-begin_object.false in
+    let one = c.put_once.ensures in
     let next = c.in-Some.ensures.steps in
     record {
       long = one.long ∙ i.long;
-      rest = λ answer after more.
-          i.rest answer after (puts_both answer (next_or_left _ _ next) one more);
+      rest = λ after more. i.rest after (puts_both (next_or_left _ _ next) one more);
       items = (subst (AllByRecursion (HasItem _)) next i.items).1;
     }
-
-pub loop-key-preserved-in-Continue-1 : goal.loop-key-preserved-in-Continue-1
-loop-key-preserved-in-Continue-1 g c =
-    let i = c.loop-key.invariant in
-    let one = c.begin_object.ensures.begun c.if-begin_object.true (Ok tt) _
-    c.in_ok-put_object.ensures in
-    let next = c.in-Some.ensures.steps in
-    record {
-      long = one.long ∙ i.long;
-      rest = λ answer after more.
-          i.rest answer after (puts_both answer (next_or_left _ _ next) one more);
-      items = (subst (AllByRecursion (HasItem _)) next i.items).1;
-    }
-
-pub returns-in_err-put_object : goal.returns-in_err-put_object
-returns-in_err-put_object g c =
-    let p = err_from_is_err_and c.from_residual.result c.from_residual.ensures.1 in
-    rw (p.1, p.2)
-    (puts_part (c.loop-key.invariant.rest (Err _) _ (puts_part
-    (c.begin_object.ensures.begun c.if-begin_object.true (Err _) _ c.in_err-put_object.ensures))))
 
 pub returns : goal.returns
 returns g c =
     subst (λ all. PutsObjects c.args.plan.now g.W.Write.contents (Contains all)
-    (c.args.offsets.now, c.args.sink.now) (Ok tt) (c.loop-key.offsets, c.loop-key.sink))
+    (c.args.offsets.now, c.args.sink.now) (c.loop-key.offsets, c.loop-key.sink))
     (begun g (goal.at.returns g c).After-into_iter-key-iterator)
-    (c.loop-key.invariant.rest (Ok tt) _ (puts_before (λ p (k, low, is).
+    (c.loop-key.invariant.rest _ (puts_before (λ works p (k, low, is).
     absurd (omega (arith, low, ap length c.in-None.ensures.steps.0)))))

@@ -1,6 +1,5 @@
 use Rattle.std.proofs.Common.{◌≡◌, List, ℕ, length}
 use Rattle.std.specs.List.{AllByRecursion, Contains}
-use Rattle.plist_base.specs.Writing.{Answer}
 use Rattle.plist_base.specs.declared.sink.Sink.{Sink}
 use Rattle.plist_buffer.specs.Children.{indices_left}
 use Rattle.plist_binwrite.specs.EventClasses.{events_in}
@@ -11,10 +10,10 @@ use Rattle.plist_binwrite.proofs.send.put_keys.Given as goal
 abbrev pub invariant-loop-key : goal.invariant-loop-key
 invariant-loop-key g l = record {
   long : length l.offsets ≡ l.plan.numbering.count;
-  rest : (answer : Answer) (after : List ℕ × Sink g.row.W.Denot)
+  rest : (after : List ℕ × Sink g.row.W.Denot)
       → PutsObjects l.plan g.W.Write.contents (Contains (indices_left l.key-iterator)) (l.offsets, l.sink)
-      answer after
+      after
       → PutsObjects l.plan g.W.Write.contents (Contains (indices_left l.initial.key-iterator))
-      (l.initial.offsets, l.initial.sink) answer after;
+      (l.initial.offsets, l.initial.sink) after;
   items : AllByRecursion (HasItem (events_in l.plan.given)) (indices_left l.key-iterator);
 }

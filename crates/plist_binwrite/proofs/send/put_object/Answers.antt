@@ -1,6 +1,5 @@
-use Rattle.std.proofs.Common.{refl}
 use Rattle.plist_base.proofs.SinkSteps.{puts_as}
-use Rattle.plist_binwrite.proofs.TreeObjects.{array_is, dictionary_is, of_array, of_dictionary, of_nothing, of_scalar}
+use Rattle.plist_binwrite.proofs.TreeObjects.{array_is, dictionary_is, of_array, of_dictionary, of_scalar}
 use Rattle.plist_binwrite.proofs.send.put_object.Goals as goal
 
 pub returns-in-StartArray : goal.returns-in-StartArray
@@ -15,7 +14,3 @@ returns-in-StartDictionary g c =
 
 pub returns-in-Some : goal.returns-in-Some
 returns-in-Some g c = of_scalar _ c.in-Some.ensures.some c.put_scalar.ensures
-
-pub returns-in-None : goal.returns-in-None
-returns-in-None g c =
-    of_nothing c.kind_at.ensures _ c.in-Scalar.is (c.in-None.ensures.none refl)

@@ -1,4 +1,4 @@
-use Rattle.std.proofs.Common.{◌<◌, Ok}
+use Rattle.std.proofs.Common.{◌<◌}
 use Rattle.plist_binwrite.specs.EventClasses.{events_in}
 use Rattle.plist_buffer.specs.EventTable.{HasItem}
 use Rattle.plist_binwrite.specs.inner.Layout.{PutsObjects}
@@ -7,4 +7,4 @@ use Rattle.plist_binwrite.proofs.send.put_objects.Given as goal
 abbrev pub invariant-loop-index : goal.invariant-loop-index
 invariant-loop-index g l =
     PutsObjects l.plan g.W.Write.contents (λ p. (p < l.index) × HasItem (events_in l.plan.given) p)
-    (l.fn.offsets, l.fn.sink) (Ok tt) (l.offsets, l.sink)
+    (l.fn.offsets, l.fn.sink) (l.offsets, l.sink)

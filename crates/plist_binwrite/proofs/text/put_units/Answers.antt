@@ -1,46 +1,48 @@
-use Rattle.std.proofs.Common.{◌++◌, [], ap, append_assoc, length, refl, sym, ◌∙◌}
+use Rattle.std.proofs.Common.{◌≡◌, ◌++◌, [], ap, append-nil, subst, sym, ◌∙◌}
+use Rattle.std.specs.Char.Escape.{encode_utf16}
 use Rattle.std.specs.Int.{bytes_high_first}
+use Rattle.std.specs.Str.{IsUtf8}
+use Rattle.std.specs.Str.Iter.{chars_rest}
 use Rattle.std.proofs.lemmas.Grind.{flat_map-append}
-use Rattle.plist_base.proofs.SinkSteps.{puts_as, puts_none, puts_pending, puts_refused, puts_then}
+use Rattle.std.proofs.lemmas.Str.{IsUtf8-past_char}
+use Rattle.plist_base.proofs.SinkSteps.{puts_as, puts_none, puts_then}
 use Rattle.plist_base.specs.Utf16.{units_of}
 use Rattle.plist_binwrite.specs.Forms.{table_form}
 use Rattle.plist_buffer.proofs.TextUnits.{units_empty}
-use Rattle.plist_binwrite.proofs.UnitLists.{whole_units}
+use Rattle.plist_binwrite.proofs.UnitLists.{units_more}
 use Rattle.plist_binwrite.proofs.text.put_units.Goals as goal
+use Rattle.plist_binwrite.proofs.text.put_units.Goals.{After-into_iter-c-iterator as Begun}
 
-pub loop-sink-init : goal.loop-sink-init
-loop-sink-init g c = record {
-  utf8 = rw c.chars-chars.ensures.rest c.utf8.text;
-  done = [];
-  put = puts_none;
-  left = ap units_of c.chars-chars.ensures.rest;
-}
+-- the iterator begins with the whole string
+begun : (g : _) (c : Begun g) → chars_rest c.into_iter-c-iterator.result ≡ c.args.text.now
+begun g c = cc (c.into_iter-c-iterator.ensures.into_iter_gives, c.chars-c-items.ensures.rest)
 
-pub returns-in_err-make_room : goal.returns-in_err-make_room
-returns-in_err-make_room g c =
-    let i = c.loop-sink.invariant in
-    puts_as (sym (flat_map-append (bytes_high_first 2) i.done _) ∙ ap (table_form 2) i.left)
-    (puts_then i.put (puts_refused _ _ _ c.from_residual.ensures.1 c.in_err-make_room.ensures.put))
-
-pub returns-then-push_units : goal.returns-then-push_units
-returns-then-push_units g c =
-    let i = c.loop-sink.invariant in
-    let pushed = c.push_units.ensures.pushed in
-    let none = units_empty _ (ap length (c.push_units.ensures.all c.if-push_units.true)) in
-    puts_as (sym (flat_map-append (bytes_high_first 2) i.done pushed.front)
-    ∙ ap (table_form 2) (ap (λ l. i.done ++ l) (whole_units pushed none) ∙ i.left))
-    (puts_then i.put (puts_then c.in_ok-make_room.ensures.put
-    (puts_pending (record { writer = refl; buffer = refl }) refl pushed.pushed refl)))
-
-pub loop-sink-preserved : goal.loop-sink-preserved
-loop-sink-preserved g c =
-    let i = c.loop-sink.invariant in
-    let pushed = c.push_units.ensures.pushed in
+pub loop-c-init : goal.loop-c-init
+loop-c-init g c =
+    let is = begun g (goal.at.loop-c-init g c).After-into_iter-c-iterator in
     record {
-      utf8 = pushed.utf8;
-      done = i.done ++ pushed.front;
-      put = puts_as (sym (flat_map-append (bytes_high_first 2) i.done pushed.front))
-          (puts_then i.put (puts_then c.in_ok-make_room.ensures.put
-          (puts_pending (record { writer = refl; buffer = refl }) refl pushed.pushed refl)));
-      left = append_assoc i.done pushed.front _ ∙ ap (λ l. i.done ++ l) (sym pushed.left) ∙ i.left;
+      utf8 = subst IsUtf8 (sym is) c.utf8.text;
+      done = [];
+      put = puts_none;
+      left = ap units_of is;
     }
+
+pub loop-c-preserved : goal.loop-c-preserved
+loop-c-preserved g c =
+    let i = c.loop-c.invariant in
+    let parts = c.in-Some.ensures.steps.0 in
+    let x = c.in-Some.c in
+    record {
+      utf8 = IsUtf8-past_char _ _ x i.utf8 parts;
+      done = i.done ++ encode_utf16 x;
+      put = puts_as (sym (flat_map-append (bytes_high_first 2) i.done (encode_utf16 x)))
+          (puts_then i.put c.put_char.ensures);
+      left = units_more i.done _ _ x i.utf8 parts i.left;
+    }
+
+pub returns : goal.returns
+returns g c =
+    let i = c.loop-c.invariant in
+    let none = units_empty _ c.in-None.ensures.steps.0.0 in
+    puts_as (ap (table_form 2) (sym (append-nil i.done) ∙ ap (λ l. i.done ++ l) (sym none) ∙ i.left))
+    i.put

@@ -1,8 +1,8 @@
-use Rattle.plist_base.proofs.SinkSteps.{puts_refused}
-use Rattle.plist_print.specs.EscapedLines.{in_notation}
+use Rattle.std.proofs.Common.{refl}
+use Rattle.plist_base.proofs.SinkSteps.{puts_pending, puts_then}
 use Rattle.plist_print.proofs.printer.put_block.Goals as goal
 
-pub returns-in_err-make_room : goal.returns-in_err-make_room
-returns-in_err-make_room g c =
-    puts_refused (in_notation c.args.notation c.args.block.now) c.from_residual.result _
-    c.from_residual.ensures.1 c.in_err-make_room.ensures.put
+pub returns : goal.returns
+returns g c =
+    puts_then c.make_room.ensures.put
+    (puts_pending (record { writer = refl; buffer = refl }) refl c.push_bytes.ensures refl)
