@@ -7,7 +7,7 @@
 //! `small_files`), `ascii` and `either`, and the `writer`; `values` and their `contents`;
 //! `writers`, for values that are written; `stored`, for files; `pairs`, `entries` and
 //! `iterators`, for dictionaries; `depths`, for recursions over dictionaries; `archives`;
-//! `commands`; and `lemmas`.
+//! `commands`; `idioms`, of ported programs; and `lemmas`.
 //!
 //! A caller that is named after a bug returns `true` if the library has that bug, or it has a
 //! clause about the result or the state that the bug would change. Unless its documentation names
@@ -28,6 +28,7 @@ pub mod entries;
 pub mod events;
 pub mod faults;
 pub mod hashes;
+pub mod idioms;
 pub mod iterators;
 pub mod lemmas;
 pub mod limits;
