@@ -440,7 +440,7 @@ def sizes(calls):
     # the objects of a file, all of them the same string
     add("binary", "objects", (1, 65_536, 65_537), f"{reads} |")
     add("binary", "objects", [1_000_000], "next |")
-    # the integers of an array, and the arrays that are open at once; `deep.rt` has more of them
+    # the integers of an array, and the arrays that are open at once; `deep.rt` has 100,000 of these
     for shape in ("items", "levels"):
         add("binary", shape, (0, 1), f"{reads} | {writes}")
         add("ASCII", shape, (0, 1), ascii_reads)
@@ -484,11 +484,12 @@ def counted(calls):
         # look at the object, and for each run of references one at the references.
         looks = events + events // 4 + 20 + ahead
         calls.counts("reads of buffered bytes", file, [events], [10, 100, looks])
-    file = file_of_objects(inputs[0][0], count)
     # A buffer of 65,536 bytes is written if the next bytes don't fit, and these bytes may be written directly.
-    for name, size in (("BinaryWriter", len(file)), ("SharingWriter", len(file)), ("value", len(file)),
-                       ("printer", 40 * count)):
-        calls.counts(f"writes of a {name}", file, [], [2 * (size // 60_000) + 4, size])
+    for objects, events, _ in (inputs[0], inputs[3]):
+        file = file_of_objects(objects, len(objects) - 1)
+        for name, size in (("BinaryWriter", len(file)), ("SharingWriter", len(file)), ("value", len(file)),
+                           ("printer", 40 * (events + 2))):
+            calls.counts(f"writes of a {name}", file, [], [2 * (size // 60_000) + 4, size])
 
 
 def run(calls):
