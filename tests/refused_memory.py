@@ -4,7 +4,7 @@
 The n-th call of malloc, realloc, aligned_alloc or posix_memalign fails. Then a command has to do what it
 does with enough memory, or to print a prefix of its lines, report `OutOfMemory` and end with status 1;
 `convert` leaves OUT unchanged, or writes all of it. With wrong arguments nothing is printed, the usage is
-reported, and the status is 2.
+reported, and the status is 2. With enough memory, the program also reads a sparse file of more than 4 GiB.
 
 Usage: refused_memory.py      Needs a C compiler. Prints counts at the end, and has status 1 if a run does anything else.
 """
@@ -90,6 +90,23 @@ def is_usage(driver, words, output):
     return False
 
 
+def reads_far(driver, file):
+    """Returns whether the objects of a sparse file are read beyond 4 GiB, and not modulo 4 GiB."""
+    far = (1 << 32) + 50
+    table = far + 4
+    places = b"".join(place.to_bytes(8, "big") for place in (8, 50, far))
+    numbers = b"".join(number.to_bytes(8, "big") for number in (3, 0, table))
+    with open(file, "wb") as out:
+        out.write(b"bplist00\xa2\1\2".ljust(50) + b"\x54near")
+        out.seek(far)
+        out.write(b"\x53far" + places + bytes(6) + b"\x08\1" + numbers)
+    found, _ = driver.run(0, ["print", file])
+    if found == (0, b'StartArray 2\nString "near"\nString "far"\nEndCollection\n', b""):
+        return True
+    print(f"a sparse file: {found!r}")
+    return False
+
+
 def sweep(driver, name, words, output=None):
     """Lets each allocation of a command fail in turn; `output` is the file that it writes."""
     counts = collections.Counter()
@@ -144,6 +161,7 @@ def main():
         wrong = [[], ["print"], ["print", SETTINGS, "more"], ["show", SETTINGS],
                  ["convert", SETTINGS, out, "more"], ["keyed", ARCHIVE, "root", "more"]]
         bad += sum(not is_usage(driver, words, out) for words in wrong)
+        bad += not reads_far(driver, folder / "far.plist")
     return 1 if bad else 0
 
 
