@@ -221,7 +221,8 @@ impl Value {
     /// the data have more than the given number of bytes together.
     ///
     /// Use it for a file that anyone may have sent: the value has no more events, levels and bytes
-    /// than the caller allows, whatever the file contains.
+    /// than the caller allows, whatever the file contains. Besides the memory that
+    /// [`Value::from_reader_within`] takes, the windows of the file take at most 68 MB.
     ///
     /// # Errors
     ///

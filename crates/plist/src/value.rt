@@ -332,7 +332,9 @@ impl Value {
     /// and counts again for every further reference to it.
     ///
     /// Use it for untrusted files: the value has no more events, levels and bytes than the caller
-    /// allows, whatever the source contains.
+    /// allows, whatever the source contains. Besides the value, the call takes at most nine bytes
+    /// per object of a binary file's table, and the longest string or data. A string in UTF-16
+    /// takes up to 2.5 times its bytes in the file.
     ///
     /// # Errors
     ///
