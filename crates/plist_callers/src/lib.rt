@@ -31,6 +31,7 @@ pub mod hashes;
 pub mod idioms;
 pub mod iterators;
 pub mod lemmas;
+pub mod limited_values;
 pub mod limits;
 pub mod pairs;
 pub mod reals;
