@@ -1,11 +1,10 @@
 -- Big-endian numbers, and the least width of a number.
-use Rattle.std.proofs.Common.{◌≡◌, inl, inr, ℕ, zero, suc, ◌+◌, ◌-◌, ◌*◌, ◌/◌, ◌%◌, ◌^◌, ◌<◌, ◌≤◌, List, length, drop, take, refl, ap, sym, subst, ◌∙◌, arith}
+use Rattle.std.proofs.Common.{◌≡◌, inl, inr, ℕ, zero, suc, ◌+◌, ◌-◌, ◌*◌, ◌/◌, ◌%◌, ◌^◌, ◌<◌, ◌≤◌, length, take, refl, ap, sym, subst, ◌∙◌, arith}
 use Rattle.std.specs.Int.{byte_at, bytes_high_first}
 use Rattle.std.specs.Int.Digits.{number_from_digits_after}
 use Rattle.std.proofs.Math.Nat.{pow-succ', dvd-mul_right, mod-mod_of_dvd, mul-div-mul_right}
 use Rattle.std.proofs.lemmas.Bool.{lt-ltb, le-ltb, cases_lt}
 use Rattle.std.proofs.lemmas.Nat.{div-mul-add, mod_below, pow-add}
-use Rattle.std.proofs.Math.Seq.{take-length}
 use lib.Arith.{mod-mul}
 use native.Mathlib.Nat.{mod-eq_of_lt}
 use Rattle.plist_base.specs.Container.{number_of}

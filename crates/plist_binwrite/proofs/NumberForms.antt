@@ -3,9 +3,9 @@ use Rattle.std.proofs.Common.{◌≡◌, ℕ, zero, suc, ◌+◌, ◌*◌, ◌^�
 use Rattle.std.specs.Int.{byte_at, bytes_high_first}
 use Rattle.std.proofs.lemmas.Bool.{lt-ltb, le-ltb}
 use native.Mathlib.Nat.{div-eq_of_lt}
-use Rattle.plist_base.specs.Object.{byte_of, high_half}
+use Rattle.plist_base.specs.Object.{high_half}
 use Rattle.plist_base.specs.declared.marker.CountedKind.{CountedKind}
-use Rattle.plist_binwrite.specs.Forms.{integer_marker, least_width, unsigned_form, length_form}
+use Rattle.plist_binwrite.specs.Forms.{unsigned_form, length_form}
 
 pub length_short : (kind : CountedKind) (count : ℕ) → count < 15 → length_form kind count ≡ (high_half kind * 16 + count) ∷ []
 unfolding length_form

@@ -1,5 +1,5 @@
 -- The objects of trees by their indices: their forms, their sizes, and that they can be written.
-use Rattle.std.proofs.Common.{◌≡◌, ◌⊎◌, inl, inr, ℕ, ◌+◌, ◌*◌, ◌^◌, ◌<◌, ◌≤◌, false, List, ◌∷◌, length, flat_map, map, refl, ap, subst, ◌∙◌, arith, length-append}
+use Rattle.std.proofs.Common.{◌≡◌, inl, inr, ℕ, ◌+◌, ◌*◌, ◌^◌, ◌<◌, ◌≤◌, false, List, ◌∷◌, length, flat_map, map, refl, ap, subst, ◌∙◌, arith, length-append}
 use Rattle.std.proofs.lemmas.List.{length-map}
 use Rattle.plist_base.specs.declared.marker.CountedKind.TheVariants as kind
 use Rattle.plist_base.specs.Events.{PlainEvent, ScalarEvent, shape_of}
@@ -19,9 +19,8 @@ use Rattle.plist_buffer.specs.declared.children.Half.TheVariants.{Values}
 use Rattle.plist_binwrite.specs.EventClasses.{events_in}
 use Rattle.plist_binwrite.specs.declared.plan.FilePlan.{FilePlan}
 use Rattle.plist_binwrite.specs.inner.Layout.{collection_form, number_of_event}
-use Rattle.plist_buffer.specs.inner.Entries.{is_leaf}
 use Rattle.plist_buffer.proofs.TreeOccurrences.{occurs_items, occurs_pairs, occurs_item, occurs_next, occurs_key, occurs_value, occurs_next_pair}
-use Rattle.plist_buffer.proofs.TreeStarts.{stands_single, starts_array, starts_dictionary, no_start, begins, occurs_in}
+use Rattle.plist_buffer.proofs.TreeStarts.{stands_single, starts_array, starts_dictionary, begins, occurs_in}
 use Rattle.plist_buffer.proofs.ChildIndices.{few_children, keys_are_in, values_are_in}
 use Rattle.plist_binwrite.proofs.Reading.{length-keys_of, length-values_of}
 use Rattle.plist_binwrite.proofs.ReadingNumbers.{length-table}

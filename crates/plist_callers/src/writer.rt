@@ -1,10 +1,10 @@
 //! Proved callers of a writer: a new one hasn't failed, and returns the inner writer that it was
 //! given; one that ran out of memory for an event has failed; a sink that is finished has no
-//! pending bytes.
+//! pending bytes, and one that has failed doesn't call its writer.
 
-ghost use Rattle.std.specs.Prelude.{◌≡◌, [], Err, IfErr, IfSome, ⊤};
-ghost use Rattle.plist_base.specs.Faults.{WriterFailed, error_kind_of, fault_without_offset, kind_of};
-ghost use Rattle.plist_base.specs.Sinks.{pending};
+ghost use Rattle.std.specs.Prelude.{◌≡◌, [], false, Err, IfErr, IfSome, IsErrAnd, ⊤};
+ghost use Rattle.plist_base.specs.Faults.{Io, WriterFailed, error_kind_of, fault_of, fault_without_offset, kind_of};
+ghost use Rattle.plist_base.specs.Sinks.{is_open, pending};
 ghost use Rattle.plist_base.specs.Writing.{MatchKind, answer_of};
 ghost use Rattle.plist_binwrite.specs.FileWriter.{sink_of};
 
@@ -52,6 +52,20 @@ pub fn next_without_memory<W: Write + Drop>(
         }
         _ => None,
     }
+}
+
+/// Puts bytes into a sink that has failed, and finishes it. Its writer isn't called any more.
+///
+/// # Errors
+///
+/// `Io`, without an offset, in every case.
+pub fn put_after_failure<W: Write>(sink: &mut Sink<'_, W>, bytes: &[u8]) -> Result<(), Error>
+    requires { is_open sink.old ≡ false }
+    ensures unasked { sink.new.writer.now ≡ sink.old.writer.now }
+    ensures fails { IsErrAnd result (λ error. fault_of error ≡ fault_without_offset Io) }
+{
+    sink.put(bytes);
+    sink.finish()
 }
 
 /// Finishes a sink, which then has no pending bytes.

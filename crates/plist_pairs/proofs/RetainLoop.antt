@@ -1,14 +1,12 @@
 -- Which items are left by a loop that moves to the front the items that it keeps.
 use Rattle.std.proofs.Common.{◌≡◌, ℕ, ◌+◌, ◌≤◌, Bool, true, false, List, [], ◌∷◌, ◌++◌, length, take, set, get_or, filter, refl, sym, ap, subst, ◌∙◌, append_assoc, arith, length-append, Some, slice_get, swap, append-nil}
 use Rattle.std.specs.List.{AllZip, items_where_true}
-use Rattle.std.specs.Map.{keys_of}
 use Rattle.std.proofs.Math.Seq.{get_or-append_seam, set-append_seam, take-append_seam}
 use Rattle.std.proofs.lemmas.List.{nil_from_length}
 use Rattle.std.proofs.lemmas.List.Edits.{swap_is}
 use Rattle.std.proofs.lemmas.Option.{none-some, same_Some}
 use Rattle.indexmap.proofs.IndexTableLemmas.Indexes.{swap_self}
 use Rattle.indexmap.proofs.SetLemmas.{AllZip-push}
-use Rattle.plist_pairs.proofs.PairColumns.{get-map}
 
 module _ {X : Type 0} where
   -- two items are swapped, whatever is between them

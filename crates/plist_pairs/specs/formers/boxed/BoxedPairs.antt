@@ -2,7 +2,7 @@
 use Rattle.std.specs.Prelude.{◌≡◌, ℕ, List, [], Option, None, Some}
 use mathlib.Core.Path.{refl}
 use mathlib.Core.Logic.{◌⊎◌, inl, inr}
-use mathlib.Core.Former.{Former, this, const, pair, or, list, via, children}
+use mathlib.Core.Former.{Former, this, const, pair, or, via, children}
 use base.Stored.{gnil}
 use base.Fml.{ftrue}
 use denote.RattleType.{RattleType}

@@ -1,4 +1,4 @@
-use Rattle.std.proofs.Common.{◌≡◌, List, ℕ, string_bytes, refl, subst, ◌∙◌, arith}
+use Rattle.std.proofs.Common.{List, ℕ, string_bytes, refl, subst, ◌∙◌, arith}
 use Rattle.plist_pairs.specs.Bulk.{AnswersAtPair}
 use Rattle.plist_pairs.proofs.RetainLoop.{kept-none, kept-all, step-one, step-other}
 use Rattle.plist_pairs.proofs.pairs.Pairs.retain.Goals.{then-keep, else-keep}
