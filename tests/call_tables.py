@@ -485,11 +485,20 @@ def counted(calls):
         looks = events + events // 4 + 20 + ahead
         calls.counts("reads of buffered bytes", file, [events], [10, 100, looks])
     # A buffer of 65,536 bytes is written if the next bytes don't fit, and these bytes may be written directly.
+    # At the end the writer is flushed once.
     for objects, events, _ in (inputs[0], inputs[3]):
         file = file_of_objects(objects, len(objects) - 1)
         for name, size in (("BinaryWriter", len(file)), ("SharingWriter", len(file)), ("value", len(file)),
                            ("printer", 40 * (events + 2))):
-            calls.counts(f"writes of a {name}", file, [], [2 * (size // 60_000) + 4, size])
+            calls.counts(f"writes of a {name}", file, [1], [2 * (size // 60_000) + 4, size])
+    # A long string is written directly, between the bytes before and after it. It is printed in blocks of 4,096
+    # bytes; the buffer is written if a block might not fit in which each byte is printed as four.
+    size = 100_000
+    file = file_of_objects([b"\x5f\x12" + size.to_bytes(4, "big") + b"a" * size], 0)
+    for name in ("BinaryWriter", "SharingWriter", "value"):
+        calls.counts(f"writes of a {name}", file, [1], [3, len(file)])
+    line = size + len('String ""\n')
+    calls.counts("writes of a printer", file, [1], [line // 49_152 + 1, line])
 
 
 def run(calls):

@@ -4,14 +4,17 @@
 The n-th call of malloc, realloc, aligned_alloc or posix_memalign fails. Then a command has to do what it
 does with enough memory, or to print a prefix of its lines, report `OutOfMemory` and end with status 1;
 `convert` leaves OUT unchanged, or writes all of it. With wrong arguments nothing is printed, the usage is
-reported, and the status is 2. With enough memory, the program also reads a sparse file of more than 4 GiB.
+reported, and the status is 2. With enough memory, the program also reads a sparse file of more than 4 GiB,
+and property lists of 0 to 1,000,000 integers, levels and characters.
 
 Usage: refused_memory.py      Needs a C compiler. Prints counts at the end, and has status 1 if a run does anything else.
 """
 import collections
+import itertools
 import os
 import pathlib
 import plistlib
+import struct
 import subprocess
 import sys
 import tempfile
@@ -21,6 +24,9 @@ PROGRAM = REPOSITORY / "crates/plist_tool/out/plist_tool"
 SETTINGS, ARCHIVE = REPOSITORY / "examples/settings.plist", REPOSITORY / "examples/archive.plist"
 USAGE = b"Usage: plist_tool print FILE | convert IN OUT | keyed FILE KEY\n"
 ASCII = b'{ name = "caf\\U00e9"; list = (1, two, { deep = "x y z, and a longer text"; }); }\n'
+SIZES = (0, 1, 65_536, 65_537, 1_000_000)
+# how a printed string has a character of three bytes
+EURO = r"\xe2\x82\xac"
 SHIM = r"""
 #define _GNU_SOURCE
 #include <dlfcn.h>
@@ -107,6 +113,67 @@ def reads_far(driver, file):
     return False
 
 
+def lines_of(values):
+    """Returns the printed lines of these scalars."""
+    return "".join(f"Integer {it}\n" if isinstance(it, int) else
+                   f"Data {it.hex()}".rstrip() + "\n" if isinstance(it, bytes) else
+                   f'String "{it.replace("€", EURO)}"\n' for it in values).encode()
+
+
+def file_of(objects):
+    """Returns a binary file of these objects, with references of four bytes."""
+    places = [*itertools.accumulate(map(len, objects), initial=8)]
+    table = struct.pack(f">{len(objects)}I", *places[:-1])
+    return b"bplist00" + b"".join(objects) + table + struct.pack(">6xBBQQQ", 4, 4, len(objects), 0, places[-1])
+
+
+def sized(size):
+    """Yields names, binary files of this size, the same property lists in ASCII, and their printed lines."""
+    def file(value):
+        return plistlib.dumps(value, fmt=plistlib.FMT_BINARY)
+
+    end = b"EndCollection\n"
+    numbers = range(size)
+    array = struct.pack(f">BBI{size}I", 0xaf, 0x12, size, *range(1, size + 1))
+    integers = [struct.pack(">BI", 0x12, number) for number in numbers]
+    yield ("integers", file_of([array, *integers]), b"(" + b"".join(b"%d," % it for it in numbers) + b")",
+           b"StartArray %d\n" % size + lines_of(numbers) + end)
+    arrays = [struct.pack(">BI", 0xa1, level + 1) for level in numbers]
+    yield ("levels", file_of([*arrays, b"\x10\5"]), b"(" * size + b"5" + b")" * size,
+           b"StartArray 1\n" * size + lines_of([5]) + end * size)
+    for name, text in (("characters", "a" * size), ("characters in UTF-16", "€" * size)):
+        yield (name, file({text: [text]}), f"{{'{text}' = (\"{text}\");}}".encode(),
+               b"StartDictionary 1\n" + lines_of([text]) + b"StartArray 1\n" + lines_of([text]) + end * 2)
+    # an archive, since data has no form in ASCII
+    data = b"\x5f" * size
+    archive = {"$objects": ["$null", data], "$top": {"root": plistlib.UID(1)}}
+    yield "bytes of data", file(archive), None, lines_of([data])
+
+
+def is_read(driver, folder, size):
+    """Returns whether property lists of this size are printed and converted."""
+    bad = []
+
+    def expect(name, words, wanted):
+        found, _ = driver.run(0, words)
+        if found != (0, wanted, b""):
+            bad.append(name)
+            print(f"{size} {name}: {words[0]} ends with {found[0]}, {found[2][-100:]!r}")
+
+    file, text, out = folder / "sized", folder / "sized text", folder / "sized out"
+    for name, content, ascii_text, lines in sized(size):
+        file.write_bytes(content)
+        if ascii_text is None:
+            expect(name, ["keyed", file, "root"], lines)
+            continue
+        expect(name, ["print", file], lines)
+        text.write_bytes(ascii_text)
+        for source in (file, text):
+            expect(name, ["convert", source, out], b"")
+            expect(name, ["print", out], lines)
+    return not bad
+
+
 def sweep(driver, name, words, output=None):
     """Lets each allocation of a command fail in turn; `output` is the file that it writes."""
     counts = collections.Counter()
@@ -162,6 +229,7 @@ def main():
                  ["convert", SETTINGS, out, "more"], ["keyed", ARCHIVE, "root", "more"]]
         bad += sum(not is_usage(driver, words, out) for words in wrong)
         bad += not reads_far(driver, folder / "far.plist")
+        bad += sum(not is_read(driver, folder, size) for size in SIZES)
     return 1 if bad else 0
 
 

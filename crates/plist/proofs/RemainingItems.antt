@@ -73,18 +73,12 @@ ascii-start now given k left place d e z =
 
 -- ---- a reader of binary property lists
 
--- the items that remain
-abbrev pub binary_coming : {R C : Type 0} {g : Ghosts R} {h : CounterGhosts C}
-    → (R → Option (List ℕ)) → BinaryReader R C g h → Option (List Item)
-binary_coming known reader =
-    option_map (λ bytes. binary.items_to_come bytes reader) (known (binary.binary_source reader))
-
 pub binary-shows : {R C : Type 0} {g : Ghosts R} {h : CounterGhosts C}
     (old new : BinaryReader R C g h) (item : Given) → binary.GivesBinary old item new
-    → IsPredicted event_of (binary_coming g.known old) item (binary_coming g.known new)
+    → IsPredicted event_of (binary.file_items g.known old) item (binary.file_items g.known new)
 binary-shows {g = g} old new item gives =
     predicted event_of (StopsIf SomeRemain) (StopsIf (AllocatesNext (binary.is_new old)))
-    (binary_coming g.known old) (binary_coming g.known new) item
+    (binary.file_items g.known old) (binary.file_items g.known new) item
     (first_of_known event_of (StopsIf SomeRemain) (StopsIf (AllocatesNext (binary.is_new old)))
     (g.known (binary.binary_source old)) (g.known (binary.binary_source new))
     (λ bytes. binary.items_to_come bytes old) (λ bytes. binary.items_to_come bytes new) item
@@ -100,11 +94,11 @@ pub of-binary : {R C : Type 0} {g : Ghosts R} {h : CounterGhosts C} (known : R �
     (source : R) (iter new : BinaryReader R C g h) (answer : Result Tree Fault) → iter ≡ new
     → binary.binary_source new ≡ source
     → IfSome (known source) (λ bytes. binary.items_to_come bytes new ≡ items_of_file bytes)
-    → IsReadIfKnown (binary_coming known iter) answer
+    → IsReadIfKnown (binary.file_items known iter) answer
     → IfSome (known source) (λ bytes. IsValueOf (items_of_file bytes) answer)
 of-binary known source iter new answer is holds items seen =
-    of-items items_of_file (known source) (binary_coming known iter) answer
-    (ap (binary_coming known) is ∙ ap
+    of-items items_of_file (known source) (binary.file_items known iter) answer
+    (ap (binary.file_items known) is ∙ ap
     (λ s. option_map (λ bytes. binary.items_to_come bytes new) (known s)) holds
     ∙ file-items (known source) (λ bytes. binary.items_to_come bytes new) items) seen
 

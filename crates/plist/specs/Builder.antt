@@ -8,9 +8,10 @@ use Rattle.plist_base.specs.Visits.{Flow}
 use Rattle.plist_base.specs.Writing.{Answer, AnswersByOrder}
 use Rattle.plist.specs.declared.stream.builder.Builder.{Builder}
 use Rattle.plist.specs.declared.collect.ValueVisitor.{ValueVisitor}
+use Rattle.plist.specs.declared.unfinished.AddError.{AddError}
 use Rattle.plist.specs.Building.{Built, IsAnswered, events_so_far}
 use Rattle.plist.specs.Collecting.{RefusesOne, TakesOne}
-use Rattle.plist.specs.UnfinishedValues.{unfinished_of}
+use Rattle.plist.specs.UnfinishedValues.{fault_of_add_error, unfinished_of}
 
 -- what contracts see of a builder: its unfinished tree, and whether it has failed
 abbrev pub built_of : Builder → Built
@@ -31,6 +32,11 @@ pub record IsBuildingStep (before : Builder) (event : PlainEvent) (answer : Answ
 abbrev pub RefusesWith : {A : Type 0} → (before : Builder) → Item → Result A Error → Type 0
 RefusesWith before item answer =
     IfErr answer (λ error. RefusesOne (built_of before).unfinished item (fault_of error))
+
+-- the result is this rejection's error
+abbrev pub IsRejectedWith : Result (Unit {0}) Error → AddError → Type 0
+IsRejectedWith result rejection =
+    (error : Error) × (result ≡ Err error) × (fault_of error ≡ fault_of_add_error rejection)
 
 -- the event is added, and the result stays the same; or the builder rejects the event, and the
 -- result is its error

@@ -1,6 +1,11 @@
 -- What contracts see of the run-time state of a builder.
-use Rattle.std.specs.Prelude.{◌≡◌, List, Option, Some, None, map}
+use Rattle.std.specs.Prelude.{◌≡◌, List, Option, Some, None, Result, Ok, Err, map}
 use Rattle.plist_base.specs.Events.{PlainEvent}
+use Rattle.plist_base.specs.Faults.{Fault, FaultKind, ExpectedEndOfEventStream, OutOfMemory, UnexpectedEventType, WriterFailed, fault_without_offset}
+use Rattle.plist_base.specs.Writing.{Answer}
+use Rattle.plist.specs.declared.unfinished.AddError.{AddError}
+use Rattle.plist.specs.declared.unfinished.AddError.TheVariants.{Failed, Unexpected, AfterEnd}
+use Rattle.plist.specs.declared.unfinished.AddError.TheVariants as rejection
 use Rattle.plist.specs.declared.unfinished.UnfinishedValue.{UnfinishedValue}
 use Rattle.plist.specs.declared.value.Value.{Value}
 use Rattle.plist.specs.Building.{OpenCollection, Unfinished, Within, Complete}
@@ -31,3 +36,19 @@ AddsEvent before event after =
 -- a collection is opened inside the open ones
 abbrev pub Opens : (before : UnfinishedValue) → OpenCollection → (after : UnfinishedValue) → Type 0
 Opens before collection after = unfinished_of after ≡ Within collection (collections_of before)
+
+-- the kind of error that a rejection becomes
+abbrev pub kind_of_add_error : AddError → FaultKind
+kind_of_add_error Failed = WriterFailed
+kind_of_add_error (Unexpected expected found) = UnexpectedEventType expected found
+kind_of_add_error (AfterEnd found) = ExpectedEndOfEventStream found
+kind_of_add_error rejection.OutOfMemory = OutOfMemory
+
+-- the fault that a rejection becomes, which has no offset
+abbrev pub fault_of_add_error : AddError → Fault
+fault_of_add_error rejection = fault_without_offset (kind_of_add_error rejection)
+
+-- what contracts see of the result of adding an event
+abbrev pub answer_of_adding : Result (Unit {0}) AddError → Answer
+answer_of_adding (Ok done) = Ok done
+answer_of_adding (Err rejection) = Err (fault_of_add_error rejection)

@@ -6,6 +6,7 @@ ghost use Rattle.plist.specs.ValueOfItems.{AnswersAsPredicted};
 
 use crate::Value;
 use crate::stream::builder::{AnyEvent, Builder};
+use crate::unfinished::AddError;
 use plist_base::{Error, Event, EventSource, EventVisitor};
 use std::alloc::Global;
 use std::ops::ControlFlow;
@@ -50,16 +51,30 @@ struct ValueVisitor {
     result: Result<(), Error>,
 }
 
+impl ValueVisitor {
+    ghost use Rattle.std.specs.Prelude.{◌≡◌};
+    ghost use Rattle.plist.specs.Builder.{IsRejectedWith};
+
+    // Stores the error of an event that the builder rejected. It is a function of its own, since
+    // locals are zeroed at every call, and an error is large.
+    fn fail(&mut self, rejection: AddError)
+        ensures error { IsRejectedWith self.new.result rejection }
+        ensures builder { self.new.builder ≡ self.old.builder }
+    {
+        self.result = Err(rejection.kind().without_position());
+    }
+}
+
 impl EventVisitor for ValueVisitor {
     ghost use Rattle.plist.specs.Builder.{BuildsEvent};
 
     ghost step = { BuildsEvent };
 
     fn event(&mut self, event: Event<'_>) -> ControlFlow<()> {
-        match self.builder.take(event) {
+        match self.builder.add(event) {
             Ok(()) => ControlFlow::Continue(()),
-            Err(error) => {
-                self.result = Err(error);
+            Err(rejection) => {
+                self.fail(rejection);
                 ControlFlow::Break(())
             }
         }

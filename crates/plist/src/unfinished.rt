@@ -8,7 +8,7 @@ ghost use Rattle.plist_base.specs.Trees as trees;
 ghost use Rattle.plist.specs.LastWins.{with_pair};
 ghost use Rattle.plist.specs.inner.BuilderSteps.{and_tree};
 ghost use Rattle.plist.specs.Building.{InArray, InDictionary, NotBegun, complete_tree, kind_expected, refusal_at, refusal_of};
-ghost use Rattle.plist.specs.UnfinishedValues.{AddsEvent, Opens, collections_of, unfinished_of};
+ghost use Rattle.plist.specs.UnfinishedValues.{AddsEvent, Opens, collections_of, kind_of_add_error, unfinished_of};
 ghost use Rattle.plist.specs.ValueTrees.{tree_of};
 
 use crate::Value;
@@ -34,6 +34,41 @@ impl Drop for UnfinishedValue {
     }
 }
 
+/// Why an event isn't added. It is small, since locals are zeroed at every call, and an `ErrorKind` is
+/// large.
+#[derive(Clone, Copy, Drop)]
+pub(crate) enum AddError {
+    /// The builder has failed.
+    Failed,
+    /// The event can't follow the preceding ones.
+    Unexpected {
+        expected: EventKind,
+        found: EventKind,
+    },
+    /// The value is complete.
+    AfterEnd {
+        found: EventKind,
+    },
+    /// An allocation failed.
+    OutOfMemory,
+}
+
+impl AddError {
+    /// Returns the kind of error that says this.
+    pub(crate) fn kind(self) -> ErrorKind
+        ensures { kind_of result ≡ kind_of_add_error self }
+    {
+        match self {
+            AddError::Failed => ErrorKind::WriterFailed,
+            AddError::Unexpected { expected, found } => {
+                ErrorKind::UnexpectedEventType { expected, found }
+            }
+            AddError::AfterEnd { found } => ErrorKind::ExpectedEndOfEventStream { found },
+            AddError::OutOfMemory => ErrorKind::OutOfMemory,
+        }
+    }
+}
+
 // Returns the kind that an error names as expected.
 fn kind_expected(expect: Expect) -> EventKind
     ensures { result ≡ kind_expected expect }
@@ -44,12 +79,12 @@ fn kind_expected(expect: Expect) -> EventKind
     }
 }
 
-// Returns the kind of error for an event that isn't what is expected, or `None` if it is.
-fn refusal_of(expect: Expect, event: &Event<'_>) -> Option<ErrorKind>
-    ensures { option_map kind_of result ≡ refusal_of expect (event_of event.now) }
+// Returns why an event isn't what is expected, or `None` if it is.
+fn refusal_of(expect: Expect, event: &Event<'_>) -> Option<AddError>
+    ensures { option_map kind_of_add_error result ≡ refusal_of expect (event_of event.now) }
 {
     match expect.change_by(event) {
-        Transition::Refused => Some(ErrorKind::UnexpectedEventType {
+        Transition::Refused => Some(AddError::Unexpected {
             expected: kind_expected(expect),
             found: EventKind::of_event(event),
         }),
@@ -80,14 +115,13 @@ impl UnfinishedValue {
         }
     }
 
-    /// Returns the kind of error for an event that can't follow the preceding ones, or `None` if it
-    /// can.
-    pub(crate) fn refusal(&self, event: &Event<'_>) -> Option<ErrorKind>
-        ensures { option_map kind_of result
+    /// Returns why an event can't follow the preceding ones, or `None` if it can.
+    pub(crate) fn refusal(&self, event: &Event<'_>) -> Option<AddError>
+        ensures { option_map kind_of_add_error result
             ≡ refusal_at (unfinished_of self.now) (event_of event.now) }
     {
         if self.root.is_some() {
-            return Some(ErrorKind::ExpectedEndOfEventStream {
+            return Some(AddError::AfterEnd {
                 found: EventKind::of_event(event),
             });
         }

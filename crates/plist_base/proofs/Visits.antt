@@ -1,5 +1,5 @@
 -- Events that are handed over to a visitor one by one.
-use Rattle.std.proofs.Common.{List, [], ◌∷◌, ◌++◌, Some, Result, Ok, Err, refl, subst, sym}
+use Rattle.std.proofs.Common.{List, [], ◌∷◌, ◌++◌, Some, Result, Ok, Err, ap, refl, subst, sym}
 use Rattle.std.specs.declared.ops.ControlFlow.TheVariants.{Break, Continue}
 use Rattle.plist_base.specs.declared.error.Error.{Error}
 use Rattle.plist_base.specs.declared.visitor.Visited.{Visited}
@@ -17,6 +17,13 @@ module _ {I V : Type 0} (yields : I → PlainItem → I → Type 0)
       (new, subst (λ now. HandsOver yields step now event (Continue tt) new) is more, refl)
   hands_more old now new (first ∷ events) event (next, one, others) more =
       (next, one, hands_more next now new events event others more)
+
+  -- the source yields the events that are handed over
+  pub given_all : (old new : I × V) (events : List PlainEvent)
+      → HandsOverAll yields step old events new → YieldsAll yields old.0 events new.0
+  given_all old new [] is = ap (λ (now : I × V). now.0) is
+  given_all old new (event ∷ events) (next, one, others) =
+      (next.0, one.given, given_all next new events others)
 
   -- a fact that each event preserves is preserved by all events
   pub kept_all : (P : I × V → Type 0) → ((now new : I × V) (event : PlainEvent) → P now

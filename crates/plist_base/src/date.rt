@@ -62,6 +62,15 @@ impl Date {
         Ok(Date { bytes })
     }
 
+    // Makes a date from the bytes that one stores.
+    #[inline(always)]
+    pub(crate) fn from_valid(bytes: [u8; 8]) -> Date
+        requires { date_of_bytes bytes ≡ Some bytes }
+        ensures { result ≡ bytes }
+    {
+        Date { bytes }
+    }
+
     /// Returns the big-endian bytes of the date's `binary64`.
     pub fn to_plist_real(&self) -> [u8; 8]
         ensures bytes { result ≡ self.now }

@@ -1,6 +1,6 @@
 //! Visitors, which take the events of a property list one by one.
 
-use crate::{Date, Error, Event, Integer, RealBits, Uid, Utf16Str};
+use crate::{Date, Error, Event, Integer, PackedKind, PackedScalar, RealBits, Uid, Utf16Str};
 use std::borrow::{CowSlice, CowStr};
 use std::ops::ControlFlow;
 
@@ -32,6 +32,7 @@ pub trait EventVisitor {
     ghost use Rattle.std.specs.Prelude.{◌≡◌, ◌<◌, None, IfSome};
     ghost use Rattle.plist_base.specs.ByteTests.{EachByte};
     ghost use Rattle.plist_base.specs.Events.{EndCollection, PlainEvent, ScalarEvent, StartArray, StartDictionary, event_of};
+    ghost use Rattle.plist_base.specs.PackedScalars.{scalar_of_packed};
     ghost use Rattle.plist_base.specs.Trees.{String};
     ghost use Rattle.plist_base.specs.Utf16Strings.{string_of_utf16};
     ghost use Rattle.plist_base.specs.Visits.{Flow};
@@ -112,6 +113,34 @@ pub trait EventVisitor {
         ensures { step self.old (event_of (Event.Integer value)) result self.new }
     {
         self.event(Event::Integer(value))
+    }
+
+    /// Takes a scalar that isn't a string or data of more than eight bytes. A source may use this
+    /// method instead of the one that the scalar's kind names. A visitor that stores scalars in this
+    /// form needn't unpack it.
+    #[inline(always)]
+    fn packed(&mut self, scalar: PackedScalar) -> ControlFlow<()>
+        ensures { step self.old (ScalarEvent (scalar_of_packed scalar)) result self.new }
+    {
+        let content = scalar.content();
+        let bytes = content.to_be_bytes();
+        match scalar.kind() {
+            PackedKind::Boolean(value) => self.boolean(value),
+            PackedKind::Unsigned => self.integer(Integer::from(content)),
+            PackedKind::Negative => self.integer(Integer::from(content.cast_signed())),
+            PackedKind::Real => self.real(RealBits::Eight(bytes)),
+            PackedKind::ShortReal => {
+                let mut four = [0; 4];
+                four.copy_from_slice(&bytes[..4]);
+                self.real(RealBits::Four(four))
+            }
+            PackedKind::Uid => self.uid(Uid::new(content)),
+            PackedKind::Data(size) => self.data(CowSlice::Borrowed(&bytes[..usize::from(size)])),
+            PackedKind::String(size) => {
+                self.string(CowStr::Borrowed(scalar.text_in(&bytes, size)))
+            }
+            PackedKind::Date => self.date(Date::from_valid(bytes)),
+        }
     }
 
     /// Takes a real.

@@ -1,7 +1,8 @@
 -- What is true when an object is entered.
-use Rattle.std.proofs.Common.{◌≡◌, ℕ, ◌<◌, ◌≤◌, false, List, length, get_or, Option, None, Some, Result, Ok, Err, IfSome, ap, subst, ◌∙◌}
+use Rattle.std.proofs.Common.{◌≡◌, ℕ, ◌<◌, ◌≤◌, false, List, length, get_or, Option, None, Some, Result, Ok, Err, IfSome, ap, subst, sym, ◌∙◌}
 use Rattle.std.specs.List.{slice_get}
-use Rattle.plist_base.specs.Events.{PlainEvent}
+use Rattle.std.specs.Option.{option_map}
+use Rattle.plist_base.specs.Events.{PlainEvent, ScalarEvent}
 use Rattle.plist_base.specs.declared.error.Error.{Error}
 use Rattle.plist_decode.specs.Reading.{bytes_at, object_at}
 use Rattle.plist_decode.specs.declared.decoded.ContentKind.{ContentKind}
@@ -18,9 +19,11 @@ use Rattle.plist_binread.specs.Remaining.{Explains, entries_of}
 use Rattle.plist_decode.specs.Decoded.{DecodesAt, IsDecodedThere, RefusesObjectAt, small_count}
 use Rattle.plist_binread.specs.ObjectEvents.{SetsDecoded, SetsEvent, event_of_object, is_refused}
 use Rattle.plist_decode.specs.Decoding.{IsRefusedAs}
-use Rattle.plist_binread.specs.Step.{YieldsResult, YieldsCurrent, OpensObject}
+use Rattle.plist_binread.specs.Step.{IsFound, YieldsResult, YieldsCurrent, OpensObject}
 use Rattle.plist_base.specs.Unfolding.{until_fault}
-use Rattle.plist_decode.specs.Packed.{is_marked, unmarked, cached, scalar_event}
+use Rattle.plist_base.specs.Packing.{unpacked}
+use Rattle.plist_decode.specs.Packed.{is_marked, unmarked}
+use Rattle.plist_binread.specs.declared.enter.Known.TheVariants as looked
 use Rattle.plist_binread.proofs.ObjectEvents.{decoded_small, named-long}
 use Rattle.plist_binread.proofs.OpenObjects.{not_open}
 use Rattle.plist_binread.proofs.WalkSteps.{yields_scalar}
@@ -72,17 +75,16 @@ on_answer P (Err fault) details h = tt
 module _ (known : Option (List ℕ)) (bounds : Bounds) (walk : Walk) (number : ℕ)
     (k : IsKnownWalk known bounds walk) (h : number < walk_objects walk) where
   -- the event of a scalar that is cached is the first item that remains
-  pub known_unpacked : (at : ℕ) (current : PlainEvent)
-      → is_marked (get_or walk.tags.items number 0) ≡ false
-      → 0 < unmarked (get_or walk.tags.items number 0)
-      → scalar_event (cached (get_or walk.tags.items number 0)
-      (get_or walk.contents.items number 0)) ≡ Some current
-      → IfSome known (λ bytes. YieldsCurrent (remaining_entering bytes bounds walk at number) current
-      (remaining_in bytes bounds walk))
-  known_unpacked at current free some is = IfSome_then known k (λ bytes k.
+  pub known_unpacked : (at tag content : ℕ) → is_marked (get_or walk.tags.items number 0) ≡ false
+      → IsFound (get_or walk.tags.items number 0) (get_or walk.contents.items number 0)
+      (looked.Small tag content)
+      → IfSome known (λ bytes. YieldsCurrent (remaining_entering bytes bounds walk at number)
+      (ScalarEvent (unpacked tag content)) (remaining_in bytes bounds walk))
+  known_unpacked at tag content free is = IfSome_then known k (λ bytes k.
       found_scalar bytes bounds walk.tags.items walk.contents.items (open_in walk) k walk.path at
-      number h free current (ap scalar_event (held_scalar bytes bounds walk.tags.items
-      walk.contents.items (open_in walk) k number h some) ∙ is))
+      number h free _ (ap (option_map ScalarEvent) (held_scalar bytes bounds walk.tags.items
+      walk.contents.items (open_in walk) k number h is.0)
+      ∙ (λ i. Some (ScalarEvent (unpacked (sym is.1 i) (sym is.2 i))))))
 
   -- the error of an object is possible in place of its first item
   pub known_refused : (at place : ℕ) (e : Error)

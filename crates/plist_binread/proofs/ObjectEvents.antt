@@ -27,7 +27,7 @@ use Rattle.plist_decode.proofs.NumberRuns.{take-drop-take}
 
 pub fits_walk : (bounds : Bounds) (place : ℕ) (d : Decoded) → FitsBefore bounds.trailer place d
     → FitsWalk d
-fits_walk bounds place (decoded.Small kind content) h = h
+fits_walk bounds place (decoded.Small tag content) h = h
 fits_walk bounds place (decoded.Date content) h = tt
 fits_walk bounds place (decoded.Long kind start count) h = tt
 fits_walk bounds place (decoded.Faulty fault) h = tt

@@ -1,14 +1,13 @@
 -- Which objects are open, and how many are open or cached.
-use Rattle.std.proofs.Common.{◌≡◌, ℕ, zero, suc, ◌+◌, ◌<◌, ◌≤◌, inl, inr, true, false, cond, ◌||◌, nat_eq, nat_lt, List, [], ◌∷◌, length, get_or, reverse, replicate, Some, refl, ap, sym, ◌∙◌, arith}
+use Rattle.std.proofs.Common.{◌≡◌, ℕ, zero, suc, ◌+◌, ◌<◌, ◌≤◌, inl, inr, true, false, cond, ◌||◌, nat_eq, nat_lt, List, [], ◌∷◌, length, get_or, reverse, replicate, refl, ap, sym, ◌∙◌, arith}
 use Rattle.std.specs.List.{list_any, IsDistinct}
 use Rattle.std.proofs.lemmas.Bool.Decides.{eqb_tells}
 use Rattle.std.proofs.Math.Dec.{eqb-suc-suc, eqb-suc-zero, eqb-zero-suc}
 use Rattle.std.proofs.lemmas.Bool.{or_right, eq-eqb, lt-ltb}
 use Rattle.plist_base.proofs.Paths.{none_equal, any_none, below_cons, path_fuel, path_rises}
 use Rattle.plist_binread.specs.declared.frames.Frame.{Frame}
-use Rattle.plist_decode.specs.Packed.{is_marked, packed_kind, unmarked, KeepsOtherTags}
-use Rattle.plist_decode.specs.declared.packed.PackedKind.{PackedKind}
-use Rattle.plist_binread.proofs.Tags.{kind_of_tag-some, kept_everywhere}
+use Rattle.plist_decode.specs.Packed.{is_marked, unmarked, KeepsOtherTags}
+use Rattle.plist_binread.proofs.Tags.{kept_everywhere}
 use Rattle.plist_binread.specs.Remaining.{path_of, MarksOpenPath, cached_count}
 use Rattle.std.proofs.lemmas.List.{nil_from_length}
 
@@ -77,6 +76,16 @@ IsOpen-pop tags new f fs o m closed = record {
       (or_right (nat_eq q f.object) (list_any (nat_eq q) (path_of fs)) any));
   marks = λ q less. marks_pop f.object q tags new (path_of fs) m closed
       (any_none f.object (path_of fs) o.distinct.0) (o.marks q (rw m.size at less));
+}
+
+-- after one more object was cached, exactly the open objects are marked
+pub IsOpen-kept : (i : ℕ) (tags new : List ℕ) (fs : List Frame) → MarksOpenPath tags fs
+    → KeepsOtherTags i tags new → is_marked (get_or new i 0) ≡ is_marked (get_or tags i 0)
+    → MarksOpenPath new fs
+IsOpen-kept i tags new fs o m same = record {
+  distinct = o.distinct;
+  below = λ q any. rw m.size (o.below q any);
+  marks = λ q less. kept_everywhere is_marked i tags new m same q ∙ o.marks q (rw m.size at less);
 }
 
 -- no more objects are open than there are objects
@@ -152,11 +161,10 @@ cached_count-kept i tags new m same =
     same_count new _ m.size (kept_everywhere unmarked i tags new m same)
 
 -- caching an object raises the number of cached objects by one
-pub cached_count-more : (i : ℕ) (kind : PackedKind) (tags new : List ℕ) → i < length tags
+pub cached_count-more : (i : ℕ) (tags new : List ℕ) → i < length tags
     → unmarked (get_or tags i 0) ≡ 0 → KeepsOtherTags i tags new
-    → packed_kind (get_or new i 0) ≡ Some kind → cached_count new ≡ cached_count tags + 1
-cached_count-more i kind tags new h none m is =
-    one_more i _ new (sym m.size) h m.others none (kind_of_tag-some _ kind is)
+    → 0 < unmarked (get_or new i 0) → cached_count new ≡ cached_count tags + 1
+cached_count-more i tags new h none m some = one_more i _ new (sym m.size) h m.others none some
 
 zero_count : (n : ℕ) → cached_count (replicate n 0) ≡ 0
 zero_count zero = refl

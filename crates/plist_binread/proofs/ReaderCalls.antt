@@ -6,7 +6,10 @@ use Rattle.plist_base.specs.declared.error.Error.{Error}
 use Rattle.plist_base.specs.Events.{Item, PlainEvent}
 use Rattle.plist_base.specs.Faults.{MatchFault, error_kind_of, fault_of, kind_of}
 use Rattle.plist_base.specs.FirstItems.{GivesFirst, StopsIf}
+use Rattle.plist_base.specs.Visits.{PlainItem}
+use Rattle.plist_base.proofs.FirstItems.{first_of_known}
 use Rattle.plist_base.proofs.Refusals.{MatchFault-weaker}
+use Rattle.plist_base.proofs.VisitedItems.{Comes, comes_first}
 use Rattle.plist_binread.specs.declared.frames.Frame.{Frame}
 use Rattle.plist_decode.specs.declared.counter.DecodeCounter.{Ghosts as CounterGhosts}
 use Rattle.plist_binread.specs.declared.reader.BinaryReader.{BinaryReader}
@@ -14,7 +17,7 @@ use Rattle.plist_decode.specs.declared.head.Bounds.{Bounds}
 use Rattle.plist_binread.specs.declared.walk.Walk.{Walk}
 use Rattle.plist_base.specs.Container.{head_of}
 use Rattle.plist_binread.specs.Walking.{IsBounded, IsKnownWalk, cached_in, walk_objects}
-use Rattle.plist_binread.specs.BinaryReader.{KeepsInvariant}
+use Rattle.plist_binread.specs.BinaryReader.{KeepsInvariant, Steps, binary_source, file_items, is_new, items_to_come}
 use Rattle.plist_binread.specs.Remaining.{AllocatesNext, AreBoundsOf, SomeRemain, objects_in_head}
 use Rattle.plist_binread.proofs.OpenObjects.{IsOpen-length}
 use Rattle.plist_decode.proofs.UnknownBytes.{IfSome-all}
@@ -65,3 +68,14 @@ pub nothing_ended : (known : Option (List ℕ)) → IfSome known (λ bytes.
     GivesFirst {E = PlainEvent} (λ event. event) (StopsIf SomeRemain)
     (StopsIf (AllocatesNext false)) [] None [])
 nothing_ended known = IfSome-all known (λ bytes. (refl, refl))
+
+-- one step yields the first of the remaining items
+pub file_comes : {R C : Type 0} {g : Ghosts R} {h : CounterGhosts C}
+    (old : BinaryReader R C g h) (item : PlainItem) (new : BinaryReader R C g h)
+    → Steps old item new → Comes (file_items g.known old) item (file_items g.known new)
+file_comes {g = g} old item new step =
+    comes_first SomeRemain (AllocatesNext (is_new old)) (file_items g.known old)
+    (file_items g.known new) item (first_of_known (λ event. event) (StopsIf SomeRemain)
+    (StopsIf (AllocatesNext (is_new old))) (g.known (binary_source old))
+    (g.known (binary_source new)) (λ bytes. items_to_come bytes old)
+    (λ bytes. items_to_come bytes new) item step.gives.unchanged step.gives.items)

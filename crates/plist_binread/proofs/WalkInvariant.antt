@@ -1,13 +1,12 @@
 -- What a walk has stored about the file's objects, and how each step changes it.
-use Rattle.std.proofs.Common.{◌≡◌, ℕ, ◌-◌, ◌<◌, ◌≤◌, inl, inr, Bool, true, false, nat_eq, List, [], ◌∷◌, ◌++◌, length, take, drop, get_or, slice_set, Option, None, Some, Ok, Err, IfSome, MatchBool, refl, ap, sym, subst, ◌∙◌, arith}
-use Rattle.std.specs.Prelude.{⊤, IsSomeAnd}
+use Rattle.std.proofs.Common.{◌≡◌, ℕ, ◌-◌, ◌<◌, ◌≤◌, inl, inr, true, false, nat_eq, List, [], ◌∷◌, ◌++◌, length, take, drop, get_or, slice_set, Option, Some, Ok, Err, IfSome, refl, ap, sym, subst, ◌∙◌, arith}
+use Rattle.std.specs.Prelude.{⊤}
 use Rattle.std.specs.List.{AllByRecursion, slice_get}
 use Rattle.std.proofs.lemmas.Bool.Decides.{eqb_tells, nat_tests}
 use Rattle.std.proofs.lemmas.List.{get_or-set_same, get_or-set_other}
 use Rattle.plist_base.specs.declared.error.Error.{Error}
 use Rattle.plist_base.specs.Faults.{Fault, FaultKind, OutOfMemory, ObjectReferenceTooLarge, RecursiveObject, MatchFault, fault_of, fault_at, fault_without_offset}
 use Rattle.plist_base.specs.Events.{PlainEvent, Item}
-use Rattle.plist_base.specs.Trees.{Scalar}
 use Rattle.plist_base.proofs.Refusals.{MatchFault-at, MatchFault-weaker}
 use Rattle.plist_binread.specs.declared.frames.Frame.{Frame}
 use Rattle.plist_decode.specs.Decoded.{DecodesAt, IsDecodedAs}
@@ -19,10 +18,10 @@ use Rattle.plist_binread.specs.Walking.{IsWalkOf, open_in, walk_objects}
 use Rattle.plist_binread.specs.declared.walk.Walk.{Walk}
 use Rattle.plist_decode.specs.declared.head.Bounds.{Bounds}
 use Rattle.plist_base.specs.Object.{Object, object_in}
-use Rattle.plist_decode.specs.Packed.{is_marked, kind_of_tag, open_tag, packed_kind, scalar_of_kind, unmarked, unpacked, cached, KeepsOtherTags}
+use Rattle.plist_base.specs.Packing.{unpacked}
+use Rattle.plist_decode.specs.Packed.{is_marked, open_tag, unmarked, KeepsOtherTags}
 use Rattle.plist_decode.specs.declared.decoded.CollectionKind.{CollectionKind}
-use Rattle.plist_binread.proofs.Tags.{cached_closed, open_tag-kind, open_tag-marked, open_tag-start, open_uncached, kind_of_tag-some}
-use Rattle.plist_decode.specs.declared.packed.PackedKind.{PackedKind}
+use Rattle.plist_binread.proofs.Tags.{cached_closed, open_tag-kind, open_tag-marked, open_tag-start, open_uncached}
 use Rattle.plist_base.specs.Unfolding.{TableEntry, unfolding_of, until_fault}
 use Rattle.plist_binread.specs.Remaining.{children_at, place_at, scalar_at, path_of, MarksOpenPath, IsHeld, LocatesReferences, MatchesFile, places_of, entries_of, remaining_items, Explains}
 use Rattle.plist_decode.specs.Decoding.{AreReferencesAt, IsCollection, IsRefusedAs, children_in, scalar_event_in, scalar_in}
@@ -34,25 +33,15 @@ use Rattle.std.proofs.lemmas.Bool.{eqb-false, false≢true}
 not_zero : (t : ℕ) → 0 < t → nat_eq t 0 ≡ false
 not_zero t h = grind (arith, nat_tests)
 
--- the content is the offset of the entry, or else the entry's object is this scalar
-abbrev HoldsPlaceOr : (is_place : Bool) → Option Scalar → (content : ℕ) → Option TableEntry → Type 0
-HoldsPlaceOr is_place scalar content entry =
-    MatchBool is_place (content ≡ place_at entry)
-    (IsSomeAnd scalar (λ found. scalar_at entry ≡ Some found))
+-- the content of an object that isn't cached is an offset
+holds_place : (entry : Option TableEntry) (tag content : ℕ) → unmarked tag ≡ 0
+    → content ≡ place_at entry → IsHeld entry tag content
+holds_place entry tag content none is = rw none is
 
--- a content that isn't an offset stores this scalar
-held_as : (b : Bool) (scalar : Option Scalar) (content : ℕ) (entry : Option TableEntry) → b ≡ false
-    → HoldsPlaceOr b scalar content entry → scalar_at entry ≡ scalar
-held_as true scalar content entry b h = absurd (cc)
-held_as false None content entry b h = absurd h
-held_as false (Some s) content entry b h = h
-
-from_scalar : (b : Bool) (found : Option Scalar) (content : ℕ) (entry : Option TableEntry)
-    (scalar : Scalar) → b ≡ false → found ≡ Some scalar → scalar_at entry ≡ Some scalar
-    → HoldsPlaceOr b found content entry
-from_scalar true found content entry scalar b is h = absurd (cc)
-from_scalar false None content entry scalar b is h = absurd (cc)
-from_scalar false (Some s) content entry scalar b is h = h ∙ sym is
+-- the tag and the content of a cached object encode its scalar
+holds_scalar : (entry : Option TableEntry) (tag content : ℕ) → 0 < unmarked tag
+    → scalar_at entry ≡ Some (unpacked tag content) → IsHeld entry tag content
+holds_scalar entry tag content some is = rw (not_zero _ some) is
 
 module _ (bytes : List ℕ) (bounds : Bounds) where
   abbrev table : List TableEntry
@@ -97,10 +86,9 @@ module _ (bytes : List ℕ) (bounds : Bounds) where
       -- the tag and the content of a cached object encode its scalar
       pub held_scalar : (number : ℕ) → number < length tags → 0 < unmarked (get_or tags number 0)
           → scalar_in (entry_of number).object
-          ≡ cached (get_or tags number 0) (get_or contents number 0)
+          ≡ Some (unpacked (get_or tags number 0) (get_or contents number 0))
       held_scalar number h some =
-          sym (ap scalar_at (entry_there number h))
-          ∙ held_as _ _ _ _ (not_zero _ some) (k.held number h)
+          sym (ap scalar_at (entry_there number h)) ∙ rw (not_zero _ some) at (k.held number h)
 
       -- a walk with other tags, contents and open collections is a walk over the file, if these
       -- are right
@@ -140,11 +128,9 @@ module _ (bytes : List ℕ) (bounds : Bounds) where
           → MatchesFile bytes bounds new contents (f ∷ fs)
       known_opened new f kind first start entry less none m tag small is collection refers =
           known_with new contents (f ∷ fs) m.size (kept_others f.object new contents m (λ q _. refl) (
-            subst (λ t. HoldsPlaceOr (nat_eq t 0) (scalar_of_kind (kind_of_tag t)
-                (get_or contents f.object 0)) (get_or contents f.object 0)
-                (slice_get table f.object))
-                (none ∙ sym (open_uncached _ (ap is_marked tag ∙ open_tag-marked kind first)))
-                (k.held f.object less),
+            holds_place (slice_get table f.object) (get_or new f.object 0) _
+                (open_uncached _ (ap is_marked tag ∙ open_tag-marked kind first))
+                (held_place f.object less none),
             λ _. rw (is, tag, open_tag-kind kind first small, open_tag-start kind first small)
                 refers,
           ))
@@ -159,28 +145,28 @@ module _ (bytes : List ℕ) (bounds : Bounds) where
           → MatchesFile bytes bounds new contents gs
       known_closed new f less marked m tag gs counts =
           known_with new contents gs m.size (kept_others f.object new contents m (λ q _. refl) (
-            subst (λ t. HoldsPlaceOr (nat_eq t 0) (scalar_of_kind (kind_of_tag t)
-                (get_or contents f.object 0)) (get_or contents f.object 0)
-                (slice_get table f.object)) (open_uncached _ marked ∙ sym (ap unmarked tag))
-                (k.held f.object less),
+            holds_place (slice_get table f.object) (get_or new f.object 0) _ (ap unmarked tag) (held_place f.object less (open_uncached _ marked)),
             λ marked. absurd (cc),
           )) counts
 
       -- after one more object was cached, the walk is still one over the file
-      pub known_cached : (number : ℕ) (kind : PackedKind) (content : ℕ) (new : List ℕ)
+      pub known_cached : (number tag content : ℕ) (new : List ℕ)
           → number < length tags → length contents ≡ length tags
-          → KeepsOtherTags number tags new → packed_kind (get_or new number 0) ≡ Some kind
-          → scalar_at (slice_get table number) ≡ Some (unpacked kind content)
+          → KeepsOtherTags number tags new → get_or new number 0 ≡ tag → 0 < unmarked tag
+          → scalar_at (slice_get table number) ≡ Some (unpacked tag content)
           → MatchesFile bytes bounds new (slice_set contents number content) fs
-      known_cached number kind content new h same m here is =
-          let some = kind_of_tag-some _ kind here in
-          known_with new (slice_set contents number content) fs m.size
-          (kept_others number new (slice_set contents number content) m
+      known_cached number tag content new h same m here some is =
+          let others = slice_set contents number content in
+          let entry = slice_get table number in
+          known_with new others fs m.size
+          (kept_others number new others m
           (λ q e. get_or-set_other contents number q content 0 (eqb-false q number e)) (
-            from_scalar _ _ _ _ _ (not_zero _ some)
-                (cc (get_or-set_same contents number content 0 (rw same h), here)) is,
+            subst (λ t. IsHeld entry t (get_or others number 0)) (sym here)
+                (subst (IsHeld entry tag)
+                (sym (get_or-set_same contents number content 0 (rw same h)))
+                (holds_scalar entry tag content some is)),
             λ marked. absurd (false≢true
-                (sym (cached_closed (get_or new number 0) some) ∙ marked)),
+                (sym (cached_closed tag some) ∙ sym (ap is_marked here) ∙ marked)),
           )) k.counts
 
       -- ---- an object that isn't entered

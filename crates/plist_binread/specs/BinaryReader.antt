@@ -1,6 +1,6 @@
 -- What contracts say about a reader: its remaining items, its open collections and its cache.
 use Rattle.std.specs.Prelude.{◌≡◌, ℕ, ◌+◌, ◌^◌, ◌<◌, ◌≤◌, Bool, true, false, List, [], length, reverse, Option, None, Result, MatchOption, OnErr, IfSome}
-use Rattle.std.specs.Option.{is_some}
+use Rattle.std.specs.Option.{is_some, option_map}
 use Rattle.plist_base.specs.declared.error.Error.{Error}
 use Rattle.plist_base.specs.declared.event.Event.{Event}
 use Rattle.plist_base.specs.declared.source.Source.{Ghosts}
@@ -55,6 +55,11 @@ module _ {R C : Type 0} {g : Ghosts R} {h : CounterGhosts C} where
   -- the items that remain if these are the bytes of the file
   abbrev pub items_to_come : List ℕ → BinaryReader R C g h → List Item
   items_to_come bytes reader = admitted_by reader (unlimited_items bytes reader)
+
+  -- the items that remain, if the bytes of the source are known
+  abbrev pub file_items : (R → Option (List ℕ)) → BinaryReader R C g h → Option (List Item)
+  file_items known reader =
+      option_map (λ bytes. items_to_come bytes reader) (known (binary_source reader))
 
   -- if the bytes are known, all items that `items` returns for them remain
   abbrev pub WillGive : (known : Option (List ℕ)) → (items : List ℕ → List Item)

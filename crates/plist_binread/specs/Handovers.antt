@@ -2,7 +2,6 @@
 use Rattle.std.specs.Prelude.{◌≡◌, ◌⊎◌, Option, Some, Result, Ok, Err, MatchOption}
 use Rattle.std.specs.declared.ops.ControlFlow.TheVariants.{Break}
 use Rattle.plist_base.specs.declared.error.Error.{Error}
-use Rattle.plist_base.specs.declared.event.Event.{Event}
 use Rattle.plist_base.specs.Events.{PlainEvent, event_of, IsTextOrDataEvent}
 use Rattle.plist_base.specs.Faults.{fault_of}
 use Rattle.plist_base.specs.Limits.{Admits, Refuses}
@@ -31,12 +30,11 @@ module _ {V : Type 0} (step : V → PlainEvent → Flow → V → Type 0) (old n
       pub taken : TakesIfAny item event
 
 module _ {V : Type 0} (step : V → PlainEvent → Flow → V → Type 0) where
-  -- an event, which is what contracts see of some `Event`, is passed on to the inner visitor
+  -- an event is passed on to the inner visitor
   pub record PassesOn (old : Relay V) (event : PlainEvent) (flow : Flow) (new : Relay V) : Type 0
     where
       pub same : new.visitor.ghost_name ≡ old.visitor.ghost_name
       pub taken : step old.visitor.now event flow new.visitor.now
-      pub given : (handed : Event) × (event_of handed ≡ event)
 
   -- the limits admit the event, and the inner visitor takes it
   pub record TakesAdmitted (old : Within V) (event : PlainEvent) (flow : Flow) (new : Within V)

@@ -3,12 +3,12 @@ use Rattle.std.specs.Prelude.{◌≡◌, ℕ, ◌+◌, ◌^◌, ◌<◌, ◌≤�
 use Rattle.plist_base.specs.declared.error.Error.{Error}
 use Rattle.plist_base.specs.Events.{PlainEvent, StartArray, StartDictionary, ScalarEvent}
 use Rattle.plist_base.specs.Faults.{IsNotIo, kind_of, error_kind_of}
+use Rattle.plist_base.specs.Packing.{IsPacked}
 use Rattle.plist_base.specs.Object.{Object, Scalar, Array, Dictionary, Faulty}
 use Rattle.plist_decode.specs.CountedContent.{content_means}
 use Rattle.plist_decode.specs.Decoded.{IsDecodedThere, content_size}
 use Rattle.plist_decode.specs.Decoding.{IsRefusedAs, child_count}
 use Rattle.plist_decode.specs.FaultOffsets.{ErrWithin}
-use Rattle.plist_decode.specs.Packed.{is_packed}
 use Rattle.plist_decode.specs.Reading.{object_at}
 use Rattle.plist_decode.specs.StepFaults.{result_with}
 use Rattle.plist_decode.specs.declared.decoded.Content.{Content}
@@ -23,10 +23,10 @@ abbrev pub is_refused : Decoded → Bool
 is_refused (decoded.Faulty fault) = true
 is_refused other = false
 
--- the walk can store what was decoded: the kind can have the content, or the number of children
+-- the walk can store what was decoded: a packed scalar, or a collection whose number of children
 -- isn't too large
 abbrev pub FitsWalk : Decoded → Type 0
-FitsWalk (decoded.Small kind content) = is_packed kind content ≡ true
+FitsWalk (decoded.Small tag content) = IsPacked tag content
 FitsWalk (decoded.Collection kind start count) = (child_count kind count < 2 ^ 64) × (start < 16)
 FitsWalk other = ⊤
 

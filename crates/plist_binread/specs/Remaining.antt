@@ -1,16 +1,17 @@
 -- The items that remain in the middle of a walk. A list of frames has the innermost one first.
-use Rattle.std.specs.Prelude.{◌≡◌, ◌⊎◌, ℕ, zero, suc, ◌+◌, ◌-◌, ◌*◌, ◌^◌, ◌<◌, ◌≤◌, Bool, true, false, if◌then◌else◌, List, [], ◌∷◌, ◌++◌, length, take, drop, slice_index, nat_eq, nat_lt, Result, Ok, Err, Option, None, Some, option_and_then, IsOkAnd, MatchBool, MatchResult, ⊤, IsSomeAnd}
+use Rattle.std.specs.Prelude.{◌≡◌, ◌⊎◌, ℕ, zero, suc, ◌+◌, ◌-◌, ◌*◌, ◌^◌, ◌<◌, ◌≤◌, Bool, true, false, if◌then◌else◌, List, [], ◌∷◌, ◌++◌, length, take, drop, slice_index, nat_eq, nat_lt, Result, Ok, Err, Option, None, Some, option_and_then, IsOkAnd, MatchBool, MatchResult, ⊤}
 use Rattle.std.specs.List.{list_any, flat_map, IsDistinct, AllByRecursion, slice_get}
 use Rattle.std.specs.Option.{option_map_or}
 use Rattle.plist_base.specs.declared.error.Error.{Error}
 use Rattle.plist_base.specs.Faults.{Fault, FaultKind, InvalidUtf8String, InvalidUtf16String, LimitReached, MatchFault, kind_of, error_kind_of, fault_of}
 use Rattle.plist_base.specs.Events.{StartArray, StartDictionary, EndCollection, ScalarEvent, Item}
+use Rattle.plist_base.specs.Packing.{IsPacked, unpacked}
 use Rattle.plist_base.specs.Trees as trees
 use Rattle.plist_base.specs.Trees.{Data, String}
 use Rattle.plist_binread.specs.declared.frames.Frame.{Frame}
 use Rattle.plist_decode.specs.declared.head.Bounds.{Bounds}
 use Rattle.plist_base.specs.Container.{Head, head_of}
-use Rattle.plist_decode.specs.Packed.{is_marked, is_packed_if_any, packed_kind, unmarked, cached, open_kind, open_start}
+use Rattle.plist_decode.specs.Packed.{is_marked, unmarked, open_kind, open_start}
 use Rattle.plist_binread.specs.declared.reader.WalkState.{WalkState}
 use Rattle.plist_binread.specs.declared.reader.WalkState.TheVariants.{Fresh, Walking, Ended}
 use Rattle.plist_base.specs.Unfolding.{TableEntry, table_of, unfolding_of}
@@ -31,10 +32,11 @@ pub record MarksOpenPath (tags : List ℕ) (frames : List Frame) : Type 0 where
   pub marks : (number : ℕ) → number < length tags
       → is_marked (slice_index tags number) ≡ list_any (nat_eq number) (path_of frames)
 
--- each content is one that the kind in its tag can have
+-- the tag and the content of each cached object are those of a scalar
 abbrev pub ArePacked : (tags contents : List ℕ) → Type 0
 ArePacked tags contents = (number : ℕ) → number < length tags
-    → is_packed_if_any (packed_kind (slice_index tags number)) (slice_index contents number) ≡ true
+    → 0 < unmarked (slice_index tags number)
+    → IsPacked (slice_index tags number) (slice_index contents number)
 
 -- the number of cached objects
 abbrev pub cached_count : (tags : List ℕ) → ℕ
@@ -101,7 +103,7 @@ AreBoundsOf answer bounds = IsOkAnd answer (λ head.
 -- the content is the offset of the entry, or the tag and the content encode the entry's scalar
 abbrev pub IsHeld : Option TableEntry → (tag content : ℕ) → Type 0
 IsHeld entry tag content = MatchBool (nat_eq (unmarked tag) 0) (content ≡ place_at entry)
-    (IsSomeAnd (cached tag content) (λ scalar. scalar_at entry ≡ Some scalar))
+    (scalar_at entry ≡ Some (unpacked tag content))
 
 -- the tag of an open collection says where the references to its children lie
 abbrev pub LocatesReferences : List ℕ → Bounds → Option TableEntry → (tag : ℕ) → Type 0

@@ -5,9 +5,10 @@ use Rattle.plist_base.specs.declared.error.Error.{Error}
 use Rattle.plist_base.specs.Events.{PlainEvent, EndCollection, Item}
 use Rattle.plist_base.specs.Faults.{MatchFault, kind_of, error_kind_of, fault_of}
 use Rattle.plist_base.specs.Container.{head_of}
+use Rattle.plist_base.specs.Packing.{IsPacked}
 use Rattle.plist_base.specs.Unfolding.{TableEntry, items_of_file, unfolding_of, until_fault}
 use Rattle.plist_decode.specs.Decoded.{IsDecodedAs}
-use Rattle.plist_decode.specs.Packed.{cached, is_marked, is_packed, open_kind, open_start, unmarked, unpacked}
+use Rattle.plist_decode.specs.Packed.{is_marked, open_kind, open_start, unmarked}
 use Rattle.plist_decode.specs.Reading.{bytes_at}
 use Rattle.plist_decode.specs.declared.decoded.Decoded.{Decoded}
 use Rattle.plist_decode.specs.declared.decoded.Decoded.TheVariants as decoded
@@ -103,8 +104,8 @@ stored_references walk frame = record {
 
 -- the tag and the content encode this: the object's offset, or a small scalar that is cached
 abbrev pub IsFound : (tag content : ℕ) → Known → Type 0
-IsFound tag content (looked.Small kind packed) = (0 < unmarked tag)
-    × (cached tag content ≡ Some (unpacked kind packed)) × (is_packed kind packed ≡ true)
+IsFound tag content (looked.Small found packed) = (0 < unmarked tag)
+    × (found ≡ tag) × (packed ≡ content) × IsPacked found packed
 IsFound tag content (looked.At place) = (unmarked tag ≡ 0) × (place ≡ content)
 
 -- the object of this number can't be entered because of this fault

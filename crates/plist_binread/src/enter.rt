@@ -13,16 +13,16 @@ ghost use Rattle.plist_decode.specs.declared.decoded.Decoded.TheVariants.{Collec
 ghost use Rattle.plist_base.specs.Sources.{CountsIo};
 ghost use Rattle.plist_decode.specs.StepFaults.{result_with};
 
-use crate::hand::{hand_bytes, hand_decoded, hand_small};
+use crate::hand::{hand_bytes, hand_decoded};
 use crate::references::Reference;
 use crate::visitors::Relay;
 use crate::walk::Walk;
-use plist_base::{EventVisitor, Source};
+use plist_base::{EventVisitor, PackedScalar, Source};
 use plist_decode::counter::DecodeCounter;
 use plist_decode::decoded::{CollectionKind, Content, Decoded};
 use plist_decode::decoder::Decoder;
 use plist_decode::object::{buffered_front, decode_front, read_object};
-use plist_decode::packed::{PackedKind, cache, is_open, mark_open};
+use plist_decode::packed::{cache, is_open, mark_open};
 use plist_decode::step_fault::{FaultDetails, StepFault};
 use std::ops::ControlFlow;
 
@@ -31,8 +31,8 @@ use std::ops::ControlFlow;
 enum Known {
     // The offset of the object.
     At(u64),
-    // A small scalar that is cached. The fields are its kind and its packed content.
-    Small(PackedKind, u64),
+    // A small scalar that is cached. The fields are the tag and the content of a `PackedScalar`.
+    Small(u8, u64),
 }
 
 // Looks up an object that is about to be entered. `at` is the offset of the collection that refers
@@ -69,7 +69,7 @@ fn look_up(
         details.fail_at(content);
         return Err(StepFault::Recursion);
     }
-    Ok(Known::Small(PackedKind::of_tag(tag), content))
+    Ok(Known::Small(tag, content))
 }
 
 // Opens a collection of `count` items or pairs, whose references begin `start` bytes after its
@@ -116,14 +116,9 @@ fn cache_or_open(walk: &mut Walk, number: u64, decoded: Decoded) -> bool
     ensures unchanged { result ≡ false → IsUnchanged walk.old walk.new }
 {
     match decoded {
-        Decoded::Small(kind, content) => {
-            cache(
-                &mut walk.tags,
-                &mut walk.contents,
-                number as usize,
-                kind,
-                content,
-            );
+        Decoded::Small(tag, content) => {
+            let number = number as usize;
+            cache(&mut walk.tags, &mut walk.contents, number, tag, content);
             true
         }
         Decoded::Collection(kind, start, count) => open(walk, number, kind, start, count),
@@ -164,9 +159,9 @@ pub fn enter<S: Source, C: DecodeCounter, V: EventVisitor>(
         (S.failures source.old) (S.failures source.new) }
 {
     let place = match look_up(&mut decoder.details, walk, reference.at, reference.number)? {
-        Known::Small(kind, content) => {
+        Known::Small(tag, content) => {
             let mut relay = Relay::new(visitor);
-            return Ok(hand_small(kind, content, &mut relay));
+            return Ok(relay.packed(PackedScalar::from_parts(tag, content)));
         }
         Known::At(place) => place,
     };

@@ -2,60 +2,28 @@
 
 ghost use Rattle.std.specs.Prelude.{◌≡◌, ℕ, List, Some, false, true, OnOk};
 ghost use Rattle.plist_base.specs.Object.{Scalar, date, text, wide_text};
+ghost use Rattle.plist_base.specs.Packing.{content_bytes};
 ghost use Rattle.plist_decode.specs.CountedContent.{AreUnits, content_means, unit_size};
 ghost use Rattle.plist_decode.specs.Decoded.{EndsIn64Bits, FailsInContent, FitsBefore};
 ghost use Rattle.plist_binread.specs.ObjectEvents.{SetsContentAt, SetsDecoded, SetsUnread, is_refused};
 ghost use Rattle.plist_decode.specs.Decoding.{start_event};
 ghost use Rattle.plist_decode.specs.FaultOffsets.{ErrWithin};
-ghost use Rattle.plist_base.specs.Events.{ScalarEvent};
 ghost use Rattle.plist_base.specs.Trees.{String};
 ghost use Rattle.plist_base.specs.Utf16Strings.{string_of_utf16};
 ghost use Rattle.plist_binread.specs.Handovers.{HandsItem};
-ghost use Rattle.plist_decode.specs.Packed.{content_bytes, is_packed, unpacked};
 ghost use Rattle.plist_base.specs.Sources.{CountsIo};
 ghost use Rattle.plist_decode.specs.StepFaults.{result_with};
 
-use plist_base::{Ascii, Date, EventVisitor, Integer, RealBits, Source, Uid, Utf16Str, all_pass};
+use plist_base::{Ascii, Date, EventVisitor, PackedScalar, Source, Utf16Str, all_pass};
 use plist_decode::counter::DecodeCounter;
 use plist_decode::decoded::{CollectionKind, Content, ContentKind, Decoded};
 use plist_decode::decoder::Decoder;
 use plist_decode::long_content::read_content;
-use plist_decode::packed::PackedKind;
 use plist_decode::step_fault::StepFault;
 use plist_decode::utf16::to_utf8;
 use std::alloc::Global;
 use std::borrow::{CowSlice, CowStr};
 use std::ops::ControlFlow;
-
-/// Hands over the scalar that a kind and a content encode.
-#[inline(always)]
-pub fn hand_small<V: EventVisitor>(
-    kind: PackedKind,
-    content: u64,
-    visitor: &mut V,
-) -> ControlFlow<()>
-    requires { is_packed kind content ≡ true }
-    ensures { V.step visitor.old (ScalarEvent (unpacked kind content)) result visitor.new }
-{
-    let bytes = content.to_be_bytes();
-    match kind {
-        PackedKind::Boolean(value) => visitor.boolean(value),
-        PackedKind::Unsigned => visitor.integer(Integer::from(content)),
-        PackedKind::Negative => visitor.integer(Integer::from(content.cast_signed())),
-        PackedKind::Real => visitor.real(RealBits::Eight(bytes)),
-        PackedKind::ShortReal => {
-            let mut four = [0; 4];
-            four.copy_from_slice(&bytes[..4]);
-            visitor.real(RealBits::Four(four))
-        }
-        PackedKind::Uid => visitor.uid(Uid::new(content)),
-        PackedKind::Data(size) => visitor.data(CowSlice::Borrowed(&bytes[..usize::from(size)])),
-        PackedKind::Text(size) => {
-            let text = unsafe { str::from_utf8_unchecked(&bytes[..usize::from(size)]) };
-            visitor.string(CowStr::Borrowed(text))
-        }
-    }
-}
 
 // Hands over the date in these eight bytes, or returns a fault if the date is out of range.
 #[inline(never)]
@@ -257,7 +225,9 @@ pub fn hand_decoded<S: Source, C: DecodeCounter, V: EventVisitor>(
         (S.failures source.old) (S.failures source.new) }
 {
     match decoded {
-        Decoded::Small(kind, content) => Ok(hand_small(kind, content, visitor)),
+        Decoded::Small(tag, content) => {
+            Ok(visitor.packed(PackedScalar::from_parts(tag, content)))
+        }
         Decoded::Date(content) => {
             decoder.details.place = place;
             hand_date(content, visitor)

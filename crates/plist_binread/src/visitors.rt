@@ -2,27 +2,27 @@
 //! event.
 
 ghost use Rattle.std.specs.Prelude.{◌≡◌};
+ghost use Rattle.plist_base.specs.Events.{ScalarEvent};
+ghost use Rattle.plist_base.specs.Trees.{Data as DataScalar, String as StringScalar};
 
 use plist_base::{
-    Allowance, Date, Error, Event, EventVisitor, Integer, LimitCounter, OwnedEvent, RealBits, Uid,
-    Utf16Str,
+    Allowance, Date, Error, Event, EventVisitor, Integer, LimitCounter, OwnedEvent, PackedKind,
+    PackedScalar, RealBits, Uid, Utf16Str,
 };
 use std::alloc::Global;
 use std::borrow::{CowSlice, CowStr};
 use std::ops::ControlFlow;
 
-/// Passes all events on to another visitor. Its contract says that each of them is what contracts
-/// see of some [`Event`]. If a reader's contract describes owned events, the reader needs this when
-/// it hands over the events of a [`BinaryReader`](crate::BinaryReader).
+/// Passes all events on to another visitor.
 ///
-/// The code that enters an object, and the code that hands over a small scalar, are compiled once
-/// for every type of visitor that they are called with. A `BinaryReader` hands the first event of a
-/// file, and every scalar that is found in the cache, to a `Relay`. It hands all other events to
-/// its visitor directly. So the code for these has only one caller, and becomes part of the loop
-/// over the events. This saves a tenth of the instructions for every event. Every method passes its
-/// event on by the method of the same name. Without those for starts, ends and dates, a `Reader`,
-/// which hands all events of a binary file but the first to a `Relay`, takes 3 % more instructions
-/// for settings.
+/// The code that enters an object is compiled once for every type of visitor that it is called
+/// with. A `BinaryReader` hands the first event of a file, and every scalar that is found in the
+/// cache, to a `Relay`. It hands all other events to its visitor directly. So the code for these has
+/// only one caller, and becomes part of the loop over the events. This saves a tenth of the
+/// instructions for every event. Every method passes its event on by the method of the same name.
+/// Without those for starts, ends and dates, a `Reader`, which hands all events of a binary file but
+/// the first to a `Relay`, takes 3 % more instructions for settings. Booleans, numbers and Uids come
+/// packed.
 #[derive(Drop)]
 pub struct Relay<'v, V> {
     visitor: &'v mut V,
@@ -68,11 +68,6 @@ impl<'v, V: EventVisitor> EventVisitor for Relay<'v, V> {
     }
 
     #[inline(always)]
-    fn boolean(&mut self, value: bool) -> ControlFlow<()> {
-        self.visitor.boolean(value)
-    }
-
-    #[inline(always)]
     fn data(&mut self, bytes: CowSlice<'_, u8>) -> ControlFlow<()> {
         self.visitor.data(bytes)
     }
@@ -83,13 +78,8 @@ impl<'v, V: EventVisitor> EventVisitor for Relay<'v, V> {
     }
 
     #[inline(always)]
-    fn integer(&mut self, value: Integer) -> ControlFlow<()> {
-        self.visitor.integer(value)
-    }
-
-    #[inline(always)]
-    fn real(&mut self, bits: RealBits) -> ControlFlow<()> {
-        self.visitor.real(bits)
+    fn packed(&mut self, scalar: PackedScalar) -> ControlFlow<()> {
+        self.visitor.packed(scalar)
     }
 
     #[inline(always)]
@@ -100,11 +90,6 @@ impl<'v, V: EventVisitor> EventVisitor for Relay<'v, V> {
     #[inline(always)]
     fn utf16_string(&mut self, text: Utf16Str<'_>) -> Option<ControlFlow<()>> {
         self.visitor.utf16_string(text)
-    }
-
-    #[inline(always)]
-    fn uid(&mut self, uid: Uid) -> ControlFlow<()> {
-        self.visitor.uid(uid)
     }
 }
 
@@ -168,9 +153,27 @@ pub struct FirstEvent {
 }
 
 impl FirstEvent {
+    ghost use Rattle.plist_binread.specs.Handovers.{KeepsEvent};
+
     /// Creates a visitor that hasn't received an event yet.
     pub fn new(alloc: Global) -> FirstEvent {
         FirstEvent { alloc, kept: None }
+    }
+
+    // Keeps the event of a string.
+    #[inline(never)]
+    fn keep_text(&mut self, text: &str) -> ControlFlow<()>
+        ensures { KeepsEvent (ScalarEvent (StringScalar text.now)) result self.new }
+    {
+        self.event(Event::String(CowStr::Borrowed(text)))
+    }
+
+    // Keeps the event of data.
+    #[inline(never)]
+    fn keep_data(&mut self, bytes: &[u8]) -> ControlFlow<()>
+        ensures { KeepsEvent (ScalarEvent (DataScalar bytes.now)) result self.new }
+    {
+        self.event(Event::Data(CowSlice::Borrowed(bytes)))
     }
 }
 
@@ -183,5 +186,33 @@ impl EventVisitor for FirstEvent {
     fn event(&mut self, event: Event<'_>) -> ControlFlow<()> {
         self.kept = event.into_owned(self.alloc).ok();
         ControlFlow::Break(())
+    }
+
+    // The method of the trait isn't inlined into a visitor that inherits it. Then `next` takes a tenth
+    // more instructions for integers.
+    #[inline(always)]
+    fn packed(&mut self, scalar: PackedScalar) -> ControlFlow<()> {
+        let content = scalar.content();
+        let bytes = content.to_be_bytes();
+        match scalar.kind() {
+            PackedKind::Boolean(value) => self.event(Event::Boolean(value)),
+            PackedKind::Unsigned => self.event(Event::Integer(Integer::from(content))),
+            PackedKind::Negative => {
+                self.event(Event::Integer(Integer::from(content.cast_signed())))
+            }
+            PackedKind::Real => self.event(Event::Real(RealBits::Eight(bytes))),
+            PackedKind::ShortReal => {
+                let mut four = [0; 4];
+                four.copy_from_slice(&bytes[..4]);
+                self.event(Event::Real(RealBits::Four(four)))
+            }
+            PackedKind::Uid => self.event(Event::Uid(Uid::new(content))),
+            PackedKind::Data(size) => self.keep_data(&bytes[..usize::from(size)]),
+            PackedKind::String(size) => self.keep_text(scalar.text_in(&bytes, size)),
+            PackedKind::Date => match Date::from_plist_real(bytes) {
+                Ok(date) => self.event(Event::Date(date)),
+                Err(_) => unreachable!(),
+            },
+        }
     }
 }

@@ -2,6 +2,7 @@
 
 ghost use Rattle.std.specs.Prelude.{◌≡◌, length, reverse};
 ghost use Rattle.std.proofs.Props.{props};
+ghost use Rattle.plist_base.specs.Packing.{packable_prop};
 ghost use Rattle.plist_binread.specs.Remaining.{ArePacked, MarksOpenPath};
 
 use crate::frames::{Frame, Frames, NextChild};
@@ -21,7 +22,7 @@ pub struct Walk {
     pub frames: Frames,
     ghost same: { length contents.items ≡ length tags.items } by { Prim.hlevel props },
     ghost path: { MarksOpenPath tags.items (reverse frames) } by { Prim.hlevel props },
-    ghost packed: { ArePacked tags.items contents.items } by { Prim.hlevel props },
+    ghost packed: { ArePacked tags.items contents.items } by { Prim.hlevel (props, packable_prop) },
 }
 
 impl Walk {

@@ -4,7 +4,7 @@
 //!
 //! For the plan of a file, the lengths of scalars are computed before any byte is put.
 
-ghost use Rattle.std.specs.Prelude.{◌≡◌, ◌≤◌, ◌+◌, ◌∷◌, length, true};
+ghost use Rattle.std.specs.Prelude.{◌≡◌, ◌≤◌, ◌+◌, ◌∷◌, length, take, true};
 ghost use Rattle.plist_base.specs.Trees as trees;
 ghost use Rattle.plist_binwrite.specs.Forms.{IsWritableScalar, integer_marker, unsigned_form, length_form, scalar_form, table_form};
 ghost use Rattle.plist_binwrite.specs.inner.Numbering.{IsCapped};
@@ -13,6 +13,7 @@ ghost use Rattle.plist_base.specs.Utf16.{utf8_of_utf16};
 ghost use Rattle.plist_buffer.specs.AsciiTexts.{is_ascii_text};
 ghost use Rattle.plist_buffer.specs.StoredScalars.{IsStored, IsWide, scalar_of_ref};
 ghost use Rattle.plist_base.specs.Object.{byte_of};
+ghost use Rattle.plist_base.specs.PackedScalars.{scalar_of_packed};
 ghost use Rattle.plist_base.specs.Sinks.{Puts};
 ghost use Rattle.plist_binwrite.specs.Written.{table_and_trailer, trailer_of};
 
@@ -21,10 +22,20 @@ use crate::text::{count_units, put_ascii, put_wide};
 use crate::widths::{least_width, offset_width, reference_width};
 pub use plist_base::marker::CountedKind;
 use plist_base::marker::{LowHalf, Marker, UidWidth};
-use plist_base::{Date, Integer, RealBits, Sink, Uid};
+use plist_base::{Date, Integer, PackedKind, PackedScalar, RealBits, Sink, Uid};
 use plist_buffer::stored_scalar::ScalarRef;
 use plist_buffer::wide::is_ascii_text;
 use std::io::Write;
+
+// Returns eight bytes that begin with the lowest `width` bytes of a number in big-endian order.
+#[inline(always)]
+fn front_of(width: usize, number: u64) -> [u8; 8]
+    requires { width ≤ 8 }
+    ensures { take width result ≡ bytes_high_first width number }
+{
+    // If `width` is 0, the shift is by 64 bits, which leaves the number as it is.
+    number.wrapping_shl(64 - 8 * width as u32).to_be_bytes()
+}
 
 /// Puts the lowest `width` bytes of a number in big-endian order. `width` is at most 8.
 #[inline(always)]
@@ -33,9 +44,7 @@ pub fn put_number<W: Write>(sink: &mut Sink<'_, W>, width: usize, number: u64)
     ensures { Puts W.contents sink.old (bytes_high_first width number) sink.new }
 {
     sink.make_room(8);
-    // A shift by 64 bits, for which no byte is pushed, leaves the number as it is.
-    let shifted = number.wrapping_shl(64 - 8 * width as u32);
-    sink.buffer.push_first(shifted.to_be_bytes(), width);
+    sink.buffer.push_first(front_of(width, number), width);
 }
 
 // Puts a marker and the bytes of an array.
@@ -55,8 +64,9 @@ fn put_marked_number<W: Write>(sink: &mut Sink<'_, W>, marker: Marker, width: us
     requires width { width ≤ 8 }
     ensures { Puts W.contents sink.old (byte_of marker ∷ bytes_high_first width number) sink.new }
 {
-    put_marked(sink, marker, []);
-    put_number(sink, width, number);
+    sink.make_room(9);
+    sink.buffer.push_array([marker.encode()]);
+    sink.buffer.push_first(front_of(width, number), width);
 }
 
 // Returns the marker of a number of this width.
@@ -102,15 +112,33 @@ pub fn put_scalar<W: Write>(sink: &mut Sink<'_, W>, scalar: ScalarRef<'_>)
     ensures { Puts W.contents sink.old (scalar_form (scalar_of_ref scalar.entry)) sink.new }
 {
     match scalar {
+        ScalarRef::Packed(packed) => put_packed(sink, packed),
         ScalarRef::AsciiString(text) => put_ascii(sink, text),
-        ScalarRef::String(text) => put_text(sink, text),
         ScalarRef::WideString(units) => put_wide(sink, units),
         ScalarRef::Data(bytes) => put_data(sink, bytes),
-        ScalarRef::Boolean(value) => put_boolean(sink, value),
-        ScalarRef::Date(date) => put_date(sink, date),
-        ScalarRef::Integer(value) => put_integer(sink, value),
-        ScalarRef::Real(bits) => put_real(sink, bits),
-        ScalarRef::Uid(uid) => put_uid(sink, uid),
+    }
+}
+
+// Puts the object of a scalar that isn't a string or data of more than eight bytes.
+fn put_packed<W: Write>(sink: &mut Sink<'_, W>, scalar: PackedScalar)
+    ensures { Puts W.contents sink.old (scalar_form (scalar_of_packed scalar)) sink.new }
+{
+    let content = scalar.content();
+    let bytes = content.to_be_bytes();
+    match scalar.kind() {
+        PackedKind::Boolean(value) => put_boolean(sink, value),
+        PackedKind::Unsigned => put_integer(sink, Integer::from(content)),
+        PackedKind::Negative => put_integer(sink, Integer::from(content.cast_signed())),
+        PackedKind::Real => put_marked(sink, Marker::Real8, bytes),
+        PackedKind::ShortReal => {
+            let mut four = [0; 4];
+            four.copy_from_slice(&bytes[..4]);
+            put_marked(sink, Marker::Real4, four);
+        }
+        PackedKind::Uid => put_uid(sink, Uid::new(content)),
+        PackedKind::Data(size) => put_data(sink, &bytes[..usize::from(size)]),
+        PackedKind::String(size) => put_text(sink, scalar.text_in(&bytes, size)),
+        PackedKind::Date => put_marked(sink, Marker::Date, bytes),
     }
 }
 
@@ -241,6 +269,14 @@ fn length_of_bytes(count: u64) -> u64
     count.saturating_add(length_of_count(count))
 }
 
+// Returns the length of the object of data, or 2^64 - 1 if it is greater.
+fn length_of_data(content: &[u8]) -> u64
+    ensures value { IsCapped result (length (scalar_form (trees.Data content.now))) }
+    ensures writable { IsWritableScalar (trees.Data content.now) }
+{
+    length_of_bytes(content.len() as u64)
+}
+
 // Returns the length of the object of a string in ASCII, or 2^64 - 1 if it is greater.
 fn length_of_ascii(text: &str) -> u64
     requires { is_ascii_text text.now ≡ true }
@@ -288,6 +324,23 @@ fn length_of_integer(value: Integer) -> u64
     }
 }
 
+// Returns the length of the object of a scalar that isn't a string or data of more than eight bytes.
+fn length_of_packed(scalar: PackedScalar) -> u64
+    ensures value { IsCapped result (length (scalar_form (scalar_of_packed scalar))) }
+    ensures writable { IsWritableScalar (scalar_of_packed scalar) }
+{
+    let content = scalar.content();
+    match scalar.kind() {
+        PackedKind::Boolean(_) => 1,
+        PackedKind::Unsigned => length_of_integer(Integer::from(content)),
+        PackedKind::Negative | PackedKind::Real | PackedKind::Date => 9,
+        PackedKind::ShortReal => 5,
+        PackedKind::Uid => length_of_unsigned(content),
+        PackedKind::Data(size) => length_of_data(&content.to_be_bytes()[..usize::from(size)]),
+        PackedKind::String(size) => length_of_text(scalar.text_in(&content.to_be_bytes(), size)),
+    }
+}
+
 /// Returns the length of a scalar's object in bytes, or 2^64 - 1 if it is greater.
 pub(crate) fn length_of_scalar(scalar: ScalarRef<'_>) -> u64
     requires { IsStored scalar }
@@ -295,17 +348,9 @@ pub(crate) fn length_of_scalar(scalar: ScalarRef<'_>) -> u64
     ensures writable { IsWritableScalar (scalar_of_ref scalar.entry) }
 {
     match scalar {
+        ScalarRef::Packed(packed) => length_of_packed(packed),
         ScalarRef::AsciiString(text) => length_of_ascii(text),
-        ScalarRef::Boolean(_) => 1,
-        ScalarRef::Data(bytes) => length_of_bytes(bytes.len() as u64),
-        ScalarRef::Date(date) => 1 + date.to_plist_real().len() as u64,
-        ScalarRef::Integer(value) => length_of_integer(value),
-        ScalarRef::Real(bits) => match bits {
-            RealBits::Four(_) => 5,
-            RealBits::Eight(_) => 9,
-        },
-        ScalarRef::String(text) => length_of_text(text),
-        ScalarRef::Uid(uid) => length_of_unsigned(uid.get()),
         ScalarRef::WideString(units) => length_of_wide(units),
+        ScalarRef::Data(bytes) => length_of_data(bytes),
     }
 }

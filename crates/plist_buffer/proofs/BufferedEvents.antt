@@ -13,12 +13,12 @@ use Rattle.plist_buffer.specs.declared.expects.Expect.{Expect}
 use Rattle.plist_buffer.specs.declared.expects.Expect.TheVariants.{Items}
 use Rattle.plist_buffer.specs.declared.expects.Transition.{Transition}
 use Rattle.plist_buffer.specs.declared.expects.Transition.TheVariants.{Kept}
-use Rattle.plist_buffer.specs.declared.small_scalar.SmallScalar.{SmallScalar}
+use Rattle.plist_base.specs.declared.packed_scalar.PackedScalar.{PackedScalar}
 use Rattle.plist_buffer.specs.inner.Expected.{expected_inside, innermost, ExpectsNext, change_on, next_expected}
 use Rattle.plist_buffer.proofs.Expectations.{can_take, expects_next, tests_next}
 
 -- the first k of the scalars that waited were appended to the table, and the others still wait
-pub still_buffered : {waiting slice left : List SmallScalar} (before : List PlainEvent)
+pub still_buffered : {waiting slice left : List PackedScalar} (before : List PlainEvent)
     {after : List PlainEvent} (k : ℕ) → slice ≡ waiting
     → after ≡ before ++ events_of_small (take k slice) → left ≡ drop k waiting
     → after ++ events_of_small left ≡ before ++ events_of_small waiting
@@ -41,7 +41,7 @@ pub record AreNext (s : EventBuffer) (e : PlainEvent) (events : List PlainEvent)
 module _ (s t : EventBuffer) (same : buffered_events t ≡ buffered_events s)
     (expects : t.expects ≡ s.expects) where
   -- a scalar waits, which is an item of an array
-  pub after_waiting : (x : SmallScalar) {waiting : List SmallScalar} → s.expects ≡ Some Items
+  pub after_waiting : (x : PackedScalar) {waiting : List PackedScalar} → s.expects ≡ Some Items
       → waiting ≡ t.waiting ++ x ∷ []
       → AreNext s (event_of_small x) (plain_events t.held ++ events_of_small waiting) t.expects
   after_waiting x {waiting} items is =

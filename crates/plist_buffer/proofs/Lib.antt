@@ -17,6 +17,6 @@ pub mod Uniques
 pub mod SetKeys
 pub mod Innermost
 pub mod ChildIndices
-pub mod Padding
 pub mod GrownScalars
 pub mod TextUnits
+pub mod LongScalars

@@ -5,13 +5,14 @@ use Rattle.std.proofs.lemmas.Bool.{cases_Bool, both_ways as never_both}
 use Rattle.std.proofs.lemmas.Slice.Eq.{bytes_eq-Decides}
 use Rattle.plist_base.specs.Events.{ScalarEvent}
 use Rattle.plist_base.specs.Scalars.{scalar_eq, scalar_is, scalar_refl}
-use Rattle.plist_base.specs.Trees.{Scalar}
-use Rattle.plist_buffer.specs.StoredScalars.{scalar_of_small, scalar_of_long, event_of_small, event_of_long}
+use Rattle.plist_base.specs.Trees.{Scalar, Data, String}
+use Rattle.plist_base.specs.PackedScalars.{packed_eq, scalar_of_packed}
+use Rattle.plist_base.specs.Packing.{IsPackable}
+use Rattle.plist_base.proofs.PackedScalars.{is_packed_eq, packed_is}
+use Rattle.plist_buffer.specs.StoredScalars.{scalar_of_long, event_of_small, event_of_long}
 use Rattle.plist_buffer.specs.declared.long_scalar.LongScalar.{LongScalar}
-use Rattle.plist_buffer.specs.declared.small_scalar.SmallScalar.{SmallScalar}
-use Rattle.plist_buffer.specs.declared.small_scalar.SmallScalar.TheVariants as small
+use Rattle.plist_base.specs.declared.packed_scalar.PackedScalar.{PackedScalar}
 use Rattle.plist_buffer.specs.inner.LongContents.{bytes_in_scalar}
-use Rattle.plist_buffer.proofs.Padding.{short_length}
 
 -- a test's result, which says whether the two are equal
 abbrev pub Answers : {K : Type 0} → Bool → K → K → Type 0
@@ -57,10 +58,6 @@ scalars_tell a b =
 
 -- ---- stored scalars
 
--- equality of small scalars
-abbrev pub small_eq : SmallScalar → SmallScalar → Bool
-small_eq a b = scalar_eq (scalar_of_small a) (scalar_of_small b)
-
 -- equality of long scalars
 abbrev pub long_eq : LongScalar → LongScalar → Bool
 long_eq a b = scalar_eq (scalar_of_long a) (scalar_of_long b)
@@ -75,11 +72,13 @@ event_same a b h =
     let e : a ≡ b = cc in
     subst (λ x. scalar_eq a x ≡ true) e (scalar_refl a)
 
-pub small_same : (a b : SmallScalar) → small_eq a b ≡ true → event_of_small a ≡ event_of_small b
-small_same a b h = same_event (scalar_of_small a) (scalar_of_small b) h
+pub small_same : (a b : PackedScalar) → packed_eq a b ≡ true → event_of_small a ≡ event_of_small b
+small_same a b h = ap ScalarEvent (packed_is a b h)
 
-pub same_small : (a b : SmallScalar) → event_of_small a ≡ event_of_small b → small_eq a b ≡ true
-same_small a b h = event_same (scalar_of_small a) (scalar_of_small b) h
+pub same_small : (a b : PackedScalar) → event_of_small a ≡ event_of_small b → packed_eq a b ≡ true
+same_small a b h =
+    let e : scalar_of_packed a ≡ scalar_of_packed b = cc in
+    is_packed_eq a b e
 
 pub long_same : (a b : LongScalar) → long_eq a b ≡ true → event_of_long a ≡ event_of_long b
 long_same a b h = same_event (scalar_of_long a) (scalar_of_long b) h
@@ -87,14 +86,14 @@ long_same a b h = same_event (scalar_of_long a) (scalar_of_long b) h
 pub same_long : (a b : LongScalar) → event_of_long a ≡ event_of_long b → long_eq a b ≡ true
 same_long a b h = event_same (scalar_of_long a) (scalar_of_long b) h
 
--- a small string or small data has at most eight bytes
-small_bytes : (a : SmallScalar) → bytes_in_scalar (scalar_of_small a) ≤ 8
-small_bytes (small.String text) = omega (arith, short_length text.content, text.content.fits)
-small_bytes (small.Data bytes) = omega (arith, short_length bytes, bytes.fits)
-small_bytes a = omega arith
+-- a packed string or packed data has at most eight bytes
+packable_bytes : (scalar : Scalar) → IsPackable scalar → bytes_in_scalar scalar ≤ 8
+packable_bytes (String text) kept = kept.0
+packable_bytes (Data bytes) kept = kept
+packable_bytes scalar kept = omega arith
 
--- no small scalar is a long one
-pub small_or_long : (a : SmallScalar) (b : LongScalar) → event_of_small a ≡ event_of_long b → ⊥
+-- no packed scalar is a long one
+pub small_or_long : (a : PackedScalar) (b : LongScalar) → event_of_small a ≡ event_of_long b → ⊥
 small_or_long a b h =
-    let e : scalar_of_small a ≡ scalar_of_long b = cc in
-    omega (arith, small_bytes a, b.long, ap bytes_in_scalar e)
+    let e : scalar_of_packed a ≡ scalar_of_long b = cc in
+    omega (arith, packable_bytes (scalar_of_packed a) a.packed.packable, b.stored.long, ap bytes_in_scalar e)

@@ -95,6 +95,11 @@ module _ {T P : Type 0} (same : T → T → Bool) (view : T → P) where
         same_key _ f.1,
       )
 
+  -- the key with a number has the view that is stored with this number
+  pub key_read : (cs : List T) (i : ℕ) (x : T) (shown : P) → slice_get (map view cs) i ≡ Some shown
+      → Some x ≡ slice_get cs i → shown ≡ view x
+  key_read cs i x shown stored found = cc (slice_get-map view cs i, stored, found)
+
   -- if the inserted key is removed, the keys are the old ones
   pub keys_back : (b : Bool) (old new : List T) (x : T) → new ≡ (if b then old else old ++ x ∷ [])
       → take (length old) new ≡ old

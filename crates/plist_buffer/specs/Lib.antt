@@ -1,9 +1,7 @@
 pub mod Expects
 pub mod Occurrences
-pub mod LongStrings
 pub mod ShortContents
 pub mod AsciiTexts
-pub mod WideStrings
 pub mod StoredScalars
 pub mod EventTable
 pub mod Children

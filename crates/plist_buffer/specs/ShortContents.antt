@@ -1,13 +1,7 @@
--- What short strings and short data contain.
+-- The bytes that are stored in a value itself.
 use Rattle.std.specs.Prelude.{ℕ, List, take}
-use Rattle.plist_buffer.specs.declared.short.ShortBytes.{ShortBytes}
-use Rattle.plist_buffer.specs.declared.short.ShortText.{ShortText}
+use Rattle.plist_buffer.specs.declared.short_bytes.ShortBytes.{ShortBytes}
 
-module _ {n : ℕ} where
-  -- the bytes of short data
-  abbrev pub short_data : ShortBytes n → List ℕ
-  short_data short = take short.len short.bytes
-
-  -- the bytes of a short string
-  abbrev pub short_string : ShortText n → List ℕ
-  short_string short = short_data short.content
+-- the bytes
+abbrev pub short_bytes : ShortBytes → List ℕ
+short_bytes short = take short.len short.bytes

@@ -4,6 +4,5 @@ pub mod Columns
 pub mod Entries
 pub mod Expected
 pub mod LongContents
-pub mod Padded
 pub mod UnclosedStarts
 pub mod StoredEquality

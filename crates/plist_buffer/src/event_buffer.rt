@@ -2,7 +2,7 @@
 //!
 //! Some items of an array wait until there are sixteen and another one follows, or until another
 //! event follows. Then they are looked up together, which `event_table::batches` explains. Strings
-//! and data don't wait, since most of them are too long for a small scalar.
+//! and data of more than eight bytes don't wait.
 
 ghost use Rattle.std.proofs.Props.{props};
 ghost use Rattle.std.specs.Prelude.{◌≡◌, ◌<◌, ◌++◌, ℕ, List, Some, length, IfSome};
@@ -16,11 +16,9 @@ ghost use Rattle.plist_buffer.specs.inner.Expected.{ExpectsNext, change_on, expe
 
 use crate::event_table::EventTable;
 use crate::expects::{Expect, Transition};
-use crate::long_str::{AsciiStr, LongStr};
-use crate::small_scalar::SmallScalar;
+use crate::long_scalar::LongRef;
 use crate::waiting::{BATCH_SIZE, WaitingScalars};
-use crate::wide::WideStr;
-use plist_base::{Event, EventKind, Utf16Str};
+use plist_base::{Event, EventKind, PackedScalar, Utf16Str};
 use std::alloc::{AllocError, Global};
 use std::borrow::CowStr;
 
@@ -53,8 +51,8 @@ impl From<AllocError> for PushError {
 /// The buffered events of the open property list. Once they form a whole property list, no event
 /// can be added until they are cleared.
 ///
-/// The last events may wait to be appended to the table, if they are items of an array and neither
-/// collections, nor strings, nor data.
+/// The last events may wait to be appended to the table, if they are items of an array, and are
+/// neither collections, nor strings or data of more than eight bytes.
 #[derive(Drop)]
 pub struct EventBuffer {
     held: EventTable<'static>,
@@ -77,27 +75,22 @@ fn change_on(expects: Option<Expect>, event: &Event<'_>) -> Transition
     }
 }
 
+// Returns how a scalar changes what is expected next.
+#[inline(always)]
+fn change_by_scalar(expects: Option<Expect>, scalar: PackedScalar) -> Transition
+    ensures { result ≡ change_on expects (event_of_small scalar) }
+{
+    match expects {
+        Some(expect) => expect.change_by_scalar(scalar),
+        None => Transition::Refused,
+    }
+}
+
 // Returns how a string changes what is expected next.
 fn change_by_string(expects: Option<Expect>) -> Transition
     ensures { (text : List ℕ) → result ≡ change_on expects (ScalarEvent (String text)) }
 {
     change_on(expects, &Event::String(CowStr::Borrowed("")))
-}
-
-// Returns the scalar of an event if it is an item of an array and neither a string nor data, given
-// how the event changes what is expected next.
-#[inline(always)]
-fn fixed_item(change: Transition, event: &Event<'_>) -> Option<SmallScalar>
-    ensures change { IfSome result (λ _. change ≡ Kept) }
-    ensures scalar { IfSome result (λ small. event_of_small small ≡ event_of event.now) }
-{
-    match change {
-        Transition::Kept => SmallScalar::of_fixed_size(event),
-        Transition::Refused
-        | Transition::Closed
-        | Transition::Pushed(_)
-        | Transition::Replaced(_) => None,
-    }
 }
 
 // Returns what is expected next. The event that made this change is already in `held`.
@@ -120,11 +113,11 @@ fn next_expected(
 impl EventBuffer {
     ghost use Rattle.std.specs.Prelude.{◌≡◌, ◌<◌, [], false, true, None, IfErr, IfSome, OnOk, OnErr};
     ghost use Rattle.plist_base.specs.Events.{ScalarEvent, event_of};
+    ghost use Rattle.plist_base.specs.PackedScalars.{IsUnpackable};
     ghost use Rattle.plist_base.specs.Trees.{String};
     ghost use Rattle.plist_base.specs.Utf16Strings.{string_of_utf16};
     ghost use Rattle.plist_base.specs.ByteTests.{EachByte};
-    ghost use Rattle.plist_buffer.specs.LongStrings.{string_of_long};
-    ghost use Rattle.plist_buffer.specs.StoredScalars.{event_of_small};
+    ghost use Rattle.plist_buffer.specs.StoredScalars.{event_of_small, scalar_of_long_ref};
     ghost use Rattle.plist_buffer.specs.EventBuffers.{buffered_events, is_whole, misplaced_error, Accepts, BuffersNext, CanTake, RejectsEvent};
     ghost use Rattle.plist_buffer.specs.inner.Expected.{change_on};
 
@@ -207,7 +200,7 @@ impl EventBuffer {
 
     // Buffers an item of an array, given its scalar. The item waits.
     #[inline(always)]
-    fn add_waiting(&mut self, scalar: SmallScalar) -> Result<(), AllocError>
+    fn add_waiting(&mut self, scalar: PackedScalar) -> Result<(), AllocError>
         requires { self.old.expects ≡ Some Items }
         ensures taken { OnOk result (BuffersNext self.old (event_of_small scalar) self.new) }
         ensures unchanged { OnErr result (buffered_events self.new ≡ buffered_events self.old) }
@@ -215,6 +208,49 @@ impl EventBuffer {
     {
         self.append_if_full()?;
         self.waiting.push(scalar);
+        Ok(())
+    }
+
+    // Buffers a scalar that can follow the buffered events, given how it changes what is expected
+    // next.
+    #[inline(always)]
+    fn hold_scalar(&mut self, scalar: PackedScalar, change: Transition) -> Result<(), AllocError>
+        requires still { is_whole self.old ≡ false }
+        requires accepted { CanTake self.old (event_of_small scalar) }
+        requires change { change ≡ change_on self.old.expects (event_of_small scalar) }
+        ensures taken { OnOk result (BuffersNext self.old (event_of_small scalar) self.new) }
+        ensures unchanged { OnErr result (buffered_events self.new ≡ buffered_events self.old) }
+        ensures whole { OnErr result (is_whole self.new ≡ is_whole self.old) }
+    {
+        if let Transition::Kept = change {
+            return self.add_waiting(scalar);
+        }
+        self.append_if_any()?;
+        self.held.push_small(scalar)?;
+        self.expects = next_expected(change, self.expects, &self.held);
+        Ok(())
+    }
+
+    // Buffers an event that isn't a scalar of at most eight bytes, and that can follow the buffered
+    // ones, given how it changes what is expected next.
+    #[inline(always)]
+    fn hold_large(
+        &mut self,
+        alloc: Global,
+        event: Event<'_>,
+        change: Transition,
+    ) -> Result<(), AllocError>
+        requires still { is_whole self.old ≡ false }
+        requires accepted { CanTake self.old (event_of event) }
+        requires change { change ≡ change_on self.old.expects (event_of event) }
+        requires large { IsUnpackable (event_of event) }
+        ensures taken { OnOk result (BuffersNext self.old (event_of event.entry) self.new) }
+        ensures unchanged { OnErr result (buffered_events self.new ≡ buffered_events self.old) }
+        ensures whole { OnErr result (is_whole self.new ≡ is_whole self.old) }
+    {
+        self.append_if_any()?;
+        self.held.push_copy(alloc, event)?;
+        self.expects = next_expected(change, self.expects, &self.held);
         Ok(())
     }
 
@@ -234,55 +270,84 @@ impl EventBuffer {
         ensures unchanged { OnErr result (buffered_events self.new ≡ buffered_events self.old) }
         ensures whole { OnErr result (is_whole self.new ≡ is_whole self.old) }
     {
-        if let Some(scalar) = fixed_item(change, &event) {
-            return self.add_waiting(scalar);
+        match PackedScalar::of_event(&event) {
+            Some(scalar) => self.hold_scalar(scalar, change),
+            None => self.hold_large(alloc, event, change),
         }
-        self.append_if_any()?;
-        self.held.push_copy(alloc, event)?;
-        self.expects = next_expected(change, self.expects, &self.held);
-        Ok(())
     }
 
-    // Buffers a string of more than eight bytes that can follow the buffered events, given how it
-    // changes what is expected next.
+    // Buffers a string or data of more than eight bytes that can follow the buffered events, given
+    // how it changes what is expected next.
     #[inline(always)]
     fn hold_long(
         &mut self,
         alloc: Global,
-        text: LongStr<'_>,
+        scalar: LongRef<'_>,
         change: Transition,
     ) -> Result<(), AllocError>
         requires still { is_whole self.old ≡ false }
-        requires accepted { CanTake self.old (ScalarEvent (String (string_of_long text))) }
+        requires accepted { CanTake self.old (ScalarEvent (scalar_of_long_ref scalar)) }
         requires change { change
-            ≡ change_on self.old.expects (ScalarEvent (String (string_of_long text))) }
+            ≡ change_on self.old.expects (ScalarEvent (scalar_of_long_ref scalar)) }
         ensures taken { OnOk result (BuffersNext self.old
-            (ScalarEvent (String (string_of_long text.entry))) self.new) }
+            (ScalarEvent (scalar_of_long_ref scalar.entry)) self.new) }
         ensures unchanged { OnErr result (buffered_events self.new ≡ buffered_events self.old) }
         ensures whole { OnErr result (is_whole self.new ≡ is_whole self.old) }
     {
         self.append_if_any()?;
-        self.held.copy_long(alloc, text)?;
+        self.held.copy_long(alloc, scalar)?;
         self.expects = next_expected(change, self.expects, &self.held);
         Ok(())
     }
 
-    // Buffers a string of more than eight bytes, which may be a key, if it can follow the buffered
-    // events. Otherwise returns `None` and changes nothing.
+    // Buffers a string or data of more than eight bytes if it can follow the buffered events, given
+    // how it changes what is expected next. Otherwise returns `None` and changes nothing.
     #[inline(always)]
-    fn try_push_long(&mut self, alloc: Global, text: LongStr<'_>) -> Option<Result<(), PushError>>
+    fn try_push_long(
+        &mut self,
+        alloc: Global,
+        scalar: LongRef<'_>,
+        change: Transition,
+    ) -> Option<Result<(), PushError>>
         requires still { is_whole self.old ≡ false }
+        requires change { change
+            ≡ change_on self.old.expects (ScalarEvent (scalar_of_long_ref scalar)) }
         ensures taken { IfSome result (λ answer. OnOk answer (Accepts self.old
-            (ScalarEvent (String (string_of_long text.entry))) self.new)) }
+            (ScalarEvent (scalar_of_long_ref scalar.entry)) self.new)) }
         ensures refused { IfSome result (λ answer. IfErr answer (RejectsEvent self.old
-            (ScalarEvent (String (string_of_long text.entry))) self.new)) }
+            (ScalarEvent (scalar_of_long_ref scalar.entry)) self.new)) }
         ensures declined { result ≡ None → self.new ≡ self.old }
     {
-        let change = change_by_string(self.expects);
         if let Transition::Refused = change {
             return None;
         }
-        match self.hold_long(alloc, text, change) {
+        match self.hold_long(alloc, scalar, change) {
+            Ok(()) => Some(Ok(())),
+            Err(error) => Some(Err(PushError::from(error))),
+        }
+    }
+
+    /// Buffers a scalar, which may be a key, if it can follow the buffered events, which must not
+    /// form a whole property list. Otherwise returns `None` and changes nothing.
+    ///
+    /// # Errors
+    ///
+    /// `OutOfMemory` if an allocation fails. The buffered events are unchanged then.
+    #[inline(always)]
+    pub fn try_push_packed(&mut self, scalar: PackedScalar) -> Option<Result<(), PushError>>
+        requires still { is_whole self.old ≡ false }
+        ensures taken { IfSome result (λ answer. OnOk answer (Accepts self.old
+            (event_of_small scalar) self.new)) }
+        ensures refused { IfSome result (λ answer. IfErr answer (RejectsEvent self.old
+            (event_of_small scalar) self.new)) }
+        ensures declined { result ≡ None → self.new ≡ self.old }
+        ensures misplaced { result ≡ None → CanTake self.old (event_of_small scalar) → ⊥ }
+    {
+        let change = change_by_scalar(self.expects, scalar);
+        if let Transition::Refused = change {
+            return None;
+        }
+        match self.hold_scalar(scalar, change) {
             Ok(()) => Some(Ok(())),
             Err(error) => Some(Err(PushError::from(error))),
         }
@@ -306,8 +371,8 @@ impl EventBuffer {
             (ScalarEvent (String bytes.now)) self.new)) }
         ensures declined { result ≡ None → self.new ≡ self.old }
     {
-        let text = AsciiStr::new(bytes)?;
-        self.try_push_long(alloc, LongStr::Ascii(text))
+        let text = LongRef::of_ascii(bytes)?;
+        self.try_push_long(alloc, text, change_by_string(self.expects))
     }
 
     /// Buffers a string in UTF-16, which may be a key, if it can follow the buffered events, which
@@ -330,8 +395,8 @@ impl EventBuffer {
             (ScalarEvent (String (string_of_utf16 text.entry))) self.new)) }
         ensures declined { result ≡ None → self.new ≡ self.old }
     {
-        let wide = WideStr::new(text)?;
-        self.try_push_long(alloc, LongStr::Wide(wide))
+        let wide = LongRef::of_utf16(text)?;
+        self.try_push_long(alloc, wide, change_by_string(self.expects))
     }
 
     /// Buffers an event if it can follow the buffered ones, which must not form a whole property

@@ -2,6 +2,7 @@
 
 ghost use Rattle.std.specs.Prelude.{◌≡◌, ◌^◌, ◌<◌, true, length, OnOk, OnErr, ◌-◌};
 ghost use Rattle.std.proofs.Props.{props};
+ghost use Rattle.std.specs.Cow.{cow_slice_items, cow_str_bytes};
 ghost use Rattle.plist_base.specs.Events.{EndCollection, ScalarEvent, shape_of};
 ghost use Rattle.plist_base.specs.Outcomes.{OnlyMemory};
 ghost use Rattle.plist_buffer.specs.inner.Entries.{is_leaf, AreValidEntries};
@@ -11,12 +12,11 @@ mod copies;
 
 use crate::entries::{Entries, EventEntry, ScalarNumber};
 use crate::expects::Expect;
-use crate::long_scalar::LongScalar;
-use crate::small_scalar::SmallScalar;
+use crate::long_scalar::{Form, LongScalar};
 use crate::stored_scalar::ScalarRef;
 use crate::wide::is_ascii_text;
 use indexmap::IndexSet;
-use plist_base::{CompactNumbers, Error, Event, EventShape, Integer};
+use plist_base::{CompactNumbers, Error, Event, EventShape, PackedScalar};
 use std::alloc::{AllocError, Global};
 use std::borrow::{CowSlice, CowStr};
 
@@ -28,7 +28,7 @@ use std::borrow::{CowSlice, CowStr};
 #[derive(Drop)]
 pub struct EventTable<'e> {
     // The different scalars that aren't strings or data of more than eight bytes.
-    small: IndexSet<SmallScalar>,
+    small: IndexSet<PackedScalar>,
     // The different strings and data of more than eight bytes.
     long: IndexSet<LongScalar<'e>>,
     entries: Entries,
@@ -57,10 +57,19 @@ fn additional_scalars(count: usize, held: usize, expected: usize) -> usize
         .min(missing)
 }
 
+// Returns the bytes of a string, which remain borrowed or owned.
+fn bytes_of_text<'e>(text: CowStr<'e>) -> CowSlice<'e, u8>
+    ensures { cow_slice_items result ≡ cow_str_bytes text.entry }
+{
+    match text {
+        CowStr::Borrowed(borrowed) => CowSlice::Borrowed(borrowed.as_bytes()),
+        CowStr::Owned(owned) => CowSlice::Owned(owned.into_bytes()),
+    }
+}
+
 impl<'e> EventTable<'e> {
     ghost use Rattle.plist_buffer.specs.StoredScalars.{IsStored, event_of_long, event_of_small, scalar_of_ref};
     ghost use Rattle.std.specs.Prelude.{[], None, Some, false, IfSome, ◌+◌};
-    ghost use Rattle.std.specs.Cow.{cow_slice_items, cow_str_bytes};
     ghost use Rattle.plist_base.specs.Trees.{Data as DataScalar, Integer as IntegerScalar, String as StringScalar};
     ghost use Rattle.plist_buffer.specs.EventTable.{plain_event, plain_events, scalars_of, lists_in, collection_number, count_collections, EndsCollection, GrowsBy, HasItem, IsScalarAt, LacksItem, table_event, entry_event};
     ghost use Rattle.plist_buffer.specs.inner.Columns.{scalar_named};
@@ -233,7 +242,7 @@ impl<'e> EventTable<'e> {
         ensures none { result ≡ None → is_leaf (table_event self.now index) ≡ false }
     {
         match self.entries.scalar(index)? {
-            ScalarNumber::Small(small) => Some(self.small.get_index(small)?.get()),
+            ScalarNumber::Small(small) => Some(ScalarRef::Packed(*self.small.get_index(small)?)),
             ScalarNumber::Long(long) => Some(self.long.get_index(long)?.get()),
         }
     }
@@ -311,7 +320,7 @@ impl<'e> EventTable<'e> {
 
     // Appends a small scalar, and stores it unless an equal one is stored already. If the
     // allocation for its entry fails, a scalar that was stored by this call is removed again.
-    fn push_small(&mut self, scalar: SmallScalar) -> Result<(), AllocError>
+    pub(crate) fn push_small(&mut self, scalar: PackedScalar) -> Result<(), AllocError>
         ensures events { OnOk result (GrowsBy self.old (event_of_small scalar) self.new) }
         ensures kept { OnOk result (KeepsScalars (lists_in self.old) (lists_in self.new)) }
         ensures unchanged { OnErr result (plain_events self.new ≡ plain_events self.old) }
@@ -360,15 +369,6 @@ impl<'e> EventTable<'e> {
         }
     }
 
-    // Appends an integer.
-    fn push_integer(&mut self, value: Integer) -> Result<(), AllocError>
-        ensures events { OnOk result (GrowsBy self.old
-            (ScalarEvent (IntegerScalar value)) self.new) }
-        ensures unchanged { OnErr result (plain_events self.new ≡ plain_events self.old) }
-    {
-        self.push_small(SmallScalar::of_integer(value))
-    }
-
     // Appends a string of more than eight bytes. It remains borrowed or owned if it is ASCII.
     fn push_long_text(&mut self, text: CowStr<'e>) -> Result<(), AllocError>
         requires { 8 < length (cow_str_bytes text) }
@@ -377,34 +377,10 @@ impl<'e> EventTable<'e> {
         ensures unchanged { OnErr result (plain_events self.new ≡ plain_events self.old) }
     {
         if is_ascii_text(text.as_str()) {
-            return self.push_long(LongScalar::of_ascii(text));
+            return self.push_long(LongScalar::new(Form::Ascii, bytes_of_text(text)));
         }
         let alloc = *self.long.allocator();
         self.push_long(LongScalar::encode(alloc, text.as_str())?)
-    }
-
-    // Appends a string.
-    fn push_text(&mut self, text: CowStr<'e>) -> Result<(), AllocError>
-        ensures events { OnOk result (GrowsBy self.old
-            (ScalarEvent (StringScalar (cow_str_bytes text.entry))) self.new) }
-        ensures unchanged { OnErr result (plain_events self.new ≡ plain_events self.old) }
-    {
-        match SmallScalar::of_text(text.as_str()) {
-            Some(small) => self.push_small(small),
-            None => self.push_long_text(text),
-        }
-    }
-
-    // Appends data. If it has more than eight bytes, it remains borrowed or owned.
-    fn push_data(&mut self, bytes: CowSlice<'e, u8>) -> Result<(), AllocError>
-        ensures events { OnOk result (GrowsBy self.old
-            (ScalarEvent (DataScalar (cow_slice_items bytes.entry))) self.new) }
-        ensures unchanged { OnErr result (plain_events self.new ≡ plain_events self.old) }
-    {
-        match SmallScalar::of_data(bytes.as_slice()) {
-            Some(small) => self.push_small(small),
-            None => self.push_long(LongScalar::of_data(bytes)),
-        }
     }
 
     // Appends an event. It returns an `AllocError` because the 120 bytes of an `Error` would be
@@ -413,18 +389,21 @@ impl<'e> EventTable<'e> {
         ensures events { OnOk result (GrowsBy self.old (plain_event event.entry) self.new) }
         ensures unchanged { OnErr result (plain_events self.new ≡ plain_events self.old) }
     {
+        if let Some(scalar) = PackedScalar::of_event(&event) {
+            return self.push_small(scalar);
+        }
         let following = self.entries.len() + 1;
         match event {
             Event::StartArray(_) => self.start(EventEntry::Array(following)),
             Event::StartDictionary(_) => self.start(EventEntry::Dictionary(following)),
             Event::EndCollection => self.end(),
-            Event::Boolean(value) => self.push_small(SmallScalar::Boolean(value)),
-            Event::Data(bytes) => self.push_data(bytes),
-            Event::Date(date) => self.push_small(SmallScalar::Date(date)),
-            Event::Integer(value) => self.push_integer(value),
-            Event::Real(bits) => self.push_small(SmallScalar::Real(bits)),
-            Event::String(text) => self.push_text(text),
-            Event::Uid(uid) => self.push_small(SmallScalar::Uid(uid)),
+            Event::Data(bytes) => self.push_long(LongScalar::new(Form::Data, bytes)),
+            Event::String(text) => self.push_long_text(text),
+            Event::Boolean(_)
+            | Event::Date(_)
+            | Event::Integer(_)
+            | Event::Real(_)
+            | Event::Uid(_) => unreachable!(),
         }
     }
 

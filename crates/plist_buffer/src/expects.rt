@@ -2,9 +2,10 @@
 
 ghost use Rattle.std.specs.Prelude.{◌≡◌};
 ghost use Rattle.plist_base.specs.Events.{event_of};
+ghost use Rattle.plist_buffer.specs.StoredScalars.{event_of_small};
 ghost use Rattle.plist_buffer.specs.Expects.{transition_of, transition_of_value, transition_of_items, transition_of_pairs};
 
-use plist_base::{Event, EventShape};
+use plist_base::{Event, EventShape, PackedKind, PackedScalar};
 
 /// What the next events must be.
 #[derive(Clone, Copy, Drop)]
@@ -71,7 +72,36 @@ fn transition_of_pairs(event: &Event<'_>) -> Transition
     }
 }
 
+// Returns how a scalar changes the expectation of a dictionary's pairs.
+fn transition_of_key(scalar: PackedScalar) -> Transition
+    ensures { result ≡ transition_of_pairs (event_of_small scalar) }
+{
+    match scalar.kind() {
+        PackedKind::String(_) => Transition::Pushed(Expect::OneValue),
+        PackedKind::Boolean(_)
+        | PackedKind::Unsigned
+        | PackedKind::Negative
+        | PackedKind::Real
+        | PackedKind::ShortReal
+        | PackedKind::Uid
+        | PackedKind::Data(_)
+        | PackedKind::Date => Transition::Refused,
+    }
+}
+
 impl Expect {
+    /// Returns how a scalar changes the expectation.
+    #[inline(always)]
+    pub fn change_by_scalar(self, scalar: PackedScalar) -> Transition
+        ensures { result ≡ transition_of self (event_of_small scalar) }
+    {
+        match self {
+            Expect::OneValue => Transition::Closed,
+            Expect::Items => Transition::Kept,
+            Expect::Pairs => transition_of_key(scalar),
+        }
+    }
+
     /// Returns how an event changes the expectation.
     #[inline(always)]
     pub fn change_by(self, event: &Event<'_>) -> Transition

@@ -1,18 +1,19 @@
 //! Strings and data of more than eight bytes, as a table stores them.
 
-ghost use Rattle.std.specs.Prelude.{◌≡◌, ◌<◌};
+ghost use Rattle.std.specs.Prelude.{◌≡◌, ◌<◌, IfSome};
 ghost use Rattle.std.proofs.Props.{props};
-ghost use Rattle.plist_buffer.specs.inner.LongContents.{content_length, form_in, form_of_scalar, scalar_of_content};
+ghost use Rattle.plist_buffer.specs.inner.LongContents.{bytes_stored, form_in, scalar_from, IsLongIn};
 
-use crate::short::{ShortBytes, ShortText};
+use crate::short_bytes::ShortBytes;
 use crate::stored_scalar::ScalarRef;
-use crate::wide::{OwnedUtf16, ShortUtf16, WideStr, is_ascii_text};
-use plist_base::Utf16Str;
+use crate::wide::{is_long_wide, units_of};
+use plist_base::{Ascii, Utf16Str, all_pass};
 use std::alloc::{AllocError, Global};
-use std::borrow::{CowSlice, CowStr};
+use std::borrow::CowSlice;
 use std::hash::{Hash, Hasher};
+use std::str;
 
-/// How a string or data is stored.
+/// The form in which a string or data is stored.
 #[derive(Clone, Copy, PartialEq, Eq)]
 pub enum Form {
     /// A string in ASCII.
@@ -23,146 +24,113 @@ pub enum Form {
     Data,
 }
 
-/// A string or data. If it has at most 30 bytes, these are stored in the value itself. More bytes
-/// are borrowed or owned.
+/// A borrowed string or data of more than eight bytes, in the form in which a table stores it.
+#[derive(Clone, Copy)]
+pub struct LongRef<'a> {
+    form: Form,
+    bytes: &'a [u8],
+    ghost stored: { IsLongIn form bytes.now } by { Prim.hlevel props },
+}
+
+impl<'a> LongRef<'a> {
+    ghost use Rattle.plist_base.specs.ByteTests.{EachByte};
+    ghost use Rattle.plist_base.specs.Trees.{String as StringScalar};
+    ghost use Rattle.plist_base.specs.Utf16Strings.{string_of_utf16};
+    ghost use Rattle.plist_buffer.specs.StoredScalars.{scalar_of_long_ref};
+
+    /// Returns the string or data that has the given form and, in this form, the given bytes.
+    #[inline(always)]
+    pub fn new(form: Form, bytes: &'a [u8]) -> LongRef<'a>
+        requires { IsLongIn form bytes.now }
+        ensures { scalar_of_long_ref result ≡ scalar_from form bytes.now }
+    {
+        LongRef { form, bytes }
+    }
+
+    /// Returns the string that consists of the given bytes, or `None` if one of them isn't ASCII,
+    /// or if there are at most eight.
+    #[inline(always)]
+    pub fn of_ascii(bytes: &'a [u8]) -> Option<LongRef<'a>>
+        ensures string { IfSome result (λ text. scalar_of_long_ref text ≡ StringScalar bytes.now) }
+        ensures ascii { IfSome result (λ _. EachByte (λ byte. byte < 128) bytes.now) }
+    {
+        if bytes.len() > 8 && all_pass::<Ascii>(bytes) {
+            return Some(LongRef::new(Form::Ascii, bytes));
+        }
+        None
+    }
+
+    /// Returns a string in UTF-16, or `None` if it is ASCII or has at most eight bytes in UTF-8.
+    #[inline(always)]
+    pub fn of_utf16(text: Utf16Str<'a>) -> Option<LongRef<'a>>
+        ensures { IfSome result (λ wide. scalar_of_long_ref wide
+            ≡ StringScalar (string_of_utf16 text.entry)) }
+    {
+        if is_long_wide(text) {
+            return Some(LongRef::new(Form::Wide, text.as_bytes()));
+        }
+        None
+    }
+}
+
+/// The form and the bytes of a string or data. If there are at most 30 bytes, they are stored in
+/// the value itself. More bytes are borrowed or owned.
+///
+/// A short one has its form in the variant, since the value would otherwise be larger than 32
+/// bytes.
 #[derive(Drop)]
 pub enum LongContent<'e> {
-    /// A string of at most 30 bytes.
-    ShortString(ShortText<30>),
-    /// A borrowed string of more than 30 bytes, or a string to compare with.
-    BorrowedString(&'e str),
-    /// An owned string of more than 30 bytes.
-    OwnedString(String),
+    /// A string in ASCII of at most 30 bytes.
+    ShortAscii(ShortBytes),
     /// A string of at most 30 bytes in UTF-16.
-    ShortWide(ShortUtf16),
-    /// A borrowed string in UTF-16 to compare with.
-    BorrowedWide(Utf16Str<'e>),
-    /// An owned string of more than 30 bytes in UTF-16.
-    OwnedWide(OwnedUtf16),
+    ShortWide(ShortBytes),
     /// Data of at most 30 bytes.
-    ShortData(ShortBytes<30>),
-    /// Borrowed data of more than 30 bytes, or data to compare with.
-    BorrowedData(&'e [u8]),
-    /// Owned data of more than 30 bytes.
-    OwnedData(Vec<u8>),
+    ShortData(ShortBytes),
+    /// More than 30 bytes that are borrowed, or bytes to compare with.
+    Borrowed(Form, &'e [u8]),
+    /// More than 30 bytes that are owned.
+    Owned(Form, Vec<u8>),
 }
 
 impl<'e> LongContent<'e> {
-    ghost use Rattle.std.specs.Prelude.{IfOk};
-    ghost use Rattle.std.specs.Cow.{cow_slice_items, cow_str_bytes};
-    ghost use Rattle.plist_base.specs.Trees.{Data as DataScalar, String as StringScalar};
-    ghost use Rattle.plist_base.specs.Utf16Strings.{string_of_utf16};
-    ghost use Rattle.plist_buffer.specs.inner.LongContents.{bytes_stored};
-
-    // Stores a string in ASCII. A string of more than 30 bytes remains borrowed or owned, as it
-    // was.
-    fn of_ascii(text: CowStr<'e>) -> LongContent<'e>
-        ensures scalar { scalar_of_content result ≡ StringScalar (cow_str_bytes text.entry) }
-        ensures form { form_in result ≡ Form.Ascii }
+    // Copies the bytes into the value, or returns `None` if there are more than 30.
+    #[inline(always)]
+    fn short(form: Form, bytes: &[u8]) -> Option<LongContent<'e>>
+        ensures form { IfSome result (λ content. form_in content ≡ form) }
+        ensures bytes { IfSome result (λ content. bytes_stored content ≡ bytes.now) }
     {
-        if let Some(short) = ShortText::new(text.as_str()) {
-            return LongContent::ShortString(short);
-        }
-        match text {
-            CowStr::Borrowed(borrowed) => LongContent::BorrowedString(borrowed),
-            CowStr::Owned(owned) => LongContent::OwnedString(owned),
+        let short = ShortBytes::new(bytes)?;
+        match form {
+            Form::Ascii => Some(LongContent::ShortAscii(short)),
+            Form::Wide => Some(LongContent::ShortWide(short)),
+            Form::Data => Some(LongContent::ShortData(short)),
         }
     }
 
-    // Stores data. Data of more than 30 bytes remains borrowed or owned, as it was.
-    fn of_data(bytes: CowSlice<'e, u8>) -> LongContent<'e>
-        ensures scalar { scalar_of_content result ≡ DataScalar (cow_slice_items bytes.entry) }
-        ensures form { form_in result ≡ Form.Data }
-    {
-        if let Some(short) = ShortBytes::new(bytes.as_slice()) {
-            return LongContent::ShortData(short);
-        }
-        match bytes {
-            CowSlice::Borrowed(borrowed) => LongContent::BorrowedData(borrowed),
-            CowSlice::Owned(owned) => LongContent::OwnedData(owned),
-        }
-    }
-
-    // Stores a string in UTF-16, or fails if an allocation fails.
-    fn encode(alloc: Global, text: &str) -> Result<LongContent<'e>, AllocError>
-        ensures scalar { IfOk result (λ content. scalar_of_content content
-            ≡ StringScalar text.now) }
-        ensures form { IfOk result (λ content. form_in content ≡ Form.Wide) }
-    {
-        let owned = OwnedUtf16::encode(alloc, text)?;
-        match ShortUtf16::new(owned.get()) {
-            Some(short) => Ok(LongContent::ShortWide(short)),
-            None => Ok(LongContent::OwnedWide(owned)),
-        }
-    }
-
-    // Stores a copy of a string in UTF-16, or fails if an allocation fails.
-    fn copy_of_wide(alloc: Global, text: Utf16Str<'_>) -> Result<LongContent<'e>, AllocError>
-        ensures scalar { IfOk result (λ content. scalar_of_content content
-            ≡ StringScalar (string_of_utf16 text.entry)) }
-        ensures form { IfOk result (λ content. form_in content ≡ Form.Wide) }
-    {
-        if let Some(short) = ShortUtf16::new(text) {
-            return Ok(LongContent::ShortWide(short));
-        }
-        Ok(LongContent::OwnedWide(OwnedUtf16::copy(alloc, text)?))
-    }
-
-    // Stores a copy of a string in ASCII, or fails if an allocation fails.
-    fn copy_of_ascii(alloc: Global, text: &str) -> Result<LongContent<'e>, AllocError>
-        ensures scalar { IfOk result (λ content. scalar_of_content content
-            ≡ StringScalar text.now) }
-        ensures form { IfOk result (λ content. form_in content ≡ Form.Ascii) }
-    {
-        if let Some(short) = ShortText::new(text) {
-            return Ok(LongContent::ShortString(short));
-        }
-        Ok(LongContent::OwnedString(text.to_string(alloc)?))
-    }
-
-    // Stores a copy of data, or fails if an allocation fails.
-    fn copy_of_data(alloc: Global, bytes: &[u8]) -> Result<LongContent<'e>, AllocError>
-        ensures scalar { IfOk result (λ content. scalar_of_content content
-            ≡ DataScalar bytes.now) }
-        ensures form { IfOk result (λ content. form_in content ≡ Form.Data) }
-    {
-        if let Some(short) = ShortBytes::new(bytes) {
-            return Ok(LongContent::ShortData(short));
-        }
-        Ok(LongContent::OwnedData(Vec::from_slice(alloc, bytes)?))
-    }
-
-    // Returns the form in which the string or data is stored.
+    // Returns the form.
     #[inline(always)]
     fn form(&self) -> Form
         ensures { result ≡ form_in self.now }
     {
         match self {
-            LongContent::ShortString(_)
-            | LongContent::BorrowedString(_)
-            | LongContent::OwnedString(_) => { Form::Ascii }
-            LongContent::ShortWide(_) | LongContent::BorrowedWide(_) | LongContent::OwnedWide(_) =>
-                Form::Wide,
-            LongContent::ShortData(_) | LongContent::BorrowedData(_) | LongContent::OwnedData(_) =>
-                Form::Data,
+            LongContent::ShortAscii(_) => Form::Ascii,
+            LongContent::ShortWide(_) => Form::Wide,
+            LongContent::ShortData(_) => Form::Data,
+            LongContent::Borrowed(form, _) | LongContent::Owned(form, _) => *form,
         }
     }
 
-    // Returns the stored bytes, which are the units of a string that isn't ASCII.
+    // Returns the bytes.
     #[inline(always)]
     fn bytes(&self) -> &[u8]
         ensures { result.now ≡ bytes_stored self.now }
     {
         match self {
-            LongContent::ShortString(text) => text.as_str().as_bytes(),
-            LongContent::BorrowedString(text) => text.as_bytes(),
-            LongContent::OwnedString(text) => text.as_str().as_bytes(),
-            LongContent::ShortWide(text) => text.get().as_bytes(),
-            LongContent::BorrowedWide(text) => text.as_bytes(),
-            LongContent::OwnedWide(text) => text.get().as_bytes(),
-            LongContent::ShortData(bytes) => bytes.as_slice(),
-            LongContent::BorrowedData(bytes) => bytes,
-            LongContent::OwnedData(bytes) => bytes.as_slice(),
+            LongContent::ShortAscii(short)
+            | LongContent::ShortWide(short)
+            | LongContent::ShortData(short) => short.as_slice(),
+            LongContent::Borrowed(_, borrowed) => borrowed,
+            LongContent::Owned(_, owned) => owned.as_slice(),
         }
     }
 }
@@ -174,69 +142,57 @@ impl<'e> LongContent<'e> {
 #[derive(Drop)]
 pub struct LongScalar<'e> {
     content: LongContent<'e>,
-    ghost long: { 8 < content_length content },
-    ghost form: { form_in content
-        ≡ form_of_scalar (scalar_of_content content) } by { Prim.hlevel props },
+    ghost stored: { IsLongIn (form_in content)
+        (bytes_stored content) } by { Prim.hlevel props },
 }
 
 impl<'e> LongScalar<'e> {
-    ghost use Rattle.std.specs.Prelude.{false, length, true, IfOk};
-    ghost use Rattle.std.specs.Cow.{cow_slice_items, cow_str_bytes};
-    ghost use Rattle.plist_base.specs.Trees.{Data as DataScalar, String as StringScalar};
+    ghost use Rattle.std.specs.Prelude.{false, length, IfOk};
+    ghost use Rattle.std.specs.Cow.{cow_slice_items};
+    ghost use Rattle.plist_base.specs.Trees.{String as StringScalar};
     ghost use Rattle.plist_buffer.specs.AsciiTexts.{is_ascii_text};
-    ghost use Rattle.plist_buffer.specs.StoredScalars.{IsStored, scalar_of_long, scalar_of_ref};
-    ghost use Rattle.plist_buffer.specs.WideStrings.{string_of_wide};
+    ghost use Rattle.plist_buffer.specs.StoredScalars.{IsStored, scalar_of_long, scalar_of_long_ref, scalar_of_ref};
 
-    /// Stores a string in ASCII. A string of more than 30 bytes remains borrowed or owned, as it
-    /// was.
-    pub fn of_ascii(text: CowStr<'e>) -> LongScalar<'e>
-        requires long { 8 < length (cow_str_bytes text) }
-        requires ascii { is_ascii_text (cow_str_bytes text) ≡ true }
-        ensures { scalar_of_long result ≡ StringScalar (cow_str_bytes text.entry) }
+    /// Stores a string or data, given its form and its bytes. More than 30 bytes remain borrowed or
+    /// owned, as they were.
+    pub fn new(form: Form, bytes: CowSlice<'e, u8>) -> LongScalar<'e>
+        requires { IsLongIn form (cow_slice_items bytes) }
+        ensures { scalar_of_long result ≡ scalar_from form (cow_slice_items bytes.entry) }
     {
-        LongScalar {
-            content: LongContent::of_ascii(text),
+        if let Some(content) = LongContent::short(form, bytes.as_slice()) {
+            return LongScalar { content };
+        }
+        match bytes {
+            CowSlice::Borrowed(borrowed) => LongScalar {
+                content: LongContent::Borrowed(form, borrowed),
+            },
+            CowSlice::Owned(owned) => LongScalar {
+                content: LongContent::Owned(form, owned),
+            },
         }
     }
 
-    /// Stores data. Data of more than 30 bytes remains borrowed or owned, as it was.
-    pub fn of_data(bytes: CowSlice<'e, u8>) -> LongScalar<'e>
-        requires { 8 < length (cow_slice_items bytes) }
-        ensures { scalar_of_long result ≡ DataScalar (cow_slice_items bytes.entry) }
+    /// Borrows a string or data to compare with.
+    #[inline(always)]
+    pub fn borrowed(scalar: LongRef<'e>) -> LongScalar<'e>
+        ensures { scalar_of_long result ≡ scalar_of_long_ref scalar.entry }
     {
         LongScalar {
-            content: LongContent::of_data(bytes),
+            content: LongContent::Borrowed(scalar.form, scalar.bytes),
         }
     }
 
-    /// Borrows a string in ASCII to compare with.
-    pub fn borrowed_ascii(text: &'e str) -> LongScalar<'e>
-        requires long { 8 < length text.now }
-        requires ascii { is_ascii_text text.now ≡ true }
-        ensures { scalar_of_long result ≡ StringScalar text.now }
+    /// Stores a copy of a string or data, or fails if an allocation fails.
+    pub fn copy_of(alloc: Global, scalar: LongRef<'_>) -> Result<LongScalar<'e>, AllocError>
+        ensures { IfOk result (λ stored. scalar_of_long stored ≡ scalar_of_long_ref scalar.entry) }
     {
-        LongScalar {
-            content: LongContent::BorrowedString(text),
+        if let Some(content) = LongContent::short(scalar.form, scalar.bytes) {
+            return Ok(LongScalar { content });
         }
-    }
-
-    /// Borrows a string in UTF-16 to compare with.
-    pub fn borrowed_wide(text: WideStr<'e>) -> LongScalar<'e>
-        ensures { scalar_of_long result ≡ StringScalar (string_of_wide text.entry) }
-    {
-        LongScalar {
-            content: LongContent::BorrowedWide(text.get()),
-        }
-    }
-
-    /// Borrows data to compare with.
-    pub fn borrowed_data(bytes: &'e [u8]) -> LongScalar<'e>
-        requires { 8 < length bytes.now }
-        ensures { scalar_of_long result ≡ DataScalar bytes.now }
-    {
-        LongScalar {
-            content: LongContent::BorrowedData(bytes),
-        }
+        let owned = Vec::from_slice(alloc, scalar.bytes)?;
+        Ok(LongScalar {
+            content: LongContent::Owned(scalar.form, owned),
+        })
     }
 
     /// Stores a string that isn't ASCII in UTF-16, or fails if an allocation fails.
@@ -245,36 +201,8 @@ impl<'e> LongScalar<'e> {
         requires wide { is_ascii_text text.now ≡ false }
         ensures { IfOk result (λ stored. scalar_of_long stored ≡ StringScalar text.now) }
     {
-        let content = LongContent::encode(alloc, text)?;
-        Ok(LongScalar { content })
-    }
-
-    /// Stores a copy of a string in UTF-16, or fails if an allocation fails.
-    pub fn copy_of_wide(alloc: Global, text: WideStr<'_>) -> Result<LongScalar<'e>, AllocError>
-        ensures { IfOk result (λ stored. scalar_of_long stored
-            ≡ StringScalar (string_of_wide text.entry)) }
-    {
-        let content = LongContent::copy_of_wide(alloc, text.get())?;
-        Ok(LongScalar { content })
-    }
-
-    /// Stores a copy of a string in ASCII, or fails if an allocation fails.
-    pub fn copy_of_ascii(alloc: Global, text: &str) -> Result<LongScalar<'e>, AllocError>
-        requires long { 8 < length text.now }
-        requires ascii { is_ascii_text text.now ≡ true }
-        ensures { IfOk result (λ stored. scalar_of_long stored ≡ StringScalar text.now) }
-    {
-        let content = LongContent::copy_of_ascii(alloc, text)?;
-        Ok(LongScalar { content })
-    }
-
-    /// Stores a copy of data, or fails if an allocation fails.
-    pub fn copy_of_data(alloc: Global, bytes: &[u8]) -> Result<LongScalar<'e>, AllocError>
-        requires { 8 < length bytes.now }
-        ensures { IfOk result (λ stored. scalar_of_long stored ≡ DataScalar bytes.now) }
-    {
-        let content = LongContent::copy_of_data(alloc, bytes)?;
-        Ok(LongScalar { content })
+        let units = units_of(alloc, text)?;
+        Ok(LongScalar::new(Form::Wide, CowSlice::Owned(units)))
     }
 
     /// Returns the scalar as a reference, which borrows its string or data.
@@ -283,16 +211,11 @@ impl<'e> LongScalar<'e> {
         ensures scalar { scalar_of_ref result ≡ scalar_of_long self.now }
         ensures stored { IsStored result }
     {
-        match &self.content {
-            LongContent::ShortString(text) => ScalarRef::AsciiString(text.as_str()),
-            LongContent::BorrowedString(text) => ScalarRef::AsciiString(text),
-            LongContent::OwnedString(text) => ScalarRef::AsciiString(text.as_str()),
-            LongContent::ShortWide(text) => ScalarRef::WideString(text.get().as_bytes()),
-            LongContent::BorrowedWide(text) => ScalarRef::WideString(text.as_bytes()),
-            LongContent::OwnedWide(text) => ScalarRef::WideString(text.get().as_bytes()),
-            LongContent::ShortData(bytes) => ScalarRef::Data(bytes.as_slice()),
-            LongContent::BorrowedData(bytes) => ScalarRef::Data(bytes),
-            LongContent::OwnedData(bytes) => ScalarRef::Data(bytes.as_slice()),
+        let bytes = self.content.bytes();
+        match self.content.form() {
+            Form::Ascii => ScalarRef::AsciiString(unsafe { str::from_utf8_unchecked(bytes) }),
+            Form::Wide => ScalarRef::WideString(bytes),
+            Form::Data => ScalarRef::Data(bytes),
         }
     }
 }

@@ -1,27 +1,16 @@
 //! Scalars as references to what a table stores.
 
-use plist_base::{Date, Integer, RealBits, Uid};
+use plist_base::PackedScalar;
 
-/// A scalar with a borrowed string or data.
+/// A scalar with a borrowed string or data if it has more than eight bytes.
 #[derive(Clone, Copy)]
 pub enum ScalarRef<'a> {
+    /// A scalar that isn't a string or data of more than eight bytes.
+    Packed(PackedScalar),
     /// A string in ASCII.
     AsciiString(&'a str),
-    /// A Boolean.
-    Boolean(bool),
+    /// A string that isn't ASCII: its units in UTF-16, each in two bytes in big-endian order.
+    WideString(&'a [u8]),
     /// Bytes.
     Data(&'a [u8]),
-    /// A date.
-    Date(Date),
-    /// An integer.
-    Integer(Integer),
-    /// The bytes of a real.
-    Real(RealBits),
-    /// A string, which has at most eight bytes if it is from a table.
-    String(&'a str),
-    /// The number of an object in a keyed archive.
-    Uid(Uid),
-    /// A string that isn't ASCII and has more than eight bytes in UTF-8: its units in UTF-16, each
-    /// in two bytes in big-endian order.
-    WideString(&'a [u8]),
 }

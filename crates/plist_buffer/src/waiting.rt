@@ -2,7 +2,7 @@
 
 ghost use Rattle.std.specs.Prelude.{◌≡◌, ◌==◌, ◌<◌, ◌≤◌, ◌++◌, ◌∷◌, [], drop, length};
 
-use crate::small_scalar::SmallScalar;
+use plist_base::PackedScalar;
 use std::marker::Model;
 
 /// The maximum number of small scalars that wait. They are looked up together.
@@ -12,16 +12,20 @@ pub(crate) const BATCH_SIZE: usize = 16;
 #[derive(Drop)]
 pub struct WaitingScalars {
     // The first `count` of these wait.
-    scalars: [SmallScalar; BATCH_SIZE],
+    scalars: [PackedScalar; BATCH_SIZE],
     count: usize,
 }
 
 impl Model for WaitingScalars {
     ghost use Rattle.std.specs.Prelude.{◌≡◌, ◌≤◌, List, length, take};
-    ghost use Rattle.plist_buffer.specs.declared.small_scalar.SmallScalar.{SmallScalar};
+    ghost use Rattle.std.specs.Coded.{codes};
+    ghost use Rattle.plist_base.specs.Packing.{packable_coded};
+    ghost use Rattle.plist_base.specs.declared.packed_scalar.PackedScalar.{PackedScalar};
     ghost use Rattle.plist_buffer.specs.declared.waiting.TheConstants.{BATCH_SIZE};
 
-    ghost Value = { List SmallScalar };
+    ghost Value = { List PackedScalar };
+
+    ghost coded = { Prim.hlevel (codes, packable_coded) };
 
     ghost view = { λ waiting. take waiting.count waiting.scalars };
 
@@ -35,7 +39,7 @@ impl WaitingScalars {
         ensures { result ≡ [] }
     {
         WaitingScalars {
-            scalars: [SmallScalar::Boolean(false); BATCH_SIZE],
+            scalars: [PackedScalar::of_boolean(false); BATCH_SIZE],
             count: 0,
         }
     }
@@ -58,7 +62,7 @@ impl WaitingScalars {
     }
 
     /// Returns the scalars.
-    pub fn as_slice(&self) -> &[SmallScalar]
+    pub fn as_slice(&self) -> &[PackedScalar]
         ensures scalars { result.now ≡ self.now }
         ensures bound { length result.now ≤ BATCH_SIZE }
     {
@@ -67,7 +71,7 @@ impl WaitingScalars {
 
     /// Appends a scalar. There must be room for it.
     #[inline(always)]
-    pub fn push(&mut self, scalar: SmallScalar)
+    pub fn push(&mut self, scalar: PackedScalar)
         requires { length self.old < BATCH_SIZE }
         ensures { self.new ≡ self.old ++ scalar ∷ [] }
     {

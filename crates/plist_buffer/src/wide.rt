@@ -1,15 +1,14 @@
 //! Strings beyond ASCII, which a table stores in UTF-16, as a file does.
 
-ghost use Rattle.std.specs.Prelude.{◌≡◌, ◌⊎◌, ◌++◌, ◌+◌, ◌<◌, ◌≤◌, false, true, length, take, IfOk, OnOk};
+ghost use Rattle.std.specs.Prelude.{◌≡◌, ◌⊎◌, ◌++◌, ◌+◌, ◌<◌, ◌≤◌, false, true, length, IfOk, OnOk};
 ghost use Rattle.std.specs.Char.{len_utf8};
 ghost use Rattle.std.specs.Char.Escape.{encode_utf16};
 ghost use Rattle.std.specs.Int.{bytes_high_first};
 ghost use Rattle.std.specs.List.{flat_map};
-ghost use Rattle.std.proofs.Props.{props};
-ghost use Rattle.plist_base.specs.Utf16.{IsUtf16, utf16_form, utf8_of_utf16};
+ghost use Rattle.plist_base.specs.Utf16.{utf16_form};
+ghost use Rattle.plist_base.specs.Utf16Strings.{string_of_utf16};
 ghost use Rattle.plist_buffer.specs.AsciiTexts.{is_ascii_text};
 
-use crate::short::ShortBytes;
 use plist_base::{Ascii, Utf16Str, all_pass};
 use std::alloc::{AllocError, Global};
 
@@ -57,81 +56,21 @@ fn add_bytes(c: char, count: usize) -> usize
     count + c.len_utf8()
 }
 
-/// A string in UTF-16 that isn't ASCII and has more than eight bytes in UTF-8.
-#[derive(Clone, Copy)]
-pub struct WideStr<'a> {
-    text: Utf16Str<'a>,
-    ghost wide: { is_ascii_text (utf8_of_utf16 text.bytes.now) ≡ false },
-    ghost long: { 8 < length (utf8_of_utf16 text.bytes.now) },
-}
-
-impl<'a> WideStr<'a> {
-    ghost use Rattle.std.specs.Prelude.{IfSome};
-    ghost use Rattle.plist_base.specs.Utf16Strings.{string_of_utf16};
-    ghost use Rattle.plist_buffer.specs.WideStrings.{string_of_wide};
-
-    /// Returns the string, or `None` if it is ASCII or has at most eight bytes in UTF-8.
-    pub fn new(text: Utf16Str<'a>) -> Option<WideStr<'a>>
-        ensures { IfSome result (λ wide. string_of_wide wide ≡ string_of_utf16 text.entry) }
-    {
-        let mut is_wide = false;
-        let mut count = 0;
-        for c in text.chars() {
-            is_wide = is_wide_with(c, is_wide);
-            count = add_bytes(c, count);
-            if is_wide && count > 8 {
-                return Some(WideStr { text });
-            }
+/// Returns `true` if a string isn't ASCII and has more than eight bytes in UTF-8.
+pub(crate) fn is_long_wide(text: Utf16Str<'_>) -> bool
+    ensures wide { result ≡ true → is_ascii_text (string_of_utf16 text.entry) ≡ false }
+    ensures long { result ≡ true → 8 < length (string_of_utf16 text.entry) }
+{
+    let mut is_wide = false;
+    let mut count = 0;
+    for c in text.chars() {
+        is_wide = is_wide_with(c, is_wide);
+        count = add_bytes(c, count);
+        if is_wide && count > 8 {
+            return true;
         }
-        None
     }
-
-    /// Returns the string.
-    #[inline(always)]
-    pub fn get(self) -> Utf16Str<'a>
-        ensures string { string_of_utf16 result ≡ string_of_wide self.entry }
-        ensures wide { is_ascii_text (string_of_utf16 result) ≡ false }
-        ensures long { 8 < length (string_of_utf16 result) }
-    {
-        self.text
-    }
-}
-
-/// A string in UTF-16 of at most 15 units, which are stored in the value itself.
-#[derive(Clone, Copy)]
-pub struct ShortUtf16 {
-    units: ShortBytes<30>,
-    ghost valid: { IsUtf16 (take units.len units.bytes) } by { Prim.hlevel props },
-}
-
-impl ShortUtf16 {
-    ghost use Rattle.std.specs.Prelude.{IfSome};
-    ghost use Rattle.plist_base.specs.Utf16Strings.{string_of_utf16};
-    ghost use Rattle.plist_buffer.specs.WideStrings.{string_of_short};
-
-    /// Copies the string, or returns `None` if it has more than 15 units.
-    #[inline(always)]
-    pub fn new(text: Utf16Str<'_>) -> Option<ShortUtf16>
-        ensures { IfSome result (λ short. string_of_short short ≡ string_of_utf16 text.entry) }
-    {
-        let units = ShortBytes::new(text.as_bytes())?;
-        Some(ShortUtf16 { units })
-    }
-
-    /// Returns the string.
-    #[inline(always)]
-    pub fn get(&self) -> Utf16Str<'_>
-        ensures { string_of_utf16 result ≡ string_of_short self.now }
-    {
-        Utf16Str::from_valid(self.units.as_slice())
-    }
-}
-
-/// A string in UTF-16 with owned units.
-#[derive(Drop)]
-pub struct OwnedUtf16 {
-    units: Vec<u8>,
-    ghost valid: { IsUtf16 units.items } by { Prim.hlevel props },
+    false
 }
 
 // Appends the units of a character, each in two bytes in big-endian order.
@@ -150,8 +89,8 @@ fn push_units(units: &mut Vec<u8>, c: char) -> Result<(), AllocError>
     units.extend_from_slice(&low.to_be_bytes())
 }
 
-// Returns the units of a string, each in two bytes in big-endian order.
-fn units_of(alloc: Global, text: &str) -> Result<Vec<u8>, AllocError>
+/// Returns the units of a string, each in two bytes in big-endian order.
+pub(crate) fn units_of(alloc: Global, text: &str) -> Result<Vec<u8>, AllocError>
     ensures { IfOk result (λ units. units.items ≡ utf16_form text.now) }
 {
     // Most characters have one unit, so the memory seldom has to grow.
@@ -160,33 +99,4 @@ fn units_of(alloc: Global, text: &str) -> Result<Vec<u8>, AllocError>
         push_units(&mut units, c)?;
     }
     Ok(units)
-}
-
-impl OwnedUtf16 {
-    ghost use Rattle.plist_base.specs.Utf16Strings.{string_of_utf16};
-    ghost use Rattle.plist_buffer.specs.WideStrings.{string_of_owned};
-
-    /// Encodes a string, or fails if an allocation fails.
-    pub fn encode(alloc: Global, text: &str) -> Result<OwnedUtf16, AllocError>
-        ensures { IfOk result (λ owned. string_of_owned owned ≡ text.now) }
-    {
-        let units = units_of(alloc, text)?;
-        Ok(OwnedUtf16 { units })
-    }
-
-    /// Copies a string, or fails if an allocation fails.
-    pub fn copy(alloc: Global, text: Utf16Str<'_>) -> Result<OwnedUtf16, AllocError>
-        ensures { IfOk result (λ owned. string_of_owned owned ≡ string_of_utf16 text.entry) }
-    {
-        let units = Vec::from_slice(alloc, text.as_bytes())?;
-        Ok(OwnedUtf16 { units })
-    }
-
-    /// Returns the string.
-    #[inline(always)]
-    pub fn get(&self) -> Utf16Str<'_>
-        ensures { string_of_utf16 result ≡ string_of_owned self.now }
-    {
-        Utf16Str::from_valid(self.units.as_slice())
-    }
 }

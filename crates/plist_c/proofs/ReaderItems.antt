@@ -7,14 +7,13 @@ use Rattle.plist_base.specs.declared.source.Source.{Ghosts}
 use Rattle.plist_base.specs.Events.{PlainEvent, Item}
 use Rattle.plist_base.specs.Faults as fault
 use Rattle.plist_base.specs.Faults.{FaultKind, MatchFault, error_kind_of, fault_of, kind_of}
-use Rattle.plist_base.specs.FirstItems.{GivesFirst, GivesFirstIfKnown, StopsIf}
 use Rattle.plist_base.specs.Sources.{CountsIo, Rises}
 use Rattle.plist_base.specs.Visits.{PlainItem, YieldsAll, YieldsPlain, plain_item}
-use Rattle.plist_base.proofs.FirstItems.{first_weaker_if_known, plain_first}
 use Rattle.plist_base.proofs.Refusals.{MatchFault-weaker}
-use Rattle.plist_binread.specs.Remaining.{SomeRemain}
+use Rattle.plist_base.specs.VisitedItems.{YieldsFirst}
 use Rattle.plist_reader.specs.Reader.{Gives, reader_items, reader_source}
 use Rattle.plist_reader.specs.declared.reader.Reader.{Reader}
+use Rattle.plist_reader.proofs.ReaderItems.{reader_comes}
 use Rattle.plist_c.specs.declared.flat.Outcome.{Outcome}
 use Rattle.plist_c.specs.declared.read.Start.{Start}
 use Rattle.plist_c.specs.Reading.{Reads, limits_of}
@@ -22,10 +21,6 @@ use Rattle.plist_c.specs.Rooms.{Memory}
 use Rattle.plist_c.specs.inner.Ordering.{asked_in}
 use Rattle.plist_c.specs.inner.Runs.{BeginWith, Fills, demand_of}
 use Rattle.plist_base.specs.Limits.{limited_items}
-
--- the first of the remaining items is yielded
-abbrev Comes : (before : Option (List Item)) → PlainItem → (after : Option (List Item)) → Type 0
-Comes = GivesFirstIfKnown (λ event. event) (λ _ _. ⊤) (λ _ _. ⊤)
 
 -- the error isn't `Io`
 abbrev IsNoIo : PlainItem → Type 0
@@ -46,14 +41,14 @@ no_io (Some (Err error)) counts =
 
 -- the items begin with the item that comes
 begins : (item : PlainItem) (before after : List Item) → IsNoIo item
-    → GivesFirst (λ event. event) (λ _ _. ⊤) (λ _ _. ⊤) before item after
+    → YieldsFirst before item after
     → BeginWith item before
 begins None before after io first = first.0
 begins (Some (Ok event)) before after io first = (after, first)
 begins (Some (Err error)) before after io first = by (fault_of error).kind io first
   where
     by : (kind : FaultKind) → MatchFault kind ⊥ ⊤ ⊤
-        → MatchFault kind ⊤ ⊤ (before ≡ Err (fault_of error) ∷ after)
+        → MatchFault kind (after ≡ []) (after ≡ []) (before ≡ Err (fault_of error) ∷ after)
         → MatchFault kind ⊥ ⊤ ((rest : List Item) × (before ≡ Err (fault_of error) ∷ rest))
     by fault.Io io first = io
     by fault.OutOfMemory io first = tt
@@ -74,21 +69,13 @@ module _ {S : Type 0} {g : Ghosts S} (known : S → Option (List ℕ)) where
     to_come : reader_items known reader ≡ Some items
     source : (source : S) × (reader_source reader ≡ Some source)
 
-  comes : (old : Reader S g) (item : PlainItem) (new : Reader S g) → Yields old item new
-      → Comes (reader_items known old) item (reader_items known new)
-  comes old item new (given, yields, is) =
-      rw is (first_weaker_if_known (λ event. event) (StopsIf (λ _. ⊤)) (StopsIf SomeRemain)
-      (λ _ _. ⊤) (λ _ _. ⊤) (λ _ _ _. tt) (λ _ _ _. tt) (reader_items known old)
-      (reader_items known new) (plain_item given) (plain_first (StopsIf (λ _. ⊤))
-      (StopsIf SomeRemain) (reader_items known old) (reader_items known new) given yields.items))
-
   -- an item that is yielded is the first of the remaining ones
   came : (old new : Reader S g) (item : PlainItem) (before : List Item) → IsAt old before
       → Yields old item new → (after : List Item) × IsAt new after × BeginWith item before
-      × GivesFirst (λ event. event) (λ _ _. ⊤) (λ _ _. ⊤) before item after
+      × YieldsFirst before item after
   came old new item before here one =
       let (given, gives, is) = one in
-      let (after, to, first) = rw here.to_come at (comes old item new one) in
+      let (after, to, first) = rw here.to_come at (reader_comes known (λ _. 0) old item new one) in
       let (source, counts) = kept (reader_source new) (rw here.source.1 at gives.failures) in (
         after,
         record { to_come = to; source = source },

@@ -4,8 +4,8 @@
 //!
 //! They are listed from the lowest layer up: `faults`, `texts`, `dates`, `reals`, `hashes`,
 //! `events`, `sources`, `limits`, `data`; `decoding`, of objects; the readers `binary` (also over
-//! `small_files`), `ascii` and `either`, and the `writer`; `values` and their `contents`;
-//! `writers`, for values that are written; `stored`, for files; `pairs`, `entries` and
+//! `small_files`), `ascii` and `either`, their `visits`, and the `writer`; `values` and their
+//! `contents`; `writers`, for values that are written; `stored`, for files; `pairs`, `entries` and
 //! `iterators`, for dictionaries; `depths`, for recursions over dictionaries; `archives`;
 //! `commands`; `idioms`, of ported programs; and `lemmas`.
 //!
@@ -40,5 +40,6 @@ pub mod sources;
 pub mod stored;
 pub mod texts;
 pub mod values;
+pub mod visits;
 pub mod writer;
 pub mod writers;

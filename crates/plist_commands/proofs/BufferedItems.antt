@@ -3,8 +3,9 @@ use Rattle.std.proofs.Common.{◌≡◌, ◌↔◌, ℕ, Bool, true, false, List
 use Rattle.std.specs.Option.{option_map}
 use Rattle.plist_base.specs.Bracketing.{bracketing, without_length, AreAlike, AreTreeEvents, CanContinue}
 use Rattle.plist_base.specs.Events.{PlainEvent, Item}
-use Rattle.plist_base.specs.FirstItems.{GivesFirst}
-use Rattle.plist_print.proofs.SourceItems.{Comes}
+use Rattle.plist_base.specs.VisitedItems.{NoneLeft, YieldsFirst}
+use Rattle.plist_base.proofs.FirstItems.{first_weaker}
+use Rattle.plist_base.proofs.VisitedItems.{Comes}
 use Rattle.std.specs.Bool.{⊤}
 use Rattle.plist_base.specs.Visits.{PlainItem}
 use Rattle.plist_base.specs.declared.error.Error.{Error}
@@ -51,7 +52,7 @@ abbrev pub Came : (items now : Option (List Item)) (held : List PlainEvent) (ite
     → Type 0
 Came items now held item = IfSome items (λ all.
     (left : List Item) × (next : List Item) × TookOf all left held × (now ≡ Some next)
-    × GivesFirst (λ event. event) (λ _ _. ⊤) (λ _ _. ⊤) left item next)
+    × YieldsFirst left item next)
 
 pub came_next : (items before now : Option (List Item)) (held : List PlainEvent)
     (item : PlainItem) → HasTaken items before held
@@ -105,12 +106,13 @@ module _ (all before : List Item) (held : List PlainEvent) (took : TookOf all be
 
   -- the reader yielded an error
   pub took_fault : (after : List Item) (error : Error)
-      → GivesFirst (λ event. event) (λ _ _. ⊤) (λ _ _. ⊤) before (Some (Err error)) after
+      → YieldsFirst before (Some (Err error)) after
       → IsValueOf all (Err (fault_of error))
   took_fault after error b =
       let (events, u, is, ok, alike, like) = took in
       stops-there (λ event. event) all before after events u (Err error) (fault_of error) ok alike
-      is b refl
+      is (first_weaker (λ event. event) NoneLeft NoneLeft (λ _ _. ⊤) (λ _ _. ⊤) (λ _ _ _. tt)
+      (λ _ _ _. tt) before after (Some (Err error)) b) refl
 
   first_of : (e : PlainEvent) (more : List Item) (es : List PlainEvent) → Ok e ∷ more ≡ map Ok es
       → (rest : List PlainEvent) × (es ≡ e ∷ rest)

@@ -1,6 +1,6 @@
 -- The items of a reader and of a value, which are yielded one by one.
 use Rattle.std.proofs.Common.{◌≡◌, ℕ, true, List, Option, None, Some, Result, Ok, Err, map, refl}
-use Rattle.std.specs.Prelude.{is_some, ⊤}
+use Rattle.std.specs.Prelude.{is_some}
 use Rattle.std.specs.Option.{option_map_or}
 use Rattle.plist_base.specs.declared.error.Error.{Error}
 use Rattle.plist_base.specs.declared.event.Event.{Event}
@@ -8,26 +8,18 @@ use Rattle.plist_base.specs.declared.source.Source.{Ghosts}
 use Rattle.plist_base.specs.Events.{Item}
 use Rattle.plist_base.specs.Sources.{CountsIo}
 use Rattle.plist_base.specs.Visits.{YieldsPlain, PlainItem, plain_item}
-use Rattle.plist_reader.specs.Reader.{Gives, reader_items, source_in}
+use Rattle.plist_reader.specs.Reader.{Gives, source_in}
 use Rattle.plist_reader.proofs.ReaderItems.{HoldsSource}
 use Rattle.plist_reader.specs.declared.reader.Reader.{Reader}
 use Rattle.plist.specs.Events.{BeginsWithStart, GivesEvent, remaining_events}
 use Rattle.plist.specs.declared.stream.events.Events.{Events}
 use Rattle.plist_base.specs.FirstItems.{StopsIf}
-use Rattle.plist_binread.specs.Remaining.{SomeRemain}
-use Rattle.plist_print.proofs.SourceItems.{Comes, comes_first}
-use Rattle.plist_base.proofs.FirstItems.{plain_first}
+use Rattle.plist_base.proofs.FirstItems.{first_weaker_if_known, plain_first}
+use Rattle.plist_base.specs.VisitedItems.{NoneLeft}
+use Rattle.plist_base.proofs.VisitedItems.{Comes}
 use Rattle.plist_commands.specs.Converting.{failures_in}
 
 -- ---- a reader of either format
-
-pub reader_comes : {S : Type 0} {g : Ghosts S} (known : S → Option (List ℕ)) (failed : S → ℕ)
-    (old : Reader S g) (item : PlainItem) (new : Reader S g) → YieldsPlain (Gives known failed) old item new
-    → Comes (reader_items known old) item (reader_items known new)
-reader_comes known failed old item new (given, yields, is) =
-    rw is (comes_first (StopsIf (λ _. ⊤)) (StopsIf SomeRemain) (reader_items known old)
-    (plain_item given) (reader_items known new) (plain_first (StopsIf (λ _. ⊤)) (StopsIf SomeRemain)
-    (reader_items known old) (reader_items known new) given yields.items))
 
 -- the reader has a source
 abbrev pub IsOpen : {S : Type 0} {g : Ghosts S} → Reader S g → Type 0
@@ -60,8 +52,9 @@ pub events_come : (old : Events) (item : PlainItem) (new : Events)
     → YieldsPlain GivesEvent old item new
     → Comes (items_of_events old) item (items_of_events new)
 events_come old item new (given, yields, is) =
-    let starts = λ (before after : List Item). StopsIf (λ _. BeginsWithStart (remaining_events old))
-    before after in
-    rw is (comes_first (λ _ _. ⊥) starts (items_of_events old) (plain_item given)
-    (items_of_events new) (plain_first (λ _ _. ⊥) starts (items_of_events old)
-    (items_of_events new) given (map Ok (remaining_events new), refl, yields.items)))
+    rw is (first_weaker_if_known (λ event. event) (λ _ _. ⊥)
+    (StopsIf (λ _. BeginsWithStart (remaining_events old))) NoneLeft NoneLeft (λ _ _ io. absurd io)
+    (λ _ _ stops. stops.1) (items_of_events old) (items_of_events new) (plain_item given)
+    (plain_first (λ _ _. ⊥) (StopsIf (λ _. BeginsWithStart (remaining_events old)))
+    (items_of_events old) (items_of_events new) given
+    (map Ok (remaining_events new), refl, yields.items)))

@@ -7,10 +7,11 @@ ghost use Rattle.plist_base.specs.Events.{ScalarEvent, event_of};
 ghost use Rattle.plist_base.specs.Trees.{String};
 ghost use Rattle.plist_base.specs.Utf16Strings.{string_of_utf16};
 ghost use Rattle.plist_buffer.specs.EventBuffers.{TestsWhole, buffered_events, is_whole};
+ghost use Rattle.plist_buffer.specs.StoredScalars.{event_of_small};
 ghost use Rattle.plist_commands.specs.Converting.{IfOkIs};
 ghost use Rattle.plist_commands.specs.CollectorSteps.{HoldsMore};
 
-use plist_base::{Error, Event, EventVisitor, Utf16Str, Visited};
+use plist_base::{Error, Event, EventVisitor, PackedScalar, Utf16Str, Visited};
 use plist_buffer::event_buffer::{EventBuffer, PushError};
 use std::alloc::{AllocError, Global};
 use std::borrow::{CowSlice, CowStr};
@@ -54,6 +55,21 @@ fn take_utf16(
         return None;
     }
     pending.try_push_utf16(alloc, text)
+}
+
+// Buffers a scalar, or returns `None` and changes nothing if it can't follow the buffered events.
+#[inline(always)]
+fn take_packed(pending: &mut EventBuffer, scalar: PackedScalar) -> Option<Result<(), PushError>>
+    ensures taken { IfSome result (λ answer. OnOk answer (HoldsMore (is_whole pending.new)
+        (buffered_events pending.old) (event_of_small scalar) (buffered_events pending.new))) }
+    ensures declined { result ≡ None → pending.new ≡ pending.old }
+    ensures refused { TestsWhole (is_whole pending.old) (buffered_events pending.old)
+        → result ≡ None → CanContinue (buffered_events pending.old) (event_of_small scalar) → ⊥ }
+{
+    if pending.is_whole() {
+        return None;
+    }
+    pending.try_push_packed(scalar)
 }
 
 // Buffers a string in ASCII, given its bytes, or returns `None` and changes nothing if the string
@@ -225,6 +241,15 @@ impl EventVisitor for Collector {
         match text {
             CowStr::Borrowed(borrowed) => self.take_str(borrowed),
             CowStr::Owned(owned) => self.event(Event::String(CowStr::Owned(owned))),
+        }
+    }
+
+    #[inline(always)]
+    fn packed(&mut self, scalar: PackedScalar) -> ControlFlow<()> {
+        match take_packed(&mut self.pending, scalar) {
+            Some(Ok(())) => self.go_on(),
+            Some(Err(_)) => self.end(StopReason::Failed(Error::from(AllocError))),
+            None => self.end(StopReason::Misplaced),
         }
     }
 

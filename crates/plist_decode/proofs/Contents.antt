@@ -1,5 +1,5 @@
 -- What the bytes after a marker mean.
-use Rattle.std.proofs.Common.{◌≡◌, ℕ, suc, ◌+◌, ◌-◌, ◌*◌, ◌/◌, ◌^◌, ◌<◌, ◌≤◌, inl, inr, pos, negsuc, ◌-ℤ◌, Bool, true, false, List, [], ◌∷◌, ◌++◌, length, take, drop, Option, Some, IfSome, refl, ap, sym, ◌∙◌, arith, add_assoc}
+use Rattle.std.proofs.Common.{◌≡◌, ℕ, zero, suc, get_or, replicate, ◌+◌, ◌-◌, ◌*◌, ◌/◌, ◌^◌, ◌<◌, ◌≤◌, inl, inr, pos, negsuc, ◌-ℤ◌, Bool, true, false, List, [], ◌∷◌, ◌++◌, length, take, drop, Option, Some, IfSome, refl, ap, sym, ◌∙◌, arith, add_assoc}
 use Rattle.std.specs.Int.{cast_signed, w64}
 use Rattle.std.specs.Int.Digits.{number_from_digits, number_from_digits_after}
 use Rattle.std.specs.Char.Utf16.{has_unpaired_surrogate, utf16_lossy_chars}
@@ -8,11 +8,14 @@ use Rattle.std.proofs.lemmas.Bool.{lt-leb, lt-ltb, le-ltb, le-leb, cases_lt}
 use Rattle.std.proofs.lemmas.Int.{ints}
 use Rattle.std.proofs.lemmas.Int.Digits.{number_after_append}
 use Rattle.std.proofs.lemmas.List.{length-append, length-take-le, length-drop, take-append-le}
+use Rattle.std.proofs.lemmas.Nat.{be_bytes_8}
 use Rattle.std.proofs.lemmas.Option.{IfSome_then}
 use Rattle.std.proofs.lemmas.Str.{is_utf8-from_IsUtf8, IsUtf8-from_is_utf8}
 use Rattle.std.proofs.Math.Nat.{pow-zero, pow-succ', add-mul, mul_assoc}
+use Rattle.std.proofs.Math.ListN.{length-replicate}
 use Rattle.std.proofs.Math.Seq.{take-add}
 use Rattle.std.specs.Prelude.{⊤, if◌then◌else◌}
+use Rattle.plist_base.specs.Packing.{content_bytes, number_of_padded, padded}
 use Rattle.plist_base.specs.declared.error.Error.{Error}
 use Rattle.plist_base.specs.Faults.{FaultKind, Fault, IntegerOutOfRange, InvalidUtf8String, InvalidUtf16String, MatchFault, kind_of, error_kind_of, offset_of, fault_of, fault_at}
 use Rattle.plist_base.specs.Trees.{Integer, String}
@@ -74,11 +77,13 @@ wide_low low h =
     let small : low < 2 ^ 127 = omega arith in
     rw (e, lt-ltb low _ small, lt-ltb low _ h) refl
 
-pub negative_bits : (n : ℕ) → 2 ^ 63 ≤ n → n < 2 ^ 64 → cast_signed w64 n ≡ signed 64 n
-negative_bits n low high =
-    let t = le-ltb n (2 ^ 63) low in
-    let e : 2 ^ 64 - n - 1 ≡ 2 ^ 64 - suc n = omega arith in
-    rw t (sym (below_zero n (2 ^ 64) high ∙ ap negsuc e))
+-- the signed integer that these bits encode
+pub signed_bits : (n : ℕ) → n < 2 ^ 64 → cast_signed w64 n ≡ signed 64 n
+signed_bits n small = elim (cases_lt n (2 ^ 63)) [
+  | inl low ↦ rw (lt-ltb n (2 ^ 63) low) refl
+  | inr high ↦ let e : 2 ^ 64 - n - 1 ≡ 2 ^ 64 - suc n = omega arith in
+      rw (le-ltb n (2 ^ 63) high) (sym (below_zero n (2 ^ 64) small ∙ ap negsuc e))
+]
 
 out_of_range : (n : ℕ) → 2 ^ 64 ≤ n → n < 2 ^ 128
     → integer_in_range (signed 128 n) ≡ Faulty IntegerOutOfRange
@@ -107,12 +112,44 @@ refused_as object place e kind fault inside is =
 pub text-utf8 : (bytes : List ℕ) → IsUtf8 bytes → text bytes ≡ Scalar (String bytes)
 text-utf8 bytes h = rw (is_utf8-from_IsUtf8 _ h) refl
 
-pub text-not_utf8 : (bytes : List ℕ) → (IsUtf8 bytes → ⊥) → text bytes ≡ Faulty InvalidUtf8String
-text-not_utf8 bytes h = by (is_utf8 bytes) refl
+pub not_utf8 : (bytes : List ℕ) → (IsUtf8 bytes → ⊥) → is_utf8 bytes ≡ false
+not_utf8 bytes h = by (is_utf8 bytes) refl
   where
-    by : (b : Bool) → is_utf8 bytes ≡ b → text bytes ≡ Faulty InvalidUtf8String
+    by : (b : Bool) → is_utf8 bytes ≡ b → is_utf8 bytes ≡ false
     by true is = absurd (h (IsUtf8-from_is_utf8 _ is))
-    by false is = rw is refl
+    by false is = is
+
+pub text-not_utf8 : (bytes : List ℕ) → (IsUtf8 bytes → ⊥) → text bytes ≡ Faulty InvalidUtf8String
+text-not_utf8 bytes h = rw (not_utf8 bytes h) refl
+
+-- ---- a content of bytes and zeros
+
+-- the bytes and the zeros after them are bytes
+small_after : (bytes : List ℕ) (count : ℕ) → ((i : ℕ) → get_or bytes i 0 < 256) → (i : ℕ)
+    → get_or (bytes ++ replicate count 0) i 0 < 256
+small_after [] zero small i = small i
+small_after [] (suc count) small zero = small 0
+small_after [] (suc count) small (suc i) = small_after [] count small i
+small_after (b ∷ bytes) count small zero = small 0
+small_after (b ∷ bytes) count small (suc i) = small_after bytes count (λ i. small (suc i)) i
+
+-- the first bytes are bytes
+pub small_take : (count : ℕ) (bytes : List ℕ) → ((i : ℕ) → get_or bytes i 0 < 256) → (i : ℕ)
+    → get_or (take count bytes) i 0 < 256
+small_take zero bytes small i = omega arith
+small_take (suc count) [] small i = small i
+small_take (suc count) (b ∷ bytes) small zero = small 0
+small_take (suc count) (b ∷ bytes) small (suc i) = small_take count bytes (λ i. small (suc i)) i
+
+-- a content that encodes padded bytes consists of them
+pub padded_back : (bytes : List ℕ) (content : ℕ) → length bytes ≤ 8
+    → ((i : ℕ) → get_or bytes i 0 < 256) → number_of_padded bytes ≡ content
+    → content_bytes content ≡ padded bytes
+padded_back bytes content short small is =
+    let zeros : List ℕ = replicate (8 - length bytes) 0 in
+    be_bytes_8 (padded bytes) content
+    (omega (arith, length-append bytes zeros, length-replicate {A = ℕ} (8 - length bytes) 0))
+    (small_after bytes (8 - length bytes) small) (sym is)
 
 -- ---- what isn't small
 

@@ -12,18 +12,13 @@ use Rattle.plist_decode.specs.CountedContent.{content_means, counted_with, unit_
 use Rattle.plist_decode.specs.Decoded.{DecodesAt, DecodesSeen, FitsBefore, IsDecodedAs, MeansDecoded, small_count}
 use Rattle.plist_decode.specs.Decoding.{IsCollection, is_small_object}
 use Rattle.plist_decode.specs.Front.{IsFrontAt}
-use Rattle.plist_decode.specs.Packed.{content_bytes}
-use Rattle.plist_decode.specs.Reading.{data_of_content, object_with}
+use Rattle.plist_decode.specs.Reading.{object_with}
 use Rattle.plist_decode.specs.declared.decoded.ContentKind.{ContentKind}
-use Rattle.plist_decode.specs.declared.decoded.ContentKind.TheVariants as content_kind
 use Rattle.plist_decode.specs.declared.decoded.Decoded.{Decoded}
 use Rattle.plist_decode.specs.declared.decoded.Decoded.TheVariants as decoded
 use Rattle.plist_decode.specs.declared.head.Bounds.{Bounds}
-use Rattle.plist_decode.specs.declared.packed.PackedKind.TheVariants as kind
 use Rattle.plist_decode.proofs.Lengths.{content_seen}
 use Rattle.plist_decode.proofs.ObjectFronts.{known_front, object_front}
-
--- ---- faults
 
 -- ---- strings and data
 
@@ -48,21 +43,12 @@ long_decoded kind low count first rest following more is fits short lies large w
       ap is_small_object means ∙ large,
     )
 
--- data of at most eight bytes is decoded as a small scalar
-pub small_data : (low count content first : ℕ) (rest following bytes more : List ℕ)
-    → length_in low (rest ++ more) ≡ Some (count, following ++ more) → count ≤ length following → count ≤ 8
-    → bytes ≡ take count following → take (length bytes) (content_bytes content) ≡ bytes
-    → (width : ℕ)
-    → IsDecodedAs width (first ∷ (rest ++ more)) (counted_with content_kind.Data low (rest ++ more))
-    (decoded.Small (kind.Data count) content)
-small_data low count content first rest following bytes more is seen small cut packed width =
-    let one : count * 1 ≡ count = omega arith in
-    let n : length bytes ≡ count = ap length cut ∙ length-take-le count following seen in (
-      content_seen low 1 count rest following more is (rw one seen) data_of_content
-          ∙ ap (λ xs. Scalar (trees.Data xs))
-          (ap (λ k. take k following) one ∙ sym cut ∙ sym (rw n at packed)),
-      le-leb count 8 small,
-    )
+-- an object that is this scalar was decoded as it
+pub means_small : {found scalar : trees.Scalar} {object : Object} (d : Decoded) → found ≡ scalar
+    → object ≡ Scalar scalar → MeansDecoded (Scalar found) d → MeansDecoded object d
+means_small d same is means width bytes =
+    subst (λ object. IsDecodedAs width bytes object d) (ap Scalar same ∙ sym is)
+    (means width bytes)
 
 -- if the content is among the bytes that were read, the object means what the content means
 pub few_bytes : (kind : ContentKind) (low count size first : ℕ) (rest following bytes more : List ℕ)
@@ -95,7 +81,7 @@ collection_large (Faulty kind) start count is = absurd is
 -- a small scalar is decoded as one, and so it is counted
 pub small_counted : (width : ℕ) (bytes : List ℕ) (object : Object) (d : Decoded)
     → IsDecodedAs width bytes object d → is_small_object object ≡ true → small_count d ≡ 1
-small_counted width bytes object (decoded.Small kind content) is small = refl
+small_counted width bytes object (decoded.Small tag content) is small = refl
 small_counted width bytes object (decoded.Date content) is small =
     absurd (false≢true (sym (ap is_small_object is ∙ date_large _) ∙ small))
 small_counted width bytes object (decoded.Long kind start count) is small =
@@ -149,7 +135,7 @@ seen_decodes known bounds place seen answer front means =
 -- what was decoded ends before the trailer, whatever the bytes are
 decoded_fits : (trailer place width : ℕ) (all : List ℕ) (object : Object) (d : Decoded)
     → place + length all ≤ trailer → IsDecodedAs width all object d → FitsBefore trailer place d
-decoded_fits trailer place width all object (decoded.Small kind content) h is = is.1
+decoded_fits trailer place width all object (decoded.Small tag content) h is = is.1
 decoded_fits trailer place width all object (decoded.Date content) h is = tt
 decoded_fits trailer place width all object (decoded.Long kind start count) h is =
     omega (arith, h, is.0)

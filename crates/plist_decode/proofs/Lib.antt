@@ -1,6 +1,7 @@
 pub mod Children
 pub mod NumberRuns
 pub mod Contents
+pub mod FirstBytes
 pub mod Decoding
 pub mod Lengths
 pub mod Digits
@@ -9,7 +10,6 @@ pub mod Heads
 pub mod ObjectFronts
 pub mod Markers
 pub mod UnknownBytes
-pub mod PackedScalars
 pub mod Fronts
 mod FormatsOfInputs
 pub mod Utf16Writing

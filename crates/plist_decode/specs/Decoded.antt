@@ -1,12 +1,12 @@
 -- What is decoded from the bytes at an object's front, whatever follows them.
-use Rattle.std.specs.Prelude.{◌≡◌, ℕ, ◌+◌, ◌*◌, ◌^◌, ◌<◌, ◌≤◌, List, ◌∷◌, ◌++◌, length, take, drop, true, false, Option, Result, IfSome, MatchResult, ⊤}
+use Rattle.std.specs.Prelude.{◌≡◌, ℕ, ◌+◌, ◌*◌, ◌^◌, ◌<◌, ◌≤◌, List, ◌∷◌, ◌++◌, length, take, drop, false, Option, Result, IfSome, MatchResult, ⊤}
 use Rattle.plist_base.specs.declared.error.Error.{Error}
 use Rattle.plist_base.specs.Faults.{kind_of}
+use Rattle.plist_base.specs.Packing.{IsPacked, content_bytes, unpacked}
 use Rattle.plist_base.specs.Object.{Object, Scalar, Faulty, date, meaning_of_front, object_in}
 use Rattle.plist_decode.specs.CountedContent.{content_means, unit_size}
 use Rattle.plist_decode.specs.Decoding.{AreReferencesAt, IsCollection, IsRefusedAs, child_count, children_in, is_small_object, start_event}
 use Rattle.plist_decode.specs.Reading.{bytes_at, object_at}
-use Rattle.plist_decode.specs.Packed.{content_bytes, is_packed, unpacked}
 use Rattle.plist_decode.specs.FaultOffsets.{ErrWithin}
 use Rattle.plist_decode.specs.StepFaults.{object_error_kind}
 use Rattle.plist_decode.specs.declared.decoded.Content.{Content}
@@ -30,8 +30,8 @@ content_size content = content.count * unit_size content.kind
 
 -- the object, whose bytes up to the trailer are these, was decoded as this
 abbrev pub IsDecodedAs : (width : ℕ) (bytes : List ℕ) → Object → Decoded → Type 0
-IsDecodedAs width bytes object (decoded.Small kind content) =
-    (object ≡ Scalar (unpacked kind content)) × (is_packed kind content ≡ true)
+IsDecodedAs width bytes object (decoded.Small tag content) =
+    (object ≡ Scalar (unpacked tag content)) × IsPacked tag content
 IsDecodedAs width bytes object (decoded.Date content) = object ≡ date (content_bytes content)
 IsDecodedAs width bytes object (decoded.Long kind start count) =
     (start + count * unit_size kind ≤ length bytes) × (object
@@ -68,7 +68,7 @@ MeansDecoded object decoded = (width : ℕ) (bytes : List ℕ) → IsDecodedAs w
 
 -- 1 if a small scalar was decoded, or else 0
 abbrev pub small_count : Decoded → ℕ
-small_count (decoded.Small kind content) = 1
+small_count (decoded.Small tag content) = 1
 small_count other = 0
 
 -- the counter rises by one if a small scalar was decoded
@@ -101,7 +101,7 @@ RefusesObjectAt known bounds place error = IfSome known (λ bytes. bounds.traile
 
 -- what was decoded at an offset ends before the trailer and has sizes in range
 abbrev pub FitsBefore : (trailer place : ℕ) → Decoded → Type 0
-FitsBefore trailer place (decoded.Small kind content) = is_packed kind content ≡ true
+FitsBefore trailer place (decoded.Small tag content) = IsPacked tag content
 FitsBefore trailer place (decoded.Date content) = ⊤
 FitsBefore trailer place (decoded.Long kind start count) =
     place + start + count * unit_size kind ≤ trailer

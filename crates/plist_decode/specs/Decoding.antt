@@ -1,11 +1,12 @@
 -- What an object consists of, where its references lie, and what its decoding returns.
 use Rattle.std.specs.Prelude.{◌≡◌, ℕ, ◌+◌, ◌*◌, ◌/◌, ◌%◌, ◌<◌, ◌≤◌, Bool, false, List, [], length, if◌then◌else◌, slice_index, nat_eq, Option, None, Some, ⊤}
+use Rattle.std.specs.Option.{option_map}
 use Rattle.plist_base.specs.declared.error.Error.{Error}
 use Rattle.plist_base.specs.Faults.{InvalidUtf8String, InvalidUtf16String, MatchFault, kind_of, error_kind_of, offset_of}
-use Rattle.plist_base.specs.Events.{PlainEvent, StartArray, StartDictionary}
+use Rattle.plist_base.specs.Events.{PlainEvent, ScalarEvent, StartArray, StartDictionary}
 use Rattle.plist_base.specs.Trees as trees
 use Rattle.plist_base.specs.Trees.{Data, String}
-use Rattle.plist_decode.specs.Packed.{is_small, scalar_event}
+use Rattle.plist_decode.specs.Packed.{is_small}
 use Rattle.plist_base.specs.Container.{number_at}
 use Rattle.plist_base.specs.Object.{Object, Scalar, Array, Dictionary, Faulty, children_of}
 use Rattle.plist_decode.specs.declared.decoded.CollectionKind.{CollectionKind}
@@ -48,7 +49,7 @@ scalar_in (Faulty kind) = None
 
 -- the event of the object, or `None` if the object isn't a scalar
 abbrev pub scalar_event_in : Object → Option PlainEvent
-scalar_event_in object = scalar_event (scalar_in object)
+scalar_event_in object = option_map ScalarEvent (scalar_in object)
 
 -- whether the object is a small scalar
 abbrev pub is_small_object : Object → Bool

@@ -2,9 +2,9 @@
 //!
 //! Each function reads the bytes that follow the marker.
 
-ghost use Rattle.std.specs.Prelude.{◌≡◌, ◌+◌, ◌-◌, ◌*◌, ◌%◌, ◌^◌, ◌<◌, ◌≤◌, false, length, IfNone, IfSome, MatchOption};
-ghost use Rattle.plist_base.specs.Trees.{String};
-ghost use Rattle.plist_base.specs.Object.{Scalar, text, wide_text};
+ghost use Rattle.std.specs.Prelude.{◌≡◌, ◌+◌, ◌-◌, ◌*◌, ◌%◌, ◌^◌, ◌<◌, ◌≤◌, false, length, take, IfNone, IfSome, MatchOption};
+ghost use Rattle.plist_base.specs.Object.{text, wide_text};
+ghost use Rattle.plist_base.specs.Packing.{content_bytes, padded};
 ghost use Rattle.plist_decode.specs.CountedContent.{EndsBefore, IsCount, IsLength, IsLengthCut, LiesAfter, RefusesCounted, counted_with};
 ghost use Rattle.plist_decode.specs.Decoded.{DecodesAfter, DecodesScalar, MeansDecoded};
 ghost use Rattle.plist_decode.specs.Decoding.{is_small_object};
@@ -15,11 +15,10 @@ ghost use Rattle.plist_decode.specs.declared.decoded.Decoded.TheVariants.{Long a
 use crate::after_marker::AfterMarker;
 use crate::decoded::{CollectionKind, ContentKind, Decoded, ObjectFault};
 use crate::numbers::number_from;
-use crate::packed::{PackedKind, content_from};
-use crate::utf8::short_text_in;
+use crate::utf8::is_short_utf8;
 use crate::utf16::write_utf8;
-use plist_base::Utf16Str;
 use plist_base::marker::LowHalf;
+use plist_base::{PackedScalar, Utf16Str};
 
 // Returns how many bytes a number has. The low two bits of the byte before the number encode this.
 #[inline(always)]
@@ -94,32 +93,47 @@ pub fn decode_data(low: LowHalf, rest: AfterMarker<'_>) -> Decoded
     if count > 8 {
         return long_content(ContentKind::Data, rest.bytes, following, count);
     }
-    let bytes = &following[..count as usize];
-    Decoded::Small(PackedKind::Data(count as u8), content_from(bytes))
+    Decoded::small(PackedScalar::of_data(&following[..count as usize]).unwrap())
 }
 
-// Packs a string of at most eight bytes.
-fn small_text(text: &str) -> Decoded
-    requires { length text.now ≤ 8 }
-    ensures { MeansDecoded (Scalar (String text.now)) result }
-{
-    Decoded::Small(
-        PackedKind::Text(text.len() as u8),
-        content_from(text.as_bytes()),
-    )
-}
+// The tag of an empty packed string. The tag of any other one is greater by its length.
+const EMPTY_TEXT: u8 = 17;
 
-// Decodes a UTF-8 string of at most eight bytes.
+// Returns the content that begins with the first `count` of eight bytes and continues with zeros.
 #[inline(always)]
-fn short_text(bytes: &[u8]) -> Decoded
-    requires { length bytes.now ≤ 8 }
-    ensures { MeansDecoded (text bytes.now) result }
+fn first_of_eight(bytes: &[u8; 8], count: u64) -> u64
+    requires { (0 < count) × (count ≤ 8) }
+    ensures { content_bytes result ≡ padded (take count bytes.now) }
 {
-    let content = content_from(bytes);
-    match short_text_in(&content.to_be_bytes(), bytes.len()) {
-        Some(_) => Decoded::Small(PackedKind::Text(bytes.len() as u8), content),
-        None => Decoded::Faulty(ObjectFault::NotUtf8),
+    let number = u64::from_be_bytes(*bytes);
+    number - number % (1 << (64 - 8 * count))
+}
+
+// Returns the content that begins with the first `count` bytes and continues with zeros. If there
+// are eight bytes, they are loaded at once. Otherwise the content is that of data.
+#[inline(always)]
+fn short_content(bytes: &[u8], count: usize) -> u64
+    requires { (count ≤ 8) × (count ≤ length bytes.now) }
+    ensures { content_bytes result ≡ padded (take count bytes.now) }
+{
+    match bytes.first_chunk() {
+        Some(eight) if count > 0 => first_of_eight(eight, count as u64),
+        _ => PackedScalar::of_data(&bytes[..count]).unwrap().content(),
     }
+}
+
+// Decodes a UTF-8 string that consists of the first `count` bytes.
+#[inline(always)]
+fn short_text(bytes: &[u8], count: usize) -> Decoded
+    requires { (count ≤ 8) × (count ≤ length bytes.now) }
+    ensures { MeansDecoded (text (take count bytes.now)) result }
+{
+    let content = short_content(bytes, count);
+    if !is_short_utf8(&bytes[..count], content.to_be_bytes()) {
+        return Decoded::Faulty(ObjectFault::NotUtf8);
+    }
+    let tag = EMPTY_TEXT + count as u8;
+    Decoded::small(PackedScalar::from_parts(tag, content))
 }
 
 /// Decodes a string in UTF-8.
@@ -133,7 +147,7 @@ pub fn decode_text(low: LowHalf, rest: AfterMarker<'_>) -> Decoded
     if count > 8 {
         return long_content(ContentKind::Text, rest.bytes, following, count);
     }
-    short_text(&following[..count as usize])
+    short_text(following, count as usize)
 }
 
 // Decodes a UTF-16 string. Returns `None` if it has more than eight bytes in UTF-8, because it
@@ -151,7 +165,8 @@ fn short_wide_text(bytes: &[u8]) -> Option<Decoded>
         return None;
     }
     let mut all = [0; 8];
-    Some(small_text(write_utf8(text, &mut all[..size])))
+    let text = write_utf8(text, &mut all[..size]);
+    Some(Decoded::small(PackedScalar::of_text(text).unwrap()))
 }
 
 /// Decodes a string in UTF-16.

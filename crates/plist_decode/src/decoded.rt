@@ -3,7 +3,7 @@
 ghost use Rattle.std.specs.Prelude.{◌≡◌, ◌<◌, ◌≤◌};
 ghost use Rattle.plist_decode.specs.CountedContent.{unit_size};
 
-use crate::packed::PackedKind;
+use plist_base::PackedScalar;
 
 /// How the content of a string or data is encoded.
 #[derive(Clone, Copy)]
@@ -107,8 +107,8 @@ impl CollectionKind {
 /// two registers.
 #[derive(Clone, Copy)]
 pub enum Decoded {
-    /// A scalar that can be cached. The fields are its kind and its packed content.
-    Small(PackedKind, u64),
+    /// A scalar that can be cached. The fields are the tag and the content of a [`PackedScalar`].
+    Small(u8, u64),
     /// The eight bytes of a date. The date may be out of range.
     Date(u64),
     /// A string or data that can't be cached. It has the fields of [`Content`].
@@ -118,6 +118,20 @@ pub enum Decoded {
     Collection(CollectionKind, u8, u64),
     /// An object that can't be decoded.
     Faulty(ObjectFault),
+}
+
+impl Decoded {
+    ghost use Rattle.plist_base.specs.Object.{Scalar};
+    ghost use Rattle.plist_base.specs.PackedScalars.{scalar_of_packed};
+    ghost use Rattle.plist_decode.specs.Decoded.{MeansDecoded};
+
+    /// Returns the scalar as a decoded object.
+    #[inline(always)]
+    pub(crate) fn small(scalar: PackedScalar) -> Decoded
+        ensures { MeansDecoded (Scalar (scalar_of_packed scalar)) result }
+    {
+        Decoded::Small(scalar.tag(), scalar.content())
+    }
 }
 
 /// Why an object can't be decoded.

@@ -4,17 +4,16 @@
 //! they contain all of it.
 
 ghost use Rattle.std.specs.Prelude.{◌^◌, ◌<◌, ◌≤◌, length, IfNone, IfSome};
-ghost use Rattle.plist_base.specs.Object.{Scalar, date, signed, signed_integer, unsigned_integer, wide_integer};
-ghost use Rattle.plist_decode.specs.Decoded.{DecodesFixed, MeansDecoded};
-ghost use Rattle.plist_base.specs.Trees.{Integer};
+ghost use Rattle.plist_base.specs.Object.{date, signed_integer, unsigned_integer, wide_integer};
+ghost use Rattle.plist_decode.specs.Decoded.{DecodesFixed};
 ghost use Rattle.plist_decode.specs.Front.{IsContent, IsNumber};
 ghost use Rattle.plist_decode.specs.Reading.{short_real, long_real, uid_of_content};
 
 use crate::after_marker::AfterMarker;
 use crate::decoded::{Decoded, ObjectFault};
 use crate::numbers::number_from;
-use crate::packed::{PackedKind, content_from, content_of};
 use plist_base::marker::UidWidth;
+use plist_base::{PackedScalar, RealBits, Uid};
 
 // Returns the number in the first `width` bytes, or `None` if there are fewer bytes.
 #[inline(always)]
@@ -48,19 +47,8 @@ pub fn decode_unsigned(rest: AfterMarker<'_>, width: usize) -> Decoded
     ensures { DecodesFixed width unsigned_integer rest.entry result }
 {
     match front_number(rest.bytes, width) {
-        Some(number) => Decoded::Small(PackedKind::Unsigned, number),
+        Some(number) => Decoded::small(PackedScalar::of_unsigned(number)),
         None => Decoded::Faulty(ObjectFault::Overrun),
-    }
-}
-
-// Packs the signed integer that these 64 bits represent in two's complement.
-fn signed_number(bits: u64) -> Decoded
-    ensures { MeansDecoded (Scalar (Integer (signed 64 bits))) result }
-{
-    if bits < 1 << 63 {
-        Decoded::Small(PackedKind::Unsigned, bits)
-    } else {
-        Decoded::Small(PackedKind::Negative, bits)
     }
 }
 
@@ -70,7 +58,7 @@ pub fn decode_signed(rest: AfterMarker<'_>) -> Decoded
     ensures { DecodesFixed 8 signed_integer rest.entry result }
 {
     match front_number(rest.bytes, 8) {
-        Some(number) => signed_number(number),
+        Some(number) => Decoded::small(PackedScalar::of_signed(number.cast_signed())),
         None => Decoded::Faulty(ObjectFault::Overrun),
     }
 }
@@ -90,7 +78,7 @@ pub fn decode_wide_integer(rest: AfterMarker<'_>) -> Decoded
     if high != 0 {
         return Decoded::Faulty(ObjectFault::OutOfRange);
     }
-    Decoded::Small(PackedKind::Unsigned, low)
+    Decoded::small(PackedScalar::of_unsigned(low))
 }
 
 /// Decodes a Uid.
@@ -99,7 +87,7 @@ pub fn decode_uid(rest: AfterMarker<'_>, width: UidWidth) -> Decoded
     ensures { DecodesFixed width uid_of_content rest.entry result }
 {
     match front_number(rest.bytes, width.get()) {
-        Some(number) => Decoded::Small(PackedKind::Uid, number),
+        Some(number) => Decoded::small(PackedScalar::of_uid(Uid::new(number))),
         None => Decoded::Faulty(ObjectFault::Overrun),
     }
 }
@@ -109,7 +97,7 @@ pub fn decode_real(rest: AfterMarker<'_>) -> Decoded
     ensures { DecodesFixed 8 long_real rest.entry result }
 {
     match front_content(rest.bytes) {
-        Some(bytes) => Decoded::Small(PackedKind::Real, content_of(bytes)),
+        Some(bytes) => Decoded::small(PackedScalar::of_real(RealBits::Eight(bytes))),
         None => Decoded::Faulty(ObjectFault::Overrun),
     }
 }
@@ -118,8 +106,8 @@ pub fn decode_real(rest: AfterMarker<'_>) -> Decoded
 pub fn decode_short_real(rest: AfterMarker<'_>) -> Decoded
     ensures { DecodesFixed 4 short_real rest.entry result }
 {
-    match front_content::<4>(rest.bytes) {
-        Some(bytes) => Decoded::Small(PackedKind::ShortReal, content_from(&bytes)),
+    match front_content(rest.bytes) {
+        Some(bytes) => Decoded::small(PackedScalar::of_real(RealBits::Four(bytes))),
         None => Decoded::Faulty(ObjectFault::Overrun),
     }
 }
@@ -129,7 +117,7 @@ pub fn decode_date(rest: AfterMarker<'_>) -> Decoded
     ensures { DecodesFixed 8 date rest.entry result }
 {
     match front_content(rest.bytes) {
-        Some(bytes) => Decoded::Date(content_of(bytes)),
+        Some(bytes) => Decoded::Date(u64::from_be_bytes(bytes)),
         None => Decoded::Faulty(ObjectFault::Overrun),
     }
 }

@@ -24,10 +24,9 @@ use crate::fixed_content::{
     decode_wide_integer,
 };
 use crate::head::Bounds;
-use crate::packed::PackedKind;
 use crate::step_fault::StepFault;
 use plist_base::marker::{CountedKind, Marker};
-use plist_base::{Source, read_exact_at};
+use plist_base::{PackedScalar, Source, read_exact_at};
 
 // Decodes an object from its marker and the bytes that follow the marker.
 #[inline(always)]
@@ -37,7 +36,7 @@ fn decode_after_marker(marker: u8, rest: AfterMarker<'_>, width: usize) -> Decod
 {
     match Marker::decode(marker) {
         Marker::Null => Decoded::Faulty(ObjectFault::Null),
-        Marker::Boolean(value) => Decoded::Small(PackedKind::Boolean(value), 0),
+        Marker::Boolean(value) => Decoded::small(PackedScalar::of_boolean(value)),
         Marker::Fill => Decoded::Faulty(ObjectFault::Fill),
         Marker::Integer1 => decode_unsigned(rest, 1),
         Marker::Integer2 => decode_unsigned(rest, 2),

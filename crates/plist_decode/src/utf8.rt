@@ -1,32 +1,29 @@
 //! Tests whether bytes are UTF-8.
 
-ghost use Rattle.std.specs.Prelude.{◌≡◌, ◌≤◌, take, IsUtf8, MatchOption};
+ghost use Rattle.std.specs.Prelude.{◌≡◌};
+ghost use Rattle.std.specs.Str.{is_utf8};
+ghost use Rattle.plist_base.specs.Packing.{padded};
 
 use plist_base::{Ascii, ByteTest};
 use std::simd::prelude::*;
 
-// Returns the string in these bytes, or `None` if they aren't UTF-8. They needn't be ASCII.
+// Returns `true` if the bytes are UTF-8. They needn't be ASCII.
 #[inline(never)]
-fn utf8_text_in(bytes: &[u8]) -> Option<&str>
-    ensures { MatchOption result (IsUtf8 bytes.now → ⊥)
-        (λ text. (text.now ≡ bytes.now) × IsUtf8 bytes.now) }
+fn is_utf8(bytes: &[u8]) -> bool
+    ensures { result ≡ is_utf8 bytes.now }
 {
-    match str::from_utf8(bytes) {
-        Ok(text) => Some(text),
-        Err(_) => None,
-    }
+    str::from_utf8(bytes).is_ok()
 }
 
-/// Returns the string in the first `size` of eight bytes, or `None` if they aren't UTF-8.
+/// Returns `true` if bytes are UTF-8, of which there are at most eight. They are given again in
+/// `all`, where zeros follow them, so that one test of eight bytes is enough for ASCII.
 #[inline(always)]
-pub(crate) fn short_text_in(bytes: &[u8; 8], size: usize) -> Option<&str>
-    requires { size ≤ 8 }
-    ensures { MatchOption result (IsUtf8 (take size bytes.now) → ⊥)
-        (λ text. (text.now ≡ take size bytes.now) × IsUtf8 (take size bytes.now)) }
+pub(crate) fn is_short_utf8(bytes: &[u8], all: [u8; 8]) -> bool
+    requires { all ≡ padded bytes.now }
+    ensures { result ≡ is_utf8 bytes.now }
 {
-    let text = &bytes[..size];
-    if Ascii::eight(u8x8::from_array(*bytes)) {
-        return Some(unsafe { str::from_utf8_unchecked(text) });
+    if Ascii::eight(u8x8::from_array(all)) {
+        return true;
     }
-    utf8_text_in(text)
+    is_utf8(bytes)
 }

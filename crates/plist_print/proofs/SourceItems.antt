@@ -2,50 +2,19 @@
 use Rattle.std.proofs.Common.{◌≡◌, inl, inr, ℕ, List, [], ◌∷◌, ◌++◌, Option, None, Some, IfErr, IfSome, OnOk, Result, Ok, Err, map, refl, sym, ap, ◌∙◌, subst, append-nil, append_assoc}
 use Rattle.std.proofs.lemmas.Option.{IfSome_then}
 use Rattle.plist_base.specs.declared.error.Error.{Error}
-use Rattle.plist_base.specs.declared.source.Source.{Ghosts}
 use Rattle.plist_base.specs.Events.{PlainEvent, Item}
 use Rattle.plist_base.specs.Faults.{Io, error_kind_of, fault_without_offset, fault_of, kind_of}
 use Rattle.plist_base.specs.Prefixes.{AppendsPrefix}
 use Rattle.plist_base.specs.Sources.{CountsIo}
 use Rattle.plist_base.specs.Visits.{YieldsAll, PlainItem}
+use Rattle.plist_base.proofs.VisitedItems.{Comes, all_came, came_last}
 use Rattle.plist_base.proofs.WriterBytes.{Appends-at}
 use Rattle.plist_base.proofs.Refusals.{MatchFault-weaker}
-use Rattle.plist_base.specs.FirstItems.{GivesFirst, GivesFirstIfKnown, StopsIf}
-use Rattle.plist_base.proofs.FirstItems.{first_of_known, first_weaker_if_known}
-use Rattle.plist_binread.specs.BinaryReader.{Steps, binary_source, is_new, items_to_come}
-use Rattle.plist_binread.specs.Remaining.{AllocatesNext, SomeRemain}
-use Rattle.std.specs.Bool.{⊤}
-use Rattle.plist_reader.specs.Reader.{BinaryReaderOf}
-use Rattle.plist_print.specs.Printing.{items_left}
 use Rattle.plist_print.specs.EscapedLines.{first_fault, lines_of, lines_of_events}
 use Rattle.plist_print.specs.Printing.{CountsReads, IsWriterError, PrintsKnown, PrintsAll, PrintsUntil}
 use Rattle.plist_print.specs.PrintRuns.{IsAskedOnce, PrintsRun, StopsPrinting}
 use Rattle.plist_base.proofs.SinkSteps.{prefix_more}
 use Rattle.plist_print.proofs.PendingBytes.{device_own, fault_counts, memory_own, own_counts, own_ends}
-
--- the first of the remaining items is yielded; `Io` and `OutOfMemory` are always possible
-abbrev pub Comes : (before : Option (List Item)) → PlainItem → (after : Option (List Item)) → Type 0
-Comes = GivesFirstIfKnown (λ event. event) (λ _ _. ⊤) (λ _ _. ⊤)
-
--- what says more about `Io` and `OutOfMemory` implies `Comes`
-pub comes_first : (io memory : (before after : List Item) → Type 0) (before : Option (List Item))
-    (item : PlainItem) (after : Option (List Item))
-    → GivesFirstIfKnown (λ event. event) io memory before item after → Comes before item after
-comes_first io memory before item after =
-    first_weaker_if_known (λ event. event) io memory (λ _ _. ⊤) (λ _ _. ⊤) (λ _ _ _. tt)
-    (λ _ _ _. tt) before after item
-
--- the first of a binary reader's remaining items is yielded
-pub binary_comes : {S : Type 0} {g : Ghosts S} (old : BinaryReaderOf S g) (item : PlainItem)
-    (new : BinaryReaderOf S g) → Steps old item new
-    → Comes (items_left g.known old) item (items_left g.known new)
-binary_comes {g = g} old item new step =
-    comes_first (StopsIf SomeRemain) (StopsIf (AllocatesNext (is_new old))) (items_left g.known old)
-    item (items_left g.known new)
-    (first_of_known (λ event. event) (StopsIf SomeRemain) (StopsIf (AllocatesNext (is_new old)))
-    (g.known (binary_source old)) (g.known (binary_source new))
-    (λ bytes. items_to_come bytes old) (λ bytes. items_to_come bytes new) item
-    step.gives.unchanged step.gives.items)
 
 -- ---- all items
 
@@ -58,11 +27,6 @@ faults_front : (events : List PlainEvent) (rest : List Item)
     → first_fault (map Ok events ++ rest) ≡ first_fault rest
 faults_front [] rest = refl
 faults_front (event ∷ events) rest = faults_front events rest
-
-here : (o p : Option (List Item)) → p ≡ o
-    → IfSome o (λ all. (left : List Item) × (p ≡ Some left) × (all ≡ left))
-here None p is = tt
-here (Some all) p is = (all, is, refl)
 
 -- a prefix of the lines of these events is a prefix of all lines
 front_of : (before after : Option (List ℕ)) (events : List PlainEvent) (all rest : List Item)
@@ -90,30 +54,11 @@ prints_all (Some all) answer before after printed refused prefix =
 module _ {I : Type 0} (yields : I → PlainItem → I → Type 0) (coming : I → Option (List Item))
     (comes : (old : I) (item : PlainItem) (new : I) → yields old item new
     → Comes (coming old) item (coming new)) where
-  pub all_came : (old new : I) (events : List PlainEvent) → YieldsAll yields old events new
-      → IfSome (coming old) (λ all. (left : List Item) × (coming new ≡ Some left)
-      × (all ≡ map Ok events ++ left))
-  all_came old new [] is = here (coming old) (coming new) (ap coming is)
-  all_came old new (event ∷ events) (next, one, others) =
-      IfSome_then (coming old) (comes old (Some (Ok event)) next one) (λ all (mid, to, is).
-      let (left, last, same) = rw to at (all_came next new events others) in
-      (left, last, is ∙ ap (λ l. Ok event ∷ l) same))
-
-  -- the last item that was yielded is the first one after these events
-  came_last : (old left new : I) (events : List PlainEvent) (item : PlainItem)
-      → YieldsAll yields old events left → yields left item new
-      → IfSome (coming old) (λ all. (rest : List Item) × (more : List Item)
-      × (all ≡ map Ok events ++ rest)
-      × GivesFirst (λ event. event) (λ _ _. ⊤) (λ _ _. ⊤) rest item more)
-  came_last old left new events item through last =
-      IfSome_then (coming old) (all_came old left events through) (λ all (rest, to, is).
-      let (more, after, next) = rw to at (comes left item new last) in (rest, more, is, next))
-
   pub run_printed : (old new : I) (answer : Result (Unit {0}) Error)
       (before after : Option (List ℕ)) → PrintsRun yields old answer new before after
       → OnOk answer (IfSome (coming old) (λ all. PrintsAll all before after))
   run_printed old new (Ok done) before after (events, left, through, (last, sent)) =
-      IfSome_then (coming old) (came_last old left new events None through last)
+      IfSome_then (coming old) (came_last yields coming comes old left new events None through last)
       (λ all (rest, more, is, none). (
         ap first_fault is ∙ faults_front events rest ∙ ap first_fault none.0,
         Appends-at before after _ _ (sym (ap lines_of is ∙ lines_front events rest
@@ -127,7 +72,7 @@ module _ {I : Type 0} (yields : I → PlainItem → I → Type 0) (coming : I �
       → IfErr answer (λ error. IfSome (coming old) (λ all. PrintsUntil error all before after))
   run_until old new (Ok done) before after run = tt
   run_until old new (Err error) before after (events, left, through, inl (last, sent)) =
-      IfSome_then (coming old) (came_last old left new events (Some (Err error)) through last)
+      IfSome_then (coming old) (came_last yields coming comes old left new events (Some (Err error)) through last)
       (λ all (rest, more, is, next).
       MatchFault-weaker (kind_of (error_kind_of error)) (λ _. tt) (λ _. tt) (λ fault. (
         ap first_fault is ∙ faults_front events rest ∙ ap first_fault fault,
@@ -142,15 +87,15 @@ module _ {I : Type 0} (yields : I → PlainItem → I → Type 0) (coming : I �
       (before after : Option (List ℕ)) → PrintsRun yields old answer new before after
       → IfSome (coming old) (λ all. AppendsPrefix before after (lines_of all))
   run_front old new (Ok done) before after (events, left, through, (last, sent)) =
-      IfSome_then (coming old) (all_came old left events through) (λ all (rest, to, is).
+      IfSome_then (coming old) (all_came yields coming comes old left events through) (λ all (rest, to, is).
       front_of before after events all rest is
       (lines_of_events events, [], sent, sym (append-nil (lines_of_events events))))
   run_front old new (Err error) before after (events, left, through, inl (last, sent)) =
-      IfSome_then (coming old) (all_came old left events through) (λ all (rest, to, is).
+      IfSome_then (coming old) (all_came yields coming comes old left events through) (λ all (rest, to, is).
       front_of before after events all rest is
       (lines_of_events events, [], sent, sym (append-nil (lines_of_events events))))
   run_front old new (Err error) before after (events, left, through, inr (stops, front)) =
-      IfSome_then (coming old) (all_came old left events through) (λ all (rest, to, is).
+      IfSome_then (coming old) (all_came yields coming comes old left events through) (λ all (rest, to, is).
       front_of before after events all rest is front)
 
   pub run_prints : (old new : I) (answer : Result (Unit {0}) Error)

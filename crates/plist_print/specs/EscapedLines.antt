@@ -11,8 +11,6 @@ use Rattle.plist_base.specs.Events.{PlainEvent, StartArray, StartDictionary, End
 use Rattle.plist_base.specs.Trees.{Scalar, Boolean, Data, Date, Integer, Real, String, Uid}
 use Rattle.plist_print.specs.declared.lines.Notation.{Notation}
 use Rattle.plist_print.specs.declared.lines.Notation.TheVariants as notation
-use Rattle.plist_print.specs.declared.lines.ShortLine.{ShortLine}
-use Rattle.plist_print.specs.declared.lines.ShortLine.TheVariants as short
 
 -- the digit of a value below 16: 0 to 9, or a to f
 abbrev pub hexadecimal_digit : ℕ → ℕ
@@ -91,17 +89,6 @@ event_text (StartArray length) = text_of_start (codes "StartArray") length
 event_text (StartDictionary length) = text_of_start (codes "StartDictionary") length
 event_text EndCollection = codes "EndCollection"
 event_text (ScalarEvent scalar) = words_of_scalar scalar
-
--- the event of a short line
-abbrev pub event_of_short : ShortLine → PlainEvent
-event_of_short (short.Array length) = StartArray length
-event_of_short (short.Dictionary length) = StartDictionary length
-event_of_short short.End = EndCollection
-event_of_short (short.Boolean value) = ScalarEvent (Boolean value)
-event_of_short (short.Date date) = ScalarEvent (Date date)
-event_of_short (short.Integer value) = ScalarEvent (Integer value)
-event_of_short (short.Real bits) = ScalarEvent (Real bits)
-event_of_short (short.Uid uid) = ScalarEvent (Uid uid)
 
 -- the line of an event, with its LF
 abbrev pub line_of : PlainEvent → List ℕ

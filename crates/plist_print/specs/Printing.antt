@@ -1,14 +1,10 @@
 -- What printing the items of a file writes, and what it returns.
-use Rattle.std.specs.Prelude.{option_map, ◌≡◌, ℕ, ◌⊎◌, List, Option, None, Some, ⊤, IfErr, IsErrAnd, OnOk, Result}
+use Rattle.std.specs.Prelude.{◌≡◌, ℕ, ◌⊎◌, List, Option, None, Some, ⊤, IfErr, IsErrAnd, OnOk, Result}
 use Rattle.std.specs.Io.KnownBytes.{Appends}
 use Rattle.plist_base.specs.declared.error.Error.{Error}
 use Rattle.plist_base.specs.Faults.{Fault, MatchFault, IsIoOrMemory, kind_of, error_kind_of, fault_of, offset_of}
-use Rattle.plist_base.specs.declared.source.Source.{Ghosts}
 use Rattle.plist_base.specs.Events.{Item}
 use Rattle.plist_base.specs.Sources.{CountsIo}
-use Rattle.plist_binread.specs.BinaryReader.{binary_source, items_to_come}
-use Rattle.plist_decode.specs.declared.counter.DecodeCounter.{Ghosts as CounterGhosts}
-use Rattle.plist_binread.specs.declared.reader.BinaryReader.{BinaryReader}
 use Rattle.plist_base.specs.Prefixes.{AppendsPrefix}
 use Rattle.plist_print.specs.EscapedLines.{lines_of, first_fault}
 
@@ -45,9 +41,3 @@ IsWriterError error = IsWriterFault (fault_of error)
 abbrev pub CountsReads : {A : Type 0} → Result A Error → (old new : ℕ) → Type 0
 CountsReads answer old new = CountsIo (Some answer) old new
     ⊎ (IsErrAnd answer (λ error. offset_of error ≡ None) × (new ≡ old))
-
--- the items that a reader hasn't yielded yet, if the bytes of its source are known
-abbrev pub items_left : {S C : Type 0} {g : Ghosts S} {h : CounterGhosts C}
-    → (known : S → Option (List ℕ)) → BinaryReader S C g h → Option (List Item)
-items_left known reader = option_map (λ bytes. items_to_come bytes reader) (known
-    (binary_source reader))

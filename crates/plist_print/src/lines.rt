@@ -4,12 +4,13 @@ ghost use Rattle.std.specs.Prelude.{◌≡◌, ◌++◌, ◌+◌, ◌*◌, ◌�
 ghost use Rattle.std.specs.Fmt.{decimal, signed_decimal};
 ghost use Rattle.plist_base.specs.Events.{ScalarEvent};
 ghost use Rattle.plist_base.specs.FixedBuffers.{room};
+ghost use Rattle.plist_base.specs.PackedScalars.{scalar_of_packed};
 ghost use Rattle.plist_base.specs.Trees.{Boolean, Data, String};
-ghost use Rattle.plist_print.specs.EscapedLines.{event_of_short, in_notation, line_of, text_of_date, text_of_real, text_of_start};
+ghost use Rattle.plist_print.specs.EscapedLines.{hexadecimal, in_notation, line_of, text_of_date, text_of_start};
 
 use crate::hexadecimal::push_hexadecimal;
 use crate::plain_bytes::{push_text, push_text_line};
-use plist_base::{Date, FixedBuffer, Integer, RealBits, Uid};
+use plist_base::{Date, FixedBuffer, PackedKind, PackedScalar};
 
 /// How the bytes of a string or data are printed.
 #[derive(Clone, Copy)]
@@ -21,30 +22,13 @@ pub enum Notation {
     Hexadecimal,
 }
 
-/// An event without a string or data, which has a short line.
-#[derive(Clone, Copy)]
-pub enum ShortLine {
-    /// The start of an array.
-    Array(Option<u64>),
-    /// The start of a dictionary.
-    Dictionary(Option<u64>),
-    /// The end of the innermost array or dictionary.
-    End,
-    /// A Boolean.
-    Boolean(bool),
-    /// A date.
-    Date(Date),
-    /// An integer.
-    Integer(Integer),
-    /// A real.
-    Real(RealBits),
-    /// The number of an object in a keyed archive.
-    Uid(Uid),
-}
-
 /// An upper bound of the number of bytes in a line, apart from the printed bytes of a string or
 /// data in it.
 pub const MAX_FIXED_LINE: usize = 64;
+
+/// An upper bound of the number of bytes in the line of a packed scalar: each of the eight bytes of a
+/// string may be printed as four.
+pub const MAX_PACKED_LINE: usize = 96;
 
 /// Pushes the printed form of the bytes, which has at most four bytes for every one of them.
 pub fn push_bytes(line: &mut FixedBuffer, bytes: &[u8], notation: Notation)
@@ -68,9 +52,9 @@ fn push_number<const N: usize>(line: &mut FixedBuffer, word: [u8; N], number: u6
     line.push(b"\n");
 }
 
-// Pushes the line of a start: its word, the number of items or pairs if it is known, and the LF.
+/// Pushes the line of a start: its word, the number of items or pairs if it is known, and the LF.
 #[inline(always)]
-fn push_start<const N: usize>(line: &mut FixedBuffer, word: [u8; N], count: Option<u64>)
+pub fn push_start<const N: usize>(line: &mut FixedBuffer, word: [u8; N], count: Option<u64>)
     requires { N + 22 ≤ room line.old }
     ensures { line.new ≡ line.old ++ text_of_start word.entry count ++ codes "\n" }
 {
@@ -104,18 +88,6 @@ fn push_negative(line: &mut FixedBuffer, number: i64)
     line.push(b"Integer ");
     push_signed(line, number);
     line.push(b"\n");
-}
-
-// Pushes the line of an integer.
-#[inline(always)]
-fn push_integer(line: &mut FixedBuffer, integer: Integer)
-    requires { 64 ≤ room line.old }
-    ensures { line.new ≡ line.old ++ codes "Integer " ++ signed_decimal integer ++ codes "\n" }
-{
-    match integer.as_unsigned() {
-        Some(number) => push_number(line, *b"Integer ", number),
-        None => push_negative(line, integer.as_signed().unwrap()),
-    }
 }
 
 // Pushes the line of a Boolean.
@@ -155,45 +127,15 @@ fn push_date_line(line: &mut FixedBuffer, date: Date)
     line.push(b"\n");
 }
 
-// Pushes the bytes of a real.
-fn push_real(line: &mut FixedBuffer, real: RealBits)
-    requires { 16 ≤ room line.old }
-    ensures pushed { line.new ≡ line.old ++ text_of_real real }
-    ensures room { room line.old ≤ room line.new + 16 }
-{
-    match real {
-        RealBits::Four(bytes) => push_hexadecimal(line, &bytes),
-        RealBits::Eight(bytes) => push_hexadecimal(line, &bytes),
-    }
-}
-
-// Pushes the line of a real.
+// Pushes the line of a real, given its bytes.
 #[inline(never)]
-fn push_real_line(line: &mut FixedBuffer, real: RealBits)
-    requires { 64 ≤ room line.old }
-    ensures { line.new ≡ line.old ++ codes "Real " ++ text_of_real real ++ codes "\n" }
+fn push_real(line: &mut FixedBuffer, bytes: &[u8])
+    requires { 2 * length bytes.now + 6 ≤ room line.old }
+    ensures { line.new ≡ line.old ++ codes "Real " ++ hexadecimal bytes.now ++ codes "\n" }
 {
     line.push(b"Real ");
-    push_real(line, real);
+    push_hexadecimal(line, bytes);
     line.push(b"\n");
-}
-
-/// Pushes a short line.
-#[inline(always)]
-pub fn push_short(line: &mut FixedBuffer, short: ShortLine)
-    requires { 64 ≤ room line.old }
-    ensures { line.new ≡ line.old ++ line_of (event_of_short short) }
-{
-    match short {
-        ShortLine::Array(length) => push_start(line, *b"StartArray", length),
-        ShortLine::Dictionary(length) => push_start(line, *b"StartDictionary", length),
-        ShortLine::End => line.push_array(*b"EndCollection\n"),
-        ShortLine::Boolean(value) => push_boolean(line, value),
-        ShortLine::Date(date) => push_date_line(line, date),
-        ShortLine::Integer(value) => push_integer(line, value),
-        ShortLine::Real(bits) => push_real_line(line, bits),
-        ShortLine::Uid(uid) => push_number(line, *b"Uid ", uid.get()),
-    }
 }
 
 /// Pushes the line of a string.
@@ -217,4 +159,32 @@ pub fn push_data(line: &mut FixedBuffer, bytes: &[u8])
     line.push(b"Data ");
     push_hexadecimal(line, bytes);
     line.push(b"\n");
+}
+
+/// Pushes the line of a scalar that isn't a string or data of more than eight bytes.
+#[inline(always)]
+pub fn push_packed(line: &mut FixedBuffer, scalar: PackedScalar)
+    requires { 96 ≤ room line.old }
+    ensures { line.new ≡ line.old ++ line_of (ScalarEvent (scalar_of_packed scalar)) }
+{
+    let content = scalar.content();
+    let bytes = content.to_be_bytes();
+    match scalar.kind() {
+        PackedKind::Boolean(value) => push_boolean(line, value),
+        PackedKind::Unsigned => push_number(line, *b"Integer ", content),
+        PackedKind::Negative => push_negative(line, content.cast_signed()),
+        PackedKind::Real => push_real(line, &bytes),
+        PackedKind::ShortReal => {
+            let mut four = [0; 4];
+            four.copy_from_slice(&bytes[..4]);
+            push_real(line, &four);
+        }
+        PackedKind::Uid => push_number(line, *b"Uid ", content),
+        PackedKind::Data(size) => push_data(line, &bytes[..usize::from(size)]),
+        PackedKind::String(size) => push_string(line, scalar.text_in(&bytes, size)),
+        PackedKind::Date => match Date::from_plist_real(bytes) {
+            Ok(date) => push_date_line(line, date),
+            Err(_) => unreachable!(),
+        },
+    }
 }

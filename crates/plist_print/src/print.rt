@@ -1,9 +1,9 @@
 //! Prints the events of a source.
 
 ghost use Rattle.std.specs.Prelude.{◌≡◌, IfSome};
-ghost use Rattle.plist_binread.specs.BinaryReader.{binary_source};
+ghost use Rattle.plist_binread.specs.BinaryReader.{binary_source, file_items};
 ghost use Rattle.plist_base.specs.Unfolding.{items_of_file};
-ghost use Rattle.plist_print.specs.Printing.{CountsReads, PrintsKnown, items_left};
+ghost use Rattle.plist_print.specs.Printing.{CountsReads, PrintsKnown};
 ghost use Rattle.plist_print.specs.PrintRuns.{PrintsReader, PrintsRun, PrintsSource};
 
 use crate::printer::Printer;
@@ -60,7 +60,7 @@ pub fn print_reader<S: Source, W: Write>(
     reader: &mut BinaryReader<S>,
     writer: &mut W,
 ) -> Result<(), Error>
-    ensures printed { IfSome (items_left S.known reader.old)
+    ensures printed { IfSome (file_items S.known reader.old)
         (λ items. PrintsKnown items result (W.contents writer.old) (W.contents writer.new)) }
     ensures answers { PrintsReader reader.old result reader.new
         (W.contents writer.old) (W.contents writer.new) }

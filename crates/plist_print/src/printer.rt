@@ -1,23 +1,24 @@
 //! Defines a visitor that prints every event on a line of its own.
 
 ghost use Rattle.std.specs.Prelude.{◌≡◌, ◌++◌, ◌+◌, ◌*◌, ◌≤◌, [], OnOk, codes, false, length, true};
-ghost use Rattle.plist_base.specs.Events.{ScalarEvent};
+ghost use Rattle.plist_base.specs.Events.{EndCollection, ScalarEvent};
 ghost use Rattle.plist_base.specs.FixedBuffers.{room, buffer_capacity};
+ghost use Rattle.plist_base.specs.PackedScalars.{scalar_of_packed};
 ghost use Rattle.plist_base.specs.Sinks.{Puts};
 ghost use Rattle.plist_base.specs.Trees.{Data, String};
 ghost use Rattle.plist_base.specs.Utf16Strings.{chars_left, string_of_utf16};
 ghost use Rattle.plist_base.specs.Outcomes.{OnlyDevice};
-ghost use Rattle.plist_print.specs.EscapedLines.{escaped_chars, event_of_short, in_notation};
+ghost use Rattle.plist_print.specs.EscapedLines.{escaped_chars, in_notation, text_of_start};
 ghost use Rattle.plist_print.specs.PrintRuns.{PrintsRun};
 
 use crate::lines::{
-    MAX_FIXED_LINE, Notation, ShortLine, push_bytes, push_data, push_short, push_string,
+    MAX_FIXED_LINE, MAX_PACKED_LINE, Notation, push_bytes, push_data, push_packed, push_start,
+    push_string,
 };
 use crate::plain_bytes::push_plain_line;
 use crate::utf16::push_chars;
 use plist_base::{
-    Date, Error, Event, EventSource, EventVisitor, Integer, RealBits, Sink, Uid, Utf16Chars,
-    Utf16Str, Visited,
+    Error, Event, EventSource, EventVisitor, PackedScalar, Sink, Utf16Chars, Utf16Str, Visited,
 };
 use std::borrow::{CowSlice, CowStr};
 use std::io::Write;
@@ -134,13 +135,36 @@ impl<'p, W: Write> Printer<'p, W> {
         self.write_pending()
     }
 
-    // Prints an event whose line is short.
+    // Prints a start: its word, and the number of items or pairs if it is known.
     #[inline(always)]
-    fn print_short(&mut self, line: ShortLine) -> ControlFlow<()>
-        ensures { PrintsLine W.contents self.old (event_of_short line) result self.new }
+    fn print_start<const N: usize>(&mut self, word: [u8; N], count: Option<u64>) -> ControlFlow<()>
+        requires { N + 22 ≤ 64 }
+        ensures { PrintsBytes W.contents self.old (text_of_start word.entry count ++ codes "\n") result
+            self.new }
     {
         let flow = self.make_room(MAX_FIXED_LINE);
-        push_short(self.sink.buffer, line);
+        push_start(self.sink.buffer, word, count);
+        flow
+    }
+
+    // Prints an end.
+    #[inline(always)]
+    fn print_end(&mut self) -> ControlFlow<()>
+        ensures { PrintsLine W.contents self.old EndCollection result self.new }
+    {
+        let flow = self.make_room(MAX_FIXED_LINE);
+        self.sink.buffer.push_array(*b"EndCollection\n");
+        flow
+    }
+
+    // Prints a scalar that isn't a string or data of more than eight bytes.
+    #[inline(always)]
+    fn print_packed(&mut self, scalar: PackedScalar) -> ControlFlow<()>
+        ensures { PrintsLine W.contents self.old (ScalarEvent (scalar_of_packed scalar)) result
+            self.new }
+    {
+        let flow = self.make_room(MAX_PACKED_LINE);
+        push_packed(self.sink.buffer, scalar);
         flow
     }
 
@@ -280,63 +304,46 @@ impl<'p, W: Write> EventVisitor for Printer<'p, W> {
     ghost step = { PrintsLine W.contents };
 
     fn event(&mut self, event: Event<'_>) -> ControlFlow<()> {
+        if let Some(scalar) = PackedScalar::of_event(&event) {
+            return self.print_packed(scalar);
+        }
         match event {
-            Event::StartArray(length) => self.print_short(ShortLine::Array(length)),
-            Event::StartDictionary(length) => self.print_short(ShortLine::Dictionary(length)),
-            Event::EndCollection => self.print_short(ShortLine::End),
-            Event::Boolean(value) => self.print_short(ShortLine::Boolean(value)),
+            Event::StartArray(length) => self.start_array(length),
+            Event::StartDictionary(length) => self.start_dictionary(length),
+            Event::EndCollection => self.print_end(),
             Event::Data(bytes) => self.print_data(bytes.as_slice()),
-            Event::Date(date) => self.print_short(ShortLine::Date(date)),
-            Event::Integer(value) => self.print_short(ShortLine::Integer(value)),
-            Event::Real(bits) => self.print_short(ShortLine::Real(bits)),
             Event::String(text) => self.print_text(text.as_str()),
-            Event::Uid(uid) => self.print_short(ShortLine::Uid(uid)),
+            Event::Boolean(_)
+            | Event::Date(_)
+            | Event::Integer(_)
+            | Event::Real(_)
+            | Event::Uid(_) => unreachable!(),
         }
     }
 
     #[inline(always)]
     fn start_array(&mut self, length: Option<u64>) -> ControlFlow<()> {
-        self.print_short(ShortLine::Array(length))
+        self.print_start(*b"StartArray", length)
     }
 
     #[inline(always)]
     fn start_dictionary(&mut self, length: Option<u64>) -> ControlFlow<()> {
-        self.print_short(ShortLine::Dictionary(length))
+        self.print_start(*b"StartDictionary", length)
     }
 
     #[inline(always)]
     fn end_collection(&mut self) -> ControlFlow<()> {
-        self.print_short(ShortLine::End)
+        self.print_end()
     }
 
     #[inline(always)]
-    fn boolean(&mut self, value: bool) -> ControlFlow<()> {
-        self.print_short(ShortLine::Boolean(value))
+    fn packed(&mut self, scalar: PackedScalar) -> ControlFlow<()> {
+        self.print_packed(scalar)
     }
 
     #[inline(always)]
     fn data(&mut self, bytes: CowSlice<'_, u8>) -> ControlFlow<()> {
         self.print_data(bytes.as_slice())
-    }
-
-    #[inline(always)]
-    fn date(&mut self, date: Date) -> ControlFlow<()> {
-        self.print_short(ShortLine::Date(date))
-    }
-
-    #[inline(always)]
-    fn integer(&mut self, value: Integer) -> ControlFlow<()> {
-        self.print_short(ShortLine::Integer(value))
-    }
-
-    #[inline(always)]
-    fn real(&mut self, bits: RealBits) -> ControlFlow<()> {
-        self.print_short(ShortLine::Real(bits))
-    }
-
-    #[inline(always)]
-    fn uid(&mut self, uid: Uid) -> ControlFlow<()> {
-        self.print_short(ShortLine::Uid(uid))
     }
 
     // A string that doesn't fit into the room is left to `string`, which makes room first.

@@ -2,13 +2,17 @@
 use Rattle.std.proofs.Common.{◌≡◌, List, [], ◌∷◌, ◌++◌, None, Some, Result, Ok, Err, ap, refl, subst, sym, ◌∙◌}
 use Rattle.std.proofs.lemmas.Option.{none-some}
 use Rattle.std.specs.declared.alloc.Global.{Global}
+use Rattle.std.specs.declared.borrow.CowSlice.TheVariants as slice
+use Rattle.std.specs.declared.borrow.CowStr.TheVariants as string
 use Rattle.std.specs.declared.ops.ControlFlow.TheVariants.{Continue}
 use Rattle.plist_base.specs.declared.error.Error.{Error}
 use Rattle.plist_base.specs.declared.event.Event.{Event}
 use Rattle.plist_base.specs.declared.source.Source.{Ghosts}
 use Rattle.plist_base.specs.declared.visitor.Visited.{Visited}
 use Rattle.plist_base.specs.declared.visitor.Visited.TheVariants.{Ended, Stopped}
-use Rattle.plist_base.specs.Events.{PlainEvent, event_of}
+use Rattle.plist_base.specs.declared.event.Event.TheVariants as event
+use Rattle.plist_base.specs.Events.{PlainEvent, EndCollection, ScalarEvent, StartArray, StartDictionary, event_of}
+use Rattle.plist_base.specs.Trees.{Boolean, Data, Date, Integer, Real, String, Uid}
 use Rattle.plist_base.specs.Visits.{Flow, HandsOver, HandsOverAll, PlainItem, TakesTurn, Visits, YieldsPlain, last_turn}
 use Rattle.plist_base.proofs.Visits.{kept_by_visit}
 use Rattle.plist_binread.specs.BinaryReader.{GivesBinary, Steps}
@@ -40,6 +44,21 @@ module _ {I V : Type 0} (yields : I → PlainItem → I → Type 0)
     handed = hands_then old now visit.left events visit.events handed visit.handed;
     ended = visit.ended;
   }
+
+-- contracts see this of some event
+some_event : (event : PlainEvent) → (handed : Event) × (event_of handed ≡ event)
+some_event (StartArray length) = (event.StartArray length, refl)
+some_event (StartDictionary length) = (event.StartDictionary length, refl)
+some_event EndCollection = (event.EndCollection, refl)
+some_event (ScalarEvent (Boolean value)) = (event.Boolean value, refl)
+some_event (ScalarEvent (Data bytes)) =
+    (event.Data (slice.Borrowed (record { ref_ptr = (0, 0); now = bytes })), refl)
+some_event (ScalarEvent (Date date)) = (event.Date date, refl)
+some_event (ScalarEvent (Integer number)) = (event.Integer number, refl)
+some_event (ScalarEvent (Real bits)) = (event.Real bits, refl)
+some_event (ScalarEvent (String text)) =
+    (event.String (string.Borrowed (record { ref_ptr = (0, 0); now = text })), refl)
+some_event (ScalarEvent (Uid number)) = (event.Uid number, refl)
 
 module _ {R : Type 0} {g : Ghosts R} where
   -- an event that a step yields is one that `next` can return
@@ -122,7 +141,7 @@ module _ {R : Type 0} {g : Ghosts R} (alloc : Global) where
         → HandsOver Steps (PassesOn step) (from, v) event flow (to, w)
         → HandsOver Yields step (chosen from, v.visitor.now) event flow (chosen to, w.visitor.now)
     hands_one from to v w event flow one = record {
-      given = yields_event from to event one.taken.given.0 one.taken.given.1 one.given;
+      given = yields_event from to event (some_event event).0 (some_event event).1 one.given;
       taken = one.taken.taken;
     }
 

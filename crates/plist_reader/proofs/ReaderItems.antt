@@ -12,14 +12,17 @@ use Rattle.plist_base.specs.Limits.{IfLimitReached, KeepsLimits, items_within, l
 use Rattle.plist_base.specs.Faults.{FaultKind, Fault, Io, LimitReached, MatchFault, XmlUnsupported, IsIo, fault_at, kind_of, error_kind_of, fault_of}
 use Rattle.plist_base.specs.Outcomes.{IfFault}
 use Rattle.plist_base.specs.Sources.{CountsIo}
+use Rattle.plist_base.specs.Visits.{PlainItem, YieldsPlain}
 use Rattle.plist_base.proofs.Refusals.{MatchFault-weaker}
+use Rattle.plist_base.proofs.VisitedItems.{Comes, plain_comes}
 use Rattle.plist_decode.specs.FaultOffsets.{HasOffset, MatchGiven}
 use Rattle.plist_ascii.specs.Ascii.{IsFaultOfBytes}
 use Rattle.plist_ascii.specs.declared.dialect.Dialect.{Dialect}
 use Rattle.plist_binread.specs.Remaining.{SomeRemain}
+use Rattle.plist_reader.specs.declared.reader.Reader.{Reader}
 use Rattle.plist_reader.specs.declared.reader.State.{State}
 use Rattle.plist_reader.specs.declared.reader.State.TheVariants as state
-use Rattle.plist_reader.specs.Reader.{BeginsInside, admitted_in, state_items, is_limited_in, items_in_format, items_of_dialect, IsReaderFault, StateGives, source_in}
+use Rattle.plist_reader.specs.Reader.{BeginsInside, Gives, admitted_in, reader_items, state_items, is_limited_in, items_in_format, items_of_dialect, IsReaderFault, StateGives, source_in}
 use Rattle.plist_decode.specs.declared.format.Format.TheVariants as format
 use Rattle.plist_decode.specs.Formats.{format_of}
 
@@ -195,3 +198,12 @@ module _ {R : Type 0} {g : Ghosts R} (known : R → Option (List ℕ)) (failed :
           → FirstIfKnown (option_map (input_within dialect limits) k) (Some (Err error)) (Some [])
       empty None h = tt
       empty (Some bytes) h = ([], refl, h)
+
+-- a call of `next` yields the first of the remaining items
+pub reader_comes : {R : Type 0} {g : Ghosts R} (known : R → Option (List ℕ)) (failed : R → ℕ)
+    (old : Reader R g) (item : PlainItem) (new : Reader R g)
+    → YieldsPlain (Gives known failed) old item new
+    → Comes (reader_items known old) item (reader_items known new)
+reader_comes known failed old item new (given, yields, is) =
+    rw is (plain_comes (λ _. ⊤) SomeRemain (reader_items known old) (reader_items known new) given
+    yields.items)

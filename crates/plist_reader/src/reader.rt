@@ -286,7 +286,7 @@ impl<R: Source> Iterator for Reader<R> {
 }
 
 impl<R: Source> Reader<R> {
-    ghost use Rattle.plist_base.specs.Visits.{TakesTurn, YieldsPlain};
+    ghost use Rattle.plist_base.specs.Visits.{TakesTurn, Visits, YieldsPlain};
     ghost use Rattle.plist_reader.specs.Reader.{Gives, steps_in_state};
 
     // Hands the next event to a visitor, after it was read by `next`.
@@ -328,15 +328,13 @@ impl<R: Source> Reader<R> {
             | State::Moved => self.hand_over_read(visitor),
         }
     }
-}
 
-impl<R: Source> EventSource for Reader<R> {
-    ghost use Rattle.plist_base.specs.Visits.{YieldsPlain};
-    ghost use Rattle.plist_reader.specs.Reader.{Gives};
-
-    ghost yields = { YieldsPlain (Gives R.known R.failures) };
-
-    fn visit<V: EventVisitor>(&mut self, visitor: &mut V) -> Result<Visited, Error> {
+    // Hands the remaining events to a visitor.
+    #[inline(always)]
+    fn visit_all<V: EventVisitor>(&mut self, visitor: &mut V) -> Result<Visited, Error>
+        ensures { Visits (YieldsPlain (Gives R.known R.failures)) V.step
+            (self.old, visitor.old) result (self.new, visitor.new) }
+    {
         loop {
             if let State::Binary(reader) = &mut self.state {
                 return reader.visit(&mut Relay::new(visitor));
@@ -348,5 +346,22 @@ impl<R: Source> EventSource for Reader<R> {
                 Some(Err(error)) => return Err(error),
             }
         }
+    }
+}
+
+impl<R: Source> EventSource for Reader<R> {
+    ghost use Rattle.plist_base.specs.VisitedItems.{VisitsKnown};
+    ghost use Rattle.plist_base.specs.Visits.{Visits, YieldsPlain};
+    ghost use Rattle.plist_reader.specs.Reader.{Gives, reader_items};
+
+    ghost yields = { YieldsPlain (Gives R.known R.failures) };
+
+    fn visit<V: EventVisitor>(&mut self, visitor: &mut V) -> Result<Visited, Error>
+        ensures items { VisitsKnown V.step (reader_items R.known self.old, visitor.old) result
+            (reader_items R.known self.new, visitor.new) }
+        ensures events { Visits (YieldsPlain (Gives R.known R.failures)) V.step
+            (self.old, visitor.old) result (self.new, visitor.new) }
+    {
+        self.visit_all(visitor)
     }
 }

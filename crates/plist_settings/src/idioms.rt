@@ -1,4 +1,4 @@
-//! The idioms of `docs/PORTING.md`, each run once, on `settings.plist` or `lines.plist` if it needs
+//! Many idioms of `docs/PORTING.md`, each run once, on `settings.plist` or `lines.plist` if it needs
 //! a file. `examples/idioms.rs` runs most of the idioms on the Rust crate `plist`, and says which
 //! lines of `crates/plist_settings/stdout` it prints.
 

@@ -11,8 +11,8 @@ ghost use Rattle.plist.specs.Dictionaries.{pairs_of};
 ghost use Rattle.plist.specs.ValueTrees.{tree_pairs};
 
 use crate::{Dictionary, Value};
-use plist_base::{Error, ErrorKind};
-use std::alloc::Global;
+use plist_base::Error;
+use std::alloc::{AllocError, Global};
 
 impl Dictionary {
     /// Keeps the pairs for which the closure returns `true`, in their order, and drops the others.
@@ -35,11 +35,10 @@ impl Dictionary {
 
     // Sets the key's value, and drops the value that it had. If an allocation fails, the pairs are
     // unchanged, and the key and the value are dropped.
-    pub(crate) fn set(&mut self, key: String, value: Value) -> Result<(), Error>
+    pub(crate) fn set(&mut self, key: String, value: Value) -> Result<(), AllocError>
         ensures pairs { OnOk result (IsSetAt (pairs_of self.old) (string_bytes key) value
             (pairs_of self.new)) }
         ensures absent { OnErr result (IsAbsent (string_bytes key) (pairs_of self.old)) }
-        ensures memory { OnlyMemory result }
         ensures unchanged { OnErr result (pairs_of self.new ≡ pairs_of self.old) }
     {
         match self.insert(key, value) {
@@ -50,7 +49,7 @@ impl Dictionary {
             }
             Err((_key, refused)) => {
                 refused.destroy();
-                Err(ErrorKind::OutOfMemory.without_position())
+                Err(AllocError)
             }
         }
     }

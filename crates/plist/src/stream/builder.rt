@@ -1,14 +1,14 @@
 //! Builds a value from its events.
 
-ghost use Rattle.std.specs.Prelude.{◌≡◌, IfOk, None, Ok, OnErr, OnOk, Some, false, true};
+ghost use Rattle.std.specs.Prelude.{◌≡◌, IfErr, IfOk, None, Ok, OnErr, OnOk, Some, false, true};
 ghost use Rattle.plist_base.specs.Events.{event_of};
 ghost use Rattle.plist_base.specs.Outcomes.{IfFault};
 ghost use Rattle.plist_base.specs.Writing.{answer_of};
 ghost use Rattle.plist.specs.Building.{IsNested, IsNested-prop, IsUnfinished, nothing_built};
-ghost use Rattle.plist.specs.UnfinishedValues.{AddsEvent, unfinished_of};
+ghost use Rattle.plist.specs.UnfinishedValues.{AddsEvent, answer_of_adding, fault_of_add_error, unfinished_of};
 
 use crate::Value;
-use crate::unfinished::UnfinishedValue;
+use crate::unfinished::{AddError, UnfinishedValue};
 use plist_base::{Error, ErrorKind, Event, Sealed, Writer};
 use std::alloc::Global;
 
@@ -43,7 +43,7 @@ impl Builder {
     ghost use Rattle.plist_base.specs.Bracketing.{AreAlike, bracketing};
     ghost use Rattle.plist.specs.Builder.{IsBuildingStep, RefusesWith, built_of};
     ghost use Rattle.plist.specs.Building.{complete_tree, events_so_far};
-    ghost use Rattle.plist.specs.Collecting.{TakesOne, item_by};
+    ghost use Rattle.plist.specs.Collecting.{RefusesOne, TakesOne, item_by};
     ghost use Rattle.plist.specs.ValueTrees.{tree_of};
 
     /// Creates a builder without events.
@@ -58,18 +58,20 @@ impl Builder {
     }
 
     // Adds an event.
-    pub(crate) fn take(&mut self, event: Event<'_>) -> Result<(), Error>
-        ensures step { IsBuildingStep self.old (event_of event.entry) (answer_of result) self.new }
+    pub(crate) fn add(&mut self, event: Event<'_>) -> Result<(), AddError>
+        ensures step { IsBuildingStep self.old (event_of event.entry) (answer_of_adding result)
+            self.new }
         ensures added { OnOk result (AddsEvent self.old.unfinished (event_of event.entry)
             self.new.unfinished) }
         ensures refused { (built_of self.old).failed ≡ false
-            → RefusesWith self.old (Ok (event_of event.entry)) result }
+            → IfErr result (λ rejection. RefusesOne (unfinished_of self.old.unfinished)
+            (Ok (event_of event.entry)) (fault_of_add_error rejection)) }
     {
         if self.failed {
-            return Err(ErrorKind::WriterFailed.without_position());
+            return Err(AddError::Failed);
         }
         match self.unfinished.refusal(&event) {
-            Some(kind) => return Err(kind.without_position()),
+            Some(rejection) => return Err(rejection),
             None => {}
         }
         match self.unfinished.take(self.alloc, event) {
@@ -77,8 +79,22 @@ impl Builder {
             Err(_) => {
                 self.unfinished.clear();
                 self.failed = true;
-                Err(ErrorKind::OutOfMemory.without_position())
+                Err(AddError::OutOfMemory)
             }
+        }
+    }
+
+    // Adds an event.
+    pub(crate) fn take(&mut self, event: Event<'_>) -> Result<(), Error>
+        ensures step { IsBuildingStep self.old (event_of event.entry) (answer_of result) self.new }
+        ensures added { OnOk result (AddsEvent self.old.unfinished (event_of event.entry)
+            self.new.unfinished) }
+        ensures refused { (built_of self.old).failed ≡ false
+            → RefusesWith self.old (Ok (event_of event.entry)) result }
+    {
+        match self.add(event) {
+            Ok(()) => Ok(()),
+            Err(rejection) => Err(rejection.kind().without_position()),
         }
     }
 

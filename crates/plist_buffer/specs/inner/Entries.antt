@@ -5,7 +5,7 @@ use Rattle.std.specs.List.{list_any}
 use Rattle.plist_base.specs.Bracketing.{without_length}
 use Rattle.plist_base.specs.Events.{PlainEvent, StartArray, StartDictionary, EndCollection, ScalarEvent}
 use Rattle.plist_buffer.specs.StoredScalars.{event_of_small, event_of_long, events_of_small}
-use Rattle.plist_buffer.specs.declared.small_scalar.SmallScalar.{SmallScalar}
+use Rattle.plist_base.specs.declared.packed_scalar.PackedScalar.{PackedScalar}
 use Rattle.plist_buffer.specs.declared.long_scalar.LongScalar.{LongScalar}
 use Rattle.plist_buffer.specs.inner.UnclosedStarts.{unclosed_after, skip_after}
 use Rattle.plist_buffer.specs.declared.entries.EventEntry.{EventEntry}
@@ -40,8 +40,8 @@ KeepsScalars old new = (number : ScalarNumber) (e : PlainEvent)
     → scalar_numbered old number ≡ Some e → scalar_numbered new number ≡ Some e
 
 -- each number that was found for one of these small scalars is that of an equal scalar
-abbrev pub AreFound : ScalarLists → List SmallScalar → (found : List (Option ℕ)) → Type 0
-AreFound scalars sought found = (k : ℕ) (x : SmallScalar) → k < length sought
+abbrev pub AreFound : ScalarLists → List PackedScalar → (found : List (Option ℕ)) → Type 0
+AreFound scalars sought found = (k : ℕ) (x : PackedScalar) → k < length sought
     → IfSome (slice_index_or found k None) (λ number. scalar_numbered scalars (Small number)
     ≡ Some (event_of_small (slice_index_or sought k x)))
 
@@ -138,10 +138,10 @@ pub record IsValidTable (scalars : ScalarLists) (entries : List EventEntry)
   pub entries_are : AreEntriesOf scalars entries unclosed
 
 -- the events of these scalars
-abbrev pub lists_of : List SmallScalar → List LongScalar → ScalarLists
+abbrev pub lists_of : List PackedScalar → List LongScalar → ScalarLists
 lists_of small long = record { small = events_of_small small; long = map event_of_long long }
 
 -- the invariant of a table with these different scalars
-abbrev pub AreValidEntries : List SmallScalar → List LongScalar → List EventEntry
+abbrev pub AreValidEntries : List PackedScalar → List LongScalar → List EventEntry
     → (unclosed : List ℕ) → Type 0
 AreValidEntries small long entries unclosed = IsValidTable (lists_of small long) entries unclosed

@@ -1,10 +1,9 @@
--- The contents of long scalars.
-use Rattle.std.specs.Prelude.{ℕ, List, [], length, if◌then◌else◌}
-use Rattle.std.specs.String.{string_bytes}
+-- The forms and bytes of long scalars.
+use Rattle.std.specs.Prelude.{◌≡◌, ℕ, ◌<◌, List, [], length, if◌then◌else◌}
 use Rattle.plist_base.specs.Trees.{Scalar, Data, String}
-use Rattle.plist_base.specs.Utf16.{utf16_form, utf8_of_utf16}
+use Rattle.plist_base.specs.Utf16.{IsUtf16, utf16_form, utf8_of_utf16}
 use Rattle.plist_buffer.specs.AsciiTexts.{is_ascii_text}
-use Rattle.plist_buffer.specs.ShortContents.{short_data, short_string}
+use Rattle.plist_buffer.specs.ShortContents.{short_bytes}
 use Rattle.plist_buffer.specs.declared.long_scalar.LongContent.{LongContent}
 use Rattle.plist_buffer.specs.declared.long_scalar.LongContent.TheVariants as content
 use Rattle.plist_buffer.specs.declared.long_scalar.Form.{Form}
@@ -12,37 +11,25 @@ use Rattle.plist_buffer.specs.declared.long_scalar.Form.TheVariants as form
 
 -- the form in which the string or data is stored
 abbrev pub form_in : LongContent → Form
-form_in (content.ShortString text) = form.Ascii
-form_in (content.BorrowedString text) = form.Ascii
-form_in (content.OwnedString text) = form.Ascii
-form_in (content.ShortWide text) = form.Wide
-form_in (content.BorrowedWide text) = form.Wide
-form_in (content.OwnedWide text) = form.Wide
+form_in (content.ShortAscii bytes) = form.Ascii
+form_in (content.ShortWide bytes) = form.Wide
 form_in (content.ShortData bytes) = form.Data
-form_in (content.BorrowedData bytes) = form.Data
-form_in (content.OwnedData bytes) = form.Data
+form_in (content.Borrowed stored bytes) = stored
+form_in (content.Owned stored bytes) = stored
 
 -- the stored bytes
 abbrev pub bytes_stored : LongContent → List ℕ
-bytes_stored (content.ShortString text) = short_string text
-bytes_stored (content.BorrowedString text) = text.now
-bytes_stored (content.OwnedString text) = string_bytes text
-bytes_stored (content.ShortWide text) = short_data text.units
-bytes_stored (content.BorrowedWide text) = text.bytes.now
-bytes_stored (content.OwnedWide text) = text.units.items
-bytes_stored (content.ShortData bytes) = short_data bytes
-bytes_stored (content.BorrowedData bytes) = bytes.now
-bytes_stored (content.OwnedData bytes) = bytes.items
+bytes_stored (content.ShortAscii bytes) = short_bytes bytes
+bytes_stored (content.ShortWide bytes) = short_bytes bytes
+bytes_stored (content.ShortData bytes) = short_bytes bytes
+bytes_stored (content.Borrowed stored bytes) = bytes.now
+bytes_stored (content.Owned stored bytes) = bytes.items
 
 -- the scalar that these bytes encode in a form
 abbrev pub scalar_from : Form → List ℕ → Scalar
 scalar_from form.Ascii bytes = String bytes
 scalar_from form.Wide bytes = String (utf8_of_utf16 bytes)
 scalar_from form.Data bytes = Data bytes
-
--- the string or data as a scalar
-abbrev pub scalar_of_content : LongContent → Scalar
-scalar_of_content stored = scalar_from (form_in stored) (bytes_stored stored)
 
 -- the form of a string or data
 abbrev pub form_of_scalar : Scalar → Form
@@ -61,6 +48,8 @@ bytes_in_scalar (String text) = length text
 bytes_in_scalar (Data bytes) = length bytes
 bytes_in_scalar scalar = 0
 
--- the number of bytes of the string in UTF-8 or of the data
-abbrev pub content_length : LongContent → ℕ
-content_length stored = bytes_in_scalar (scalar_of_content stored)
+-- in this form, which is its own, these bytes encode a string or data of more than eight bytes
+pub record IsLongIn (stored : Form) (bytes : List ℕ) : Type 0 where
+  pub long : 8 < bytes_in_scalar (scalar_from stored bytes)
+  pub own : stored ≡ form_of_scalar (scalar_from stored bytes)
+  pub valid : stored ≡ form.Wide → IsUtf16 bytes

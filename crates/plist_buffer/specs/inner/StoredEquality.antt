@@ -1,11 +1,9 @@
 -- Equal scalars have the same content, and so they write the same to a hasher.
-use Rattle.std.proofs.Common.{◌≡◌, ℤ, pos, negsuc, List, ◌∷◌, [], ℕ, true, ap, sym, subst}
+use Rattle.std.proofs.Common.{◌≡◌, ◌∷◌, [], true, ap, sym, subst}
 use Rattle.std.specs.Cmp.{IsEquivalence, both_ways}
-use Rattle.std.specs.Hash as fed
-use Rattle.plist_base.specs.Scalars.{scalar_eq, scalar_is, scalar_refl, writes_of_scalar}
-use Rattle.plist_base.specs.Trees.{Scalar, Data, Integer, String}
+use Rattle.plist_base.specs.Scalars.{scalar_eq, scalar_is, scalar_refl}
+use Rattle.plist_base.specs.Trees.{Scalar}
 use Rattle.plist_buffer.specs.inner.LongContents.{bytes_of_scalar}
-use Rattle.plist_buffer.specs.inner.Padded.{with_zeros}
 
 -- `scalar_eq` is true of identical scalars
 eq_from_is : (a b : Scalar) → a ≡ b → scalar_eq a b ≡ true
@@ -20,23 +18,6 @@ scalars_equiv = record {
       (λ h. eq_from_is a b (sym (scalar_is b a h)));
   congr = λ a b c h. ap (λ d. scalar_eq d c) (scalar_is a b h);
 }
-
--- what an integer of 64 bits writes to a hasher
-abbrev pub writes_of_integer : ℤ → List (List ℕ)
-writes_of_integer (pos number) = fed.u64 number
-writes_of_integer (negsuc number) = fed.i64 (negsuc number)
-
--- what a small scalar writes to a hasher: at most eight bytes, in one write
-abbrev pub writes_of_small : Scalar → List (List ℕ)
-writes_of_small (Integer number) = writes_of_integer number
-writes_of_small (String text) = with_zeros 8 text ∷ []
-writes_of_small (Data bytes) = with_zeros 8 bytes ∷ []
-writes_of_small scalar = writes_of_scalar scalar
-
--- equal small scalars write the same to a hasher
-pub equal_small_write_same : (a b : Scalar) → scalar_eq a b ≡ true
-    → writes_of_small a ≡ writes_of_small b
-equal_small_write_same a b h = ap writes_of_small (scalar_is a b h)
 
 -- equal long scalars write the same to a hasher
 pub equal_long_write_same : (a b : Scalar) → scalar_eq a b ≡ true

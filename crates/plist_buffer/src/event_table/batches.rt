@@ -8,8 +8,8 @@ ghost use Rattle.plist_buffer.specs.StoredScalars.{event_of_small, events_of_sma
 
 use super::EventTable;
 use crate::entries::{EventEntry, ScalarNumber};
-use crate::small_scalar::SmallScalar;
 use crate::waiting::BATCH_SIZE;
+use plist_base::PackedScalar;
 use std::alloc::AllocError;
 
 impl<'e> EventTable<'e> {
@@ -18,7 +18,7 @@ impl<'e> EventTable<'e> {
 
     // Returns the index of a scalar among the small ones, or `None` if no equal one is stored.
     #[inline(always)]
-    fn find_small(&self, scalar: &SmallScalar) -> Option<usize>
+    fn find_small(&self, scalar: &PackedScalar) -> Option<usize>
         ensures { IfSome result (λ index. scalar_numbered (lists_in self.now)
             (ScalarNumber.Small index) ≡ Some (event_of_small scalar.now)) }
     {
@@ -29,7 +29,7 @@ impl<'e> EventTable<'e> {
     // for those that aren't stored. The loop does nothing else, so that the look-ups wait for
     // memory together.
     #[inline(always)]
-    fn find_each(&self, scalars: &[SmallScalar]) -> [Option<usize>; BATCH_SIZE]
+    fn find_each(&self, scalars: &[PackedScalar]) -> [Option<usize>; BATCH_SIZE]
         requires { length scalars.now ≤ BATCH_SIZE }
         ensures { AreFound (lists_in self.now) scalars.now result }
     {
@@ -56,7 +56,7 @@ impl<'e> EventTable<'e> {
 
     // Appends a small scalar, given its index, or `None` if none was found.
     #[inline(always)]
-    fn push_found(&mut self, scalar: SmallScalar, found: Option<usize>) -> Result<(), AllocError>
+    fn push_found(&mut self, scalar: PackedScalar, found: Option<usize>) -> Result<(), AllocError>
         requires { IfSome found (λ index. scalar_numbered (lists_in self.old)
             (ScalarNumber.Small index) ≡ Some (event_of_small scalar)) }
         ensures events { OnOk result (GrowsBy self.old (event_of_small scalar) self.new) }
@@ -72,7 +72,7 @@ impl<'e> EventTable<'e> {
     // Looks up at most `BATCH_SIZE` small scalars, and then appends them. Returns the number of
     // those that were appended, which is less than all only if an allocation failed.
     #[inline(never)]
-    pub(crate) fn append_small(&mut self, scalars: &[SmallScalar]) -> usize
+    pub(crate) fn append_small(&mut self, scalars: &[PackedScalar]) -> usize
         requires { length scalars.now ≤ BATCH_SIZE }
         ensures within { result ≤ length scalars.now }
         ensures events { plain_events self.new

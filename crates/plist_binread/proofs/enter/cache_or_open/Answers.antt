@@ -1,23 +1,44 @@
-use Rattle.std.proofs.Common.{arith, ap, sym, ◌∙◌}
+use Rattle.std.proofs.Common.{◌<◌, get_or, arith, ap, rules, sym, ◌∙◌}
 use Rattle.std.proofs.lemmas.Bool.{false≢true}
 use Rattle.plist_decode.specs.Decoding.{scalar_in}
-use Rattle.plist_decode.specs.Packed.{content_bytes, unmarked, unpacked}
+use Rattle.plist_base.specs.Packing.{IsPacked, content_bytes, unpacked}
+use Rattle.plist_decode.specs.Packed.{is_marked, unmarked}
 use Rattle.plist_binread.specs.Remaining.{scalar_at}
 use Rattle.plist_binread.proofs.WalkSteps.{yields_scalar, steps_positive}
-use Rattle.plist_binread.proofs.OpenObjects.{not_open, cached_count-more}
+use Rattle.plist_binread.proofs.OpenObjects.{IsOpen-kept, not_open, cached_count-more}
 use Rattle.plist_binread.proofs.WalkInvariant.{as_many, known_cached}
 use Rattle.plist_binread.proofs.ObjectEntry.{long_opens}
-use Rattle.plist_binread.proofs.Tags.{kind_of_tag-some}
+use Rattle.plist_binread.proofs.Tags.{cached_closed, cached_packed, packed_cached}
 use Rattle.plist_binread.proofs.ObjectEvents.{named-date, named-scalar}
 use Rattle.plist_binread.proofs.enter.cache_or_open.Goals as goal
+use Rattle.plist_binread.proofs.enter.cache_or_open.Goals.{After-cache}
+
+-- the object is cached
+here : (c : After-cache) → 0 < unmarked (get_or c.cache.new.tags.items c.args.number 0)
+here c = rw c.cache.ensures.tag (packed_cached _ _ (rw c.in-Small.is at c.requires.fits))
+
+pub invariant_of-walk : goal.invariant_of-walk
+invariant_of-walk c =
+    let walk = c.args.walk.now in
+    let fits : IsPacked c.in-Small.tag c.in-Small.content = rw c.in-Small.is at c.requires.fits in
+    record {
+      same = search rules;
+      path = IsOpen-kept c.args.number walk.tags.items _ _ walk.path c.cache.ensures.tags
+          (ap is_marked c.cache.ensures.tag
+          ∙ cached_closed c.in-Small.tag (packed_cached c.in-Small.tag _ fits)
+          ∙ sym (ap is_marked c.requires.new));
+      packed = rw c.cache.ensures.contents (cached_packed c.args.number walk.tags.items _
+          walk.contents.items c.in-Small.tag c.in-Small.content (rw walk.same c.requires.below)
+          walk.packed c.cache.ensures.tags c.cache.ensures.tag fits);
+    }
 
 pub returns-in-Small-clause-counted : goal.returns-in-Small-clause-counted
 returns-in-Small-clause-counted c =
-    rw c.in-Small.is (cached_count-more _ _ _ _ c.requires.below (ap unmarked c.requires.new)
-    c.cache.ensures.tags c.cache.ensures.tag)
+    rw c.in-Small.is (cached_count-more _ _ _ c.requires.below (ap unmarked c.requires.new)
+    c.cache.ensures.tags (here (goal.at.returns-in-Small-clause-counted c).After-cache))
 
 pub returns-in-Small-clause-cached : goal.returns-in-Small-clause-cached
-returns-in-Small-clause-cached c = λ _. kind_of_tag-some _ _ c.cache.ensures.tag
+returns-in-Small-clause-cached c = λ _. here (goal.at.returns-in-Small-clause-cached c).After-cache
 
 pub returns-in-Small-clause-falls : goal.returns-in-Small-clause-falls
 returns-in-Small-clause-falls c = λ _. omega (arith, steps_positive, c.cache.ensures.tags.size)
@@ -28,10 +49,10 @@ returns-in-Small-clause-yields c = λ _ bytes bounds entry k is found.
       (λ at event _ named. yields_scalar _ _ (as_many bytes bounds _ _ _ k) _ at _ entry
           c.args.walk.now.path c.requires.below is
           (not_open c.args.walk.now.path c.requires.below c.requires.new) event
-          (named-scalar entry.object (unpacked c.in-Small.kind c.in-Small.content) event d.0 named)),
-      rw c.cache.ensures.contents (known_cached bytes bounds _ _ _ k _ c.in-Small.kind
+          (named-scalar entry.object (unpacked c.in-Small.tag c.in-Small.content) event d.0 named)),
+      rw c.cache.ensures.contents (known_cached bytes bounds _ _ _ k _ c.in-Small.tag
           c.in-Small.content _ c.requires.below c.args.walk.now.same c.cache.ensures.tags
-          c.cache.ensures.tag (ap scalar_at is ∙ ap scalar_in d.0)),
+          c.cache.ensures.tag (packed_cached _ _ d.1) (ap scalar_at is ∙ ap scalar_in d.0)),
     )
 
 pub returns-in-Date-clause-falls : goal.returns-in-Date-clause-falls

@@ -1,4 +1,4 @@
-use Rattle.std.proofs.Common.{◌≡◌, ◌<◌, ℕ, true, arith, get_or, List, Ok, Option, IfSome, ap, refl, rules, subst, sym, ◌∙◌}
+use Rattle.std.proofs.Common.{◌≡◌, ◌<◌, ℕ, true, arith, get_or, List, Ok, Option, IfSome, refl, rules, subst, sym, ◌∙◌}
 use Rattle.plist_base.specs.Events.{EndCollection, ScalarEvent}
 use Rattle.plist_decode.proofs.Decoding.{seen_decodes, seen_fits}
 use Rattle.plist_binread.proofs.ObjectEvents.{borrowed_sets, fits_walk, long_sets}
@@ -15,34 +15,38 @@ use Rattle.plist_decode.specs.declared.decoded.Decoded.{Decoded}
 use Rattle.plist_decode.specs.declared.head.Bounds.{Bounds}
 use Rattle.plist_decode.specs.declared.step_fault.FaultDetails.{FaultDetails}
 use Rattle.plist_decode.specs.declared.decoded.Decoded.TheVariants as decoded
-use Rattle.plist_decode.specs.Packed.{is_small_event, scalar_event, unmarked, unpacked}
+use Rattle.plist_base.specs.Packing.{unpacked}
+use Rattle.plist_binread.specs.Handovers.{PassesOn}
+use Rattle.plist_decode.specs.Packed.{is_small_event, unmarked}
 use Rattle.plist_decode.specs.StepFaults.{error_of, result_with}
 use Rattle.plist_decode.specs.declared.step_fault.StepFault.TheVariants.{Memory}
 use Rattle.plist_binread.proofs.enter.enter.Goals as goal
 use Rattle.plist_binread.proofs.enter.enter.Goals.{After-cache_or_open, In-Long, in-Some+in-Long+else-lies_in, in-Some+in_default, in-None+in_ok-decoded-in-None}
 
-pub hand_small-requires : goal.hand_small-requires
-hand_small-requires g c = (rw c.in-Small.is at c.in_ok-kind.ensures.found).2
+pub from_parts-requires : goal.from_parts-requires
+from_parts-requires g c = (rw c.in-Small.is at c.in_ok-tag.ensures.found).3
 
 pub returns-in-Small-clause-falls : goal.returns-in-Small-clause-falls
 returns-in-Small-clause-falls g c = omega (arith, steps_positive)
 
 pub returns-in-Small-clause-handed : goal.returns-in-Small-clause-handed
 returns-in-Small-clause-handed g c =
-    let found = rw c.in-Small.is at c.in_ok-kind.ensures.found in
-    let event = ScalarEvent (unpacked c.in-Small.kind c.in-Small.content) in
+    let found = rw c.in-Small.is at c.in_ok-tag.ensures.found in
+    let event = ScalarEvent (unpacked c.in-Small.tag c.in-Small.content) in
     let caches : is_small_event event ≡ true
     → 0 < unmarked (get_or c.args.walk.now.tags.items c.args.reference.number 0) = λ _. found.0 in
     record {
       event = event;
       is = (
         known_unpacked _ _ c.args.walk.now c.args.reference.number c.requires.known
-            c.in_ok-kind.ensures.below c.args.reference.at event c.in_ok-kind.ensures.new found.0
-            (ap scalar_event found.1),
+            c.in_ok-tag.ensures.below c.args.reference.at c.in-Small.tag c.in-Small.content
+            c.in_ok-tag.ensures.new found,
         always_known _ _ caches,
       );
-      taken = passed_on g.V.EventVisitor.step c.new-relay.result c.hand_small.new.visitor _ _ (Ok _) event
-          (search rules) (search rules) c.hand_small.ensures;
+      taken = passed_on g.V.EventVisitor.step c.new-relay.result c.packed.new.self _ _ (Ok _) event
+          (search rules) (search rules)
+          (subst (λ scalar. PassesOn g.V.EventVisitor.step c.new-relay.result (ScalarEvent scalar)
+          c.packed.result c.packed.new.self) c.from_parts.ensures c.packed.ensures);
     }
 
 pub returns-in_err-decoded-in-None-clause-handed : goal.returns-in_err-decoded-in-None-clause-handed
@@ -51,8 +55,8 @@ returns-in_err-decoded-in-None-clause-handed g c =
       event = EndCollection;
       is = (
         known_refused _ _ c.args.walk.now c.args.reference.number c.requires.known
-            c.in_ok-kind.ensures.below c.args.reference.at c.in-At.place _ c.in_ok-kind.ensures.new
-            (rw c.in-At.is at c.in_ok-kind.ensures.found) c.in_err-decoded-in-None.ensures.refused,
+            c.in_ok-tag.ensures.below c.args.reference.at c.in-At.place _ c.in_ok-tag.ensures.new
+            (rw c.in-At.is at c.in_ok-tag.ensures.found) c.in_err-decoded-in-None.ensures.refused,
         IfSome-all _ (λ _. tt),
       );
       taken = refl;
@@ -103,7 +107,7 @@ returns-then-lies_in-clause-handed g c =
     let answer = result_with c.hand_bytes.result details in
     let front = seen_front g at in
     let there = known_decoded _ bounds c.args.walk.now c.args.reference.number c.requires.known
-    c.in_ok-kind.ensures.below c.in-At.place long (rw c.in-At.is at c.in_ok-kind.ensures.found)
+    c.in_ok-tag.ensures.below c.in-At.place long (rw c.in-At.is at c.in_ok-tag.ensures.found)
     (subst (DecodesAt (g.S.Source.known c.args.source.now) bounds c.in-At.place) c.in-Long.is
     (seen_decodes _ bounds c.in-At.place _ c.decode_front-decoded.result front
     c.decode_front-decoded.ensures.decoded)) in
@@ -114,12 +118,12 @@ returns-then-lies_in-clause-handed g c =
       event = h.event;
       is = (
         known_set _ bounds c.args.walk.now c.args.reference.number c.requires.known
-            c.in_ok-kind.ensures.below c.args.reference.at c.in-At.place long c.args.walk.now _ answer
-            h.event refl c.in_ok-kind.ensures.new there
+            c.in_ok-tag.ensures.below c.args.reference.at c.in-At.place long c.args.walk.now _ answer
+            h.event refl c.in_ok-tag.ensures.new there
             (long_opens c.args.reference.number c.in-Long.start c.in-Long.count c.in-Long.kind
-            c.args.walk.now c.in_ok-kind.ensures.below (search rules)) sets (always_ok _ answer refl),
+            c.args.walk.now c.in_ok-tag.ensures.below (search rules)) sets (always_ok _ answer refl),
         known_cached _ bounds c.args.walk.now c.args.reference.number c.requires.known
-            c.in_ok-kind.ensures.below c.in-At.place long _ answer h.event c.args.walk.now.tags.items
+            c.in_ok-tag.ensures.below c.in-At.place long _ answer h.event c.args.walk.now.tags.items
             refl there sets (λ no. absurd (cc)),
       );
       taken = h.taken;
@@ -196,14 +200,14 @@ there : (g : _) (c : After-cache_or_open g)
     → IfSome (g.S.Source.known c.args.source.now) (λ bytes. IsDecodedAt bytes c.args.decoder.now.bounds
     c.args.reference.number c.in-At.place c.match-buffered_front.decoded)
 there g c =
-    known_decoded _ _ c.args.walk.now _ c.requires.known c.in_ok-kind.ensures.below _ _
-    (rw c.in-At.is at c.in_ok-kind.ensures.found) (fetched g c).decodes
+    known_decoded _ _ c.args.walk.now _ c.requires.known c.in_ok-tag.ensures.below _ _
+    (rw c.in-At.is at c.in_ok-tag.ensures.found) (fetched g c).decodes
 
 pub returns-then-cache_or_open-clause-kept : goal.returns-then-cache_or_open-clause-kept
 returns-then-cache_or_open-clause-kept g c = record {
   size = search rules;
   known_walk = known_opens _ _ c.args.walk.now c.args.reference.number c.requires.known
-      c.in_ok-kind.ensures.below c.in-At.place _ c.cache_or_open.new.walk
+      c.in_ok-tag.ensures.below c.in-At.place _ c.cache_or_open.new.walk
       (there g (goal.at.returns-then-cache_or_open-clause-kept g c).After-cache_or_open)
       (c.cache_or_open.ensures.yields c.if-cache_or_open.true);
   bounds = search rules;
@@ -218,9 +222,9 @@ returns-clause-handed g c =
       event = EndCollection;
       is = (
         known_refused _ _ c.args.walk.now c.args.reference.number c.requires.known
-            c.in_ok-kind.ensures.below c.args.reference.at c.in-At.place
-            (error_of Memory c.match-buffered_front.decoder.details) c.in_ok-kind.ensures.new
-            (rw c.in-At.is at c.in_ok-kind.ensures.found)
+            c.in_ok-tag.ensures.below c.args.reference.at c.in-At.place
+            (error_of Memory c.match-buffered_front.decoder.details) c.in_ok-tag.ensures.new
+            (rw c.in-At.is at c.in_ok-tag.ensures.found)
             (known_full _ c.args.decoder.now.bounds c.in-At.place c.match-buffered_front.decoded
             (error_of Memory c.match-buffered_front.decoder.details) refl
             (c.cache_or_open.ensures.wanted c.if-cache_or_open.false) f.decodes),
@@ -237,14 +241,14 @@ returns-then-cache_or_open-clause-handed g c =
     record {
       event = h.event;
       is = (
-        known_set _ _ c.args.walk.now c.args.reference.number c.requires.known c.in_ok-kind.ensures.below
+        known_set _ _ c.args.walk.now c.args.reference.number c.requires.known c.in_ok-tag.ensures.below
             c.args.reference.at c.in-At.place _ c.cache_or_open.new.walk _
             (result_with c.hand_decoded.result c.hand_decoded.new.decoder.details) h.event
-            f.unchanged c.in_ok-kind.ensures.new (there g at)
+            f.unchanged c.in_ok-tag.ensures.new (there g at)
             (c.cache_or_open.ensures.yields c.if-cache_or_open.true) (rw f.same at h.is)
             (on_answer _ c.hand_decoded.result c.hand_decoded.new.decoder.details c.hand_decoded.ensures.found),
         known_cached _ _ c.args.walk.now c.args.reference.number c.requires.known
-            c.in_ok-kind.ensures.below c.in-At.place _ _
+            c.in_ok-tag.ensures.below c.in-At.place _ _
             (result_with c.hand_decoded.result c.hand_decoded.new.decoder.details) h.event
             c.cache_or_open.new.walk.tags.items f.unchanged (there g at) (rw f.same at h.is)
             c.cache_or_open.ensures.cached,

@@ -19,7 +19,7 @@ returns-clause-found c =
     let below : c.args.number < length c.args.walk.now.tags.items = omega arith in
     let tag = get_or_read _ _ _ below c.index-tag.ensures 0 in
     let content = get_or_read c.args.walk.now.contents.items _ _ (rw c.args.walk.now.same below) c.index-content.ensures 0 in
-    found_small _ _ c.args.number _ _ c.of_tag.result below c.args.walk.now.packed tag content c.of_tag.ensures
+    found_small _ _ c.args.number _ _ below c.args.walk.now.packed tag content (omega arith)
     (sym c.if-is_open.ensures)
 
 pub returns-then-is_open-clause-refused : goal.returns-then-is_open-clause-refused

@@ -1,5 +1,6 @@
 use Rattle.plist.specs.Collecting.{built_tree}
-use Rattle.plist.proofs.RemainingItems.{binary_coming, binary-shows, of-binary}
+use Rattle.plist.proofs.RemainingItems.{binary-shows, of-binary}
+use Rattle.plist_binread.specs.BinaryReader.{file_items}
 use Rattle.plist_callers.proofs.lemmas.value_of_binary.Goals as goal
 
 pub returns : goal.returns
@@ -8,6 +9,6 @@ returns g c =
     record {
       value = of-binary g.R.Source.known c.args.source iter c.new.result
           (built_tree c.from_events.result) is c.new.ensures.source c.new.ensures.items
-          (seen (binary_coming g.R.Source.known)
+          (seen (file_items g.R.Source.known)
           (λ old item new gives. binary-shows old new item gives));
     }

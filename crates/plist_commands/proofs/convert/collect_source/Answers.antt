@@ -2,10 +2,11 @@ use Rattle.std.proofs.Common.{ap, subst, true}
 use Rattle.std.specs.Prelude.{is_some}
 use Rattle.plist_base.specs.Visits.{YieldsPlain}
 use Rattle.plist_reader.specs.Reader.{Gives, reader_items}
+use Rattle.plist_reader.proofs.ReaderItems.{reader_comes}
 use Rattle.plist_commands.specs.CollectorSteps.{collected}
 use Rattle.plist_commands.specs.Converting.{CollectsItems, failures_in}
 use Rattle.plist_commands.proofs.CollectorRuns.{Concludes, concludes_once, concludes_twice}
-use Rattle.plist_commands.proofs.ReaderItems.{IsOpen, reader_comes, reader_counts}
+use Rattle.plist_commands.proofs.ReaderItems.{IsOpen, reader_counts}
 use Rattle.plist_commands.proofs.convert.collect_source.Goals as goal
 use Rattle.plist_commands.proofs.convert.collect_source.Goals.{After-answer, After-answer-2}
 
@@ -20,7 +21,7 @@ after_first g c =
     (failures_in g.S.Source.failures) IsOpen (reader_counts g.S.Source.known g.S.Source.failures)
     c.new-reader.result c.visit-first.new.self (record c.args.collector.now { pauses = true })
     c.visit-first.new.visitor c.visit-first.result c.answer.result
-    (ap is_some c.new-reader.ensures.source) c.requires.empty c.visit-first.ensures
+    (ap is_some c.new-reader.ensures.source) c.requires.empty c.visit-first.ensures.events
     (rw c.if-not-has_paused.true at c.has_paused.ensures) c.answer.ensures.answer
 
 -- if the collector paused and the visit was continued, the result is as `Concludes` says
@@ -36,8 +37,8 @@ after_others g c =
     (record c.args.collector.now { pauses = true }) c.visit-first.new.visitor
     c.expect_scalars.new.self c.visit-others.new.visitor c.visit-first.result c.visit-others.result
     c.answer-2.result (ap is_some c.new-reader.ensures.source) c.requires.empty
-    c.visit-first.ensures (rw c.if-not-has_paused.false at c.has_paused.ensures) c.expect_scalars.ensures.events
-    c.expect_scalars.ensures.whole c.expect_scalars.ensures.pauses c.visit-others.ensures
+    c.visit-first.ensures.events (rw c.if-not-has_paused.false at c.has_paused.ensures) c.expect_scalars.ensures.events
+    c.expect_scalars.ensures.whole c.expect_scalars.ensures.pauses c.visit-others.ensures.events
     c.answer-2.ensures.answer
 
 pub returns-then-not-has_paused : goal.returns-then-not-has_paused

@@ -1,7 +1,7 @@
-use Rattle.std.proofs.Common.{refl, arith, ◌≤◌, length}
+use Rattle.std.proofs.Common.{refl, arith, rules, ◌≡◌, ◌*◌, ◌≤◌, length}
 use Rattle.plist_decode.specs.declared.decoded.ContentKind.TheVariants.{Data as KindData}
 use Rattle.plist_decode.proofs.Contents.{large_content}
-use Rattle.plist_decode.proofs.Decoding.{content_enough, long_decoded, small_data}
+use Rattle.plist_decode.proofs.Decoding.{content_enough, few_bytes, long_decoded, means_small}
 use Rattle.plist_decode.proofs.counted_content.decode_data.Goals as goal
 
 pub returns-then-count-gt8 : goal.returns-then-count-gt8
@@ -18,6 +18,7 @@ returns c = λ width first more whole.
     content_enough (c.in-Some.count) c.args.rest.to_trailer _ _ c.args.rest.shown
     (omega (arith, c.in-Some.ensures.within)) c.in-Some.ensures.short
     c.in-Some.ensures.near (omega arith) in
-    small_data c.args.low c.in-Some.count c.content_from.result first c.args.rest.bytes.now
-    c.in-Some.following.now _ more found.0 seen (omega arith) refl c.content_from.ensures
-    width
+    let one : c.in-Some.count ≡ c.in-Some.count * 1 = omega arith in
+    few_bytes KindData c.args.low c.in-Some.count c.in-Some.count first c.args.rest.bytes.now
+    c.in-Some.following.now _ more c.small.result found.0 one seen refl
+    (means_small c.small.result (search rules) refl c.small.ensures) width

@@ -1,11 +1,11 @@
-use Rattle.std.proofs.Common.{◌∙◌, ap, subst, sym}
-use Rattle.plist_base.specs.Object.{Object, Scalar}
+use Rattle.std.proofs.Common.{◌≡◌, rules}
+use Rattle.plist_base.specs.PackedScalars.{scalar_of_packed}
 use Rattle.plist_base.specs.Trees.{String}
-use Rattle.plist_decode.specs.Decoded.{IsDecodedAs}
+use Rattle.plist_base.specs.Utf16Strings.{string_of_utf16}
+use Rattle.plist_decode.proofs.Decoding.{means_small}
 use Rattle.plist_decode.proofs.counted_content.short_wide_text.Goals as goal
 
 pub returns : goal.returns
-returns c = λ width all.
-    subst (λ (object : Object). IsDecodedAs width all object c.small_text.result)
-    (ap (λ text. Scalar (String text)) c.write_utf8.ensures ∙ sym c.in-Some.ensures.string)
-    (c.small_text.ensures width all)
+returns c =
+    let is : scalar_of_packed c.unwrap.result ≡ String (string_of_utf16 c.in-Some.text) = search rules in
+    means_small c.small.result is c.in-Some.ensures.string c.small.ensures

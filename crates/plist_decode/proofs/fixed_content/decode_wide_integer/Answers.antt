@@ -1,7 +1,8 @@
-use Rattle.std.proofs.Common.{◌≡◌, ◌<◌, ◌++◌, pos, refl, ◌∙◌, arith}
+use Rattle.std.proofs.Common.{◌∷◌, ◌≡◌, ◌<◌, ◌++◌, pos, ◌∙◌, arith}
 use Rattle.plist_base.specs.Trees.{Integer}
 use Rattle.plist_base.specs.Object.{Scalar, wide_integer, meaning_of_front}
 use Rattle.plist_decode.proofs.Contents.{wide_front, wide_low, wide_high}
+use Rattle.plist_decode.proofs.Decoding.{means_small}
 use Rattle.plist_decode.proofs.fixed_content.decode_wide_integer.Goals as goal
 
 pub returns-then-high-ne0 : goal.returns-then-high-ne0
@@ -22,4 +23,5 @@ returns c = λ width first more whole.
       c.if-high-ne0.false,
     )
     (wide_low c.number_from-low.result (omega arith)) in
-    (is, refl)
+    means_small c.small.result c.of_unsigned.ensures is c.small.ensures width
+    (first ∷ (c.args.rest.bytes.now ++ more))

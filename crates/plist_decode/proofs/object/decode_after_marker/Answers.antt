@@ -1,13 +1,15 @@
-use Rattle.std.proofs.Common.{refl}
+use Rattle.std.proofs.Common.{◌∷◌, ◌++◌, refl}
 use Rattle.plist_base.proofs.Layouts.{layout-uid}
+use Rattle.plist_decode.proofs.Decoding.{means_small}
 use Rattle.plist_decode.proofs.Markers.{object_by_half, object_is_boolean}
 use Rattle.plist_decode.proofs.object.decode_after_marker.Goals as goal
 
 pub returns-in-Boolean : goal.returns-in-Boolean
-returns-in-Boolean c = λ first more whole. (
-  object_is_boolean c.args.width c.args.marker c.in-Boolean.value _ c.in-Boolean.ensures.byte,
-  refl,
-)
+returns-in-Boolean c = λ first more whole.
+    means_small c.small.result c.of_boolean.ensures
+    (object_is_boolean c.args.width c.args.marker c.in-Boolean.value (c.args.rest.bytes.now ++ more)
+    c.in-Boolean.ensures.byte) c.small.ensures c.args.width
+    (first ∷ (c.args.rest.bytes.now ++ more))
 
 pub returns-in-Integer1 : goal.returns-in-Integer1
 returns-in-Integer1 c = rw (← c.in-Integer1.ensures.byte) (c.decode_unsigned.ensures _)

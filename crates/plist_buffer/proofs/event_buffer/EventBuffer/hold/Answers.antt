@@ -1,32 +1,17 @@
-use Rattle.std.proofs.Common.{subst, arith, ap, length}
+use Rattle.std.proofs.Common.{ap, subst, sym, ◌∙◌}
 use Rattle.std.specs.Prelude.{OnOk}
-use Rattle.plist_base.specs.Events.{event_of}
-use Rattle.plist_buffer.specs.EventBuffers.{BuffersNext}
-use Rattle.plist_buffer.proofs.BufferedEvents.{after_appending}
+use Rattle.plist_buffer.specs.EventBuffers.{BuffersNext, CanTake}
+use Rattle.plist_buffer.specs.inner.Expected.{change_on}
 use Rattle.plist_buffer.proofs.event_buffer.EventBuffer.hold.Goals as goal
 
-pub invariant_of-self-2 : goal.invariant_of-self-2
-invariant_of-self-2 c =
-    let settled = c.append_if_any.ensures in
-    let next = after_appending c.args.self.now c.append_if_any.new.self settled.events settled.expects
-    (event_of c.args.event) c.in_ok-append_if_any.ensures.settled c.requires.still
-    c.requires.accepted c.in_ok-push_copy.ensures.events
-    c.requires.change c.next_expected-self.ensures in
-    record {
-      wanted = next.expects;
-      items = λ more. absurd (omega (arith, more, ap length c.in_ok-append_if_any.ensures.settled));
-    }
-
-pub returns-clause-taken : goal.returns-clause-taken
-returns-clause-taken c =
-    let settled = c.append_if_any.ensures in
-    let next = after_appending c.args.self.now c.append_if_any.new.self settled.events settled.expects
-    (event_of c.args.event) c.in_ok-append_if_any.ensures.settled c.requires.still
-    c.requires.accepted c.in_ok-push_copy.ensures.events
-    c.requires.change c.next_expected-self.ensures in
-    (next.more, next.whole)
+pub hold_scalar-requires : goal.hold_scalar-requires
+hold_scalar-requires c = record {
+  still = c.requires.still;
+  accepted = subst (CanTake c.args.self.now) c.in-Some.ensures.some c.requires.accepted;
+  change = c.requires.change ∙ ap (change_on c.args.self.now.expects) c.in-Some.ensures.some;
+}
 
 pub returns-in-Some-clause-taken : goal.returns-in-Some-clause-taken
 returns-in-Some-clause-taken c =
-    subst (λ event. OnOk c.add_waiting.result (BuffersNext c.args.self.now event c.add_waiting.new.self))
-    c.in-Some.ensures.scalar c.add_waiting.ensures.taken
+    subst (λ event. OnOk c.hold_scalar.result (BuffersNext c.args.self.now event c.hold_scalar.new.self))
+    (sym c.in-Some.ensures.some) c.hold_scalar.ensures.taken

@@ -1,7 +1,6 @@
 use Rattle.std.proofs.Common.{arith, ap, length}
 use Rattle.plist_base.specs.Events.{ScalarEvent}
-use Rattle.plist_base.specs.Trees.{String}
-use Rattle.plist_buffer.specs.LongStrings.{string_of_long}
+use Rattle.plist_buffer.specs.StoredScalars.{scalar_of_long_ref}
 use Rattle.plist_buffer.proofs.BufferedEvents.{after_appending}
 use Rattle.plist_buffer.proofs.event_buffer.EventBuffer.hold_long.Goals as goal
 
@@ -9,7 +8,7 @@ pub invariant_of-self-2 : goal.invariant_of-self-2
 invariant_of-self-2 c =
     let settled = c.append_if_any.ensures in
     let next = after_appending c.args.self.now c.append_if_any.new.self settled.events settled.expects
-    (ScalarEvent (String (string_of_long c.args.text))) c.in_ok-append_if_any.ensures.settled c.requires.still
+    (ScalarEvent (scalar_of_long_ref c.args.scalar)) c.in_ok-append_if_any.ensures.settled c.requires.still
     c.requires.accepted c.in_ok-copy_long.ensures.events
     c.requires.change c.next_expected-self.ensures in
     record {
@@ -21,7 +20,7 @@ pub returns-clause-taken : goal.returns-clause-taken
 returns-clause-taken c =
     let settled = c.append_if_any.ensures in
     let next = after_appending c.args.self.now c.append_if_any.new.self settled.events settled.expects
-    (ScalarEvent (String (string_of_long c.args.text))) c.in_ok-append_if_any.ensures.settled c.requires.still
+    (ScalarEvent (scalar_of_long_ref c.args.scalar)) c.in_ok-append_if_any.ensures.settled c.requires.still
     c.requires.accepted c.in_ok-copy_long.ensures.events
     c.requires.change c.next_expected-self.ensures in
     (next.more, next.whole)

@@ -1,26 +1,23 @@
 use Rattle.std.proofs.Common.{◌∙◌}
 use Rattle.plist_base.specs.Events.{ScalarEvent}
-use Rattle.plist_base.specs.Trees.{String}
-use Rattle.plist_buffer.specs.LongStrings.{string_of_long}
+use Rattle.plist_buffer.specs.StoredScalars.{scalar_of_long_ref}
 use Rattle.plist_buffer.specs.EventBuffers.{CanTake}
 use Rattle.plist_buffer.proofs.Expectations.{can_take, is_accepted}
 use Rattle.plist_buffer.proofs.event_buffer.EventBuffer.try_push_long.Goals as goal
 use Rattle.plist_buffer.proofs.event_buffer.EventBuffer.try_push_long.Goals.{In_default}
 
--- the string can follow the buffered events
+-- the scalar can follow the buffered events
 can_follow : (c : In_default)
-    → CanTake c.args.self.now (ScalarEvent (String (string_of_long c.args.text)))
+    → CanTake c.args.self.now (ScalarEvent (scalar_of_long_ref c.args.scalar))
 can_follow c =
-    let text = string_of_long c.args.text in
-    can_take c.args.self.now (ScalarEvent (String text)) c.requires.still
-    (is_accepted _ (λ refused. c.in_default.not-Refused
-    (c.change_by_string-change.ensures text ∙ refused)))
+    can_take c.args.self.now (ScalarEvent (scalar_of_long_ref c.args.scalar)) c.requires.still
+    (is_accepted _ (λ refused. c.in_default.not-Refused (c.requires.change ∙ refused)))
 
 pub hold_long-requires : goal.hold_long-requires
 hold_long-requires c = record {
   still = c.requires.still;
   accepted = can_follow (goal.at.hold_long-requires c).In_default;
-  change = c.change_by_string-change.ensures (string_of_long c.args.text);
+  change = c.requires.change;
 }
 
 pub returns-in-Ok : goal.returns-in-Ok

@@ -6,7 +6,7 @@ use Rattle.plist_base.specs.Events.{PlainEvent}
 use Rattle.plist_buffer.specs.EventTable.{plain_events}
 use Rattle.plist_buffer.specs.StoredScalars.{event_of_small, events_of_small}
 use Rattle.plist_buffer.specs.declared.entries.ScalarNumber.TheVariants.{Small}
-use Rattle.plist_buffer.specs.declared.small_scalar.SmallScalar.{SmallScalar}
+use Rattle.plist_base.specs.declared.packed_scalar.PackedScalar.{PackedScalar}
 use Rattle.plist_buffer.proofs.event_table.EventTable.append_small.Goals as goal
 
 on_ok : {T E : Type 0} (r : Result T E) {P : Type 0} → false ≡ is_err r → OnOk r P → P
@@ -14,8 +14,8 @@ on_ok (Ok x) is h = h
 on_ok (Err e) is h = cc
 
 -- after the first i scalars, the next one was appended
-one_more : (before : List PlainEvent) {now after : List PlainEvent} (xs : List SmallScalar) (i : ℕ)
-    (x : SmallScalar) → i < length xs → x ≡ slice_index_or xs i x
+one_more : (before : List PlainEvent) {now after : List PlainEvent} (xs : List PackedScalar) (i : ℕ)
+    (x : PackedScalar) → i < length xs → x ≡ slice_index_or xs i x
     → now ≡ before ++ events_of_small (take i xs) → after ≡ now ++ event_of_small x ∷ []
     → after ≡ before ++ events_of_small (take (i + 1) xs)
 one_more before xs i x lt is so_far grown =

@@ -1,6 +1,0 @@
-use Rattle.std.proofs.lemmas.Str.{IsUtf8-had}
-use Rattle.plist_buffer.proofs.short.ShortText.as_str.Goals as goal
-
-pub from_utf8_unchecked-requires : goal.from_utf8_unchecked-requires
-from_utf8_unchecked-requires g c =
-    rw c.as_slice.ensures (IsUtf8-had _ c.args.self.now.utf8)

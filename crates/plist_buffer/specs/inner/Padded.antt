@@ -1,6 +1,0 @@
--- Bytes that are padded with zeros.
-use Rattle.std.specs.Prelude.{ℕ, ◌-◌, List, ◌++◌, length, replicate}
-
--- the bytes, followed by zeros up to n bytes
-abbrev pub with_zeros : (n : ℕ) → List ℕ → List ℕ
-with_zeros n bytes = bytes ++ replicate (n - length bytes) 0
