@@ -31,7 +31,7 @@ IsPackable (String text) = (length text ≤ 8) × (is_utf8 text ≡ true)
 IsPackable (Date bytes) = date_of_bytes bytes ≡ Some bytes
 IsPackable scalar = ⊤
 
--- a scalar can be stored in at most one way
+-- this fact has at most one proof
 pub packable_prop : (scalar : Scalar) → IsProp (IsPackable scalar)
 packable_prop (Boolean value) = hlevel props
 packable_prop (Data bytes) = hlevel props

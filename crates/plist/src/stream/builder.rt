@@ -57,7 +57,7 @@ impl Builder {
         }
     }
 
-    // Adds an event.
+    // Adds an event, or returns why it isn't added.
     pub(crate) fn add(&mut self, event: Event<'_>) -> Result<(), AddError>
         ensures step { IsBuildingStep self.old (event_of event.entry) (answer_of_adding result)
             self.new }
@@ -84,7 +84,7 @@ impl Builder {
         }
     }
 
-    // Adds an event.
+    // Adds an event, or returns the error that says why it isn't added.
     pub(crate) fn take(&mut self, event: Event<'_>) -> Result<(), Error>
         ensures step { IsBuildingStep self.old (event_of event.entry) (answer_of result) self.new }
         ensures added { OnOk result (AddsEvent self.old.unfinished (event_of event.entry)
