@@ -1,5 +1,5 @@
 -- The items that a source yields, one by one or in a visit.
-use Rattle.std.proofs.Common.{◌≡◌, ◌⊎◌, inl, inr, List, [], ◌∷◌, ◌++◌, Option, None, Some, IfSome, Result, Ok, Err, map, refl, ap, ◌∙◌}
+use Rattle.std.proofs.Common.{◌≡◌, ◌⊎◌, inl, inr, List, [], ◌∷◌, ◌++◌, Option, None, Some, IfSome, Result, Ok, Err, map, refl, ap, subst, ◌∙◌}
 use Rattle.std.proofs.lemmas.Option.{IfSome_then}
 use Rattle.std.specs.declared.ops.ControlFlow.TheVariants.{Continue}
 use Rattle.plist_base.specs.declared.error.Error.{Error}
@@ -61,6 +61,15 @@ module _ {I : Type 0} (yields : I → PlainItem → I → Type 0) (coming : I �
       let (more, after, next) = rw to at (comes left item new last) in (rest, more, is, next))
 
   module _ {V : Type 0} (step : V → PlainEvent → Flow → V → Type 0) where
+    -- the visitor took one more event, and wanted more after it
+    pub wants_then : (old last new : V) (events : List PlainEvent) (event : PlainEvent)
+        → WantsAll step old events last → step last event (Continue tt) new
+        → WantsAll step old (events ++ event ∷ []) new
+    wants_then old last new [] event is taken =
+        (new, subst (λ l. step l event (Continue tt) new) is taken, refl)
+    wants_then old last new (first ∷ events) event (next, one, others) taken =
+        (next, one, wants_then next last new events event others taken)
+
     taken_all : (old new : I × V) (events : List PlainEvent)
         → HandsOverAll yields step old events new → WantsAll step old.1 events new.1
     taken_all old new [] is = ap (λ (now : I × V). now.1) is

@@ -29,17 +29,22 @@ use std::ops::ControlFlow;
 /// }
 /// ```
 pub trait EventVisitor {
-    ghost use Rattle.std.specs.Prelude.{◌≡◌, ◌<◌, None, IfSome};
+    ghost use Rattle.std.specs.Prelude.{◌≡◌, ◌<◌, ℕ, None, IfSome};
     ghost use Rattle.plist_base.specs.ByteTests.{EachByte};
     ghost use Rattle.plist_base.specs.Events.{EndCollection, PlainEvent, ScalarEvent, StartArray, StartDictionary, event_of};
     ghost use Rattle.plist_base.specs.PackedScalars.{scalar_of_packed};
     ghost use Rattle.plist_base.specs.Trees.{String};
     ghost use Rattle.plist_base.specs.Utf16Strings.{string_of_utf16};
+    ghost use Rattle.plist_base.specs.Tokens.{NamesLast, TakesNamed};
     ghost use Rattle.plist_base.specs.Visits.{Flow};
 
     /// Relates the visitor before a call, the event that the call takes, its result, and the
     /// visitor after it.
     ghost step: { Self → PlainEvent → Flow → Self → Type 0 };
+
+    /// Relates the visitor to a token, and to the event that the token names. By default no token
+    /// names an event.
+    ghost names: { Self → ℕ → PlainEvent → Type 0 } = { λ _ _ _. ⊥ };
 
     /// Takes an event, and returns `Continue` if the next one is wanted.
     fn event(&mut self, event: Event<'_>) -> ControlFlow<()>
@@ -143,6 +148,19 @@ pub trait EventVisitor {
         }
     }
 
+    /// Takes a scalar that it has taken before, given the token that [`EventVisitor::token`] returned
+    /// then. Returns `None` and changes nothing if the scalar is to be handed over by another
+    /// method. This is always so if the token is 0.
+    #[inline(always)]
+    fn again(&mut self, token: u32) -> Option<ControlFlow<()>>
+        ensures unnamed { token ≡ 0 → result ≡ None }
+        ensures taken { TakesNamed step names self.old token result self.new }
+        ensures declined { result ≡ None → self.new ≡ self.old }
+    {
+        let _ = token;
+        None
+    }
+
     /// Takes a real.
     #[inline(always)]
     fn real(&mut self, bits: RealBits) -> ControlFlow<()>
@@ -169,6 +187,16 @@ pub trait EventVisitor {
         ensures declined { result ≡ None → self.new ≡ self.old }
     {
         None
+    }
+
+    /// Returns a token for the scalar that was just taken, or 0 if there is none. The token is valid
+    /// as long as the visitor takes events and returns `Continue` for each. A source that hands over
+    /// the same scalar many times spares both sides its content by [`EventVisitor::again`].
+    #[inline(always)]
+    fn token(&self) -> u32
+        ensures { NamesLast step names result self.now }
+    {
+        0
     }
 
     /// Takes the number of an object in a keyed archive.
