@@ -107,7 +107,7 @@ number_same : (n : ScalarNumber) → same_number n n ≡ true
 number_same (Small i) = eq-eqb i i refl
 number_same (Long i) = eq-eqb i i refl
 
-leaf_without_length : (e : PlainEvent) → is_leaf e ≡ true → without_length e ≡ e
+pub leaf_without_length : (e : PlainEvent) → is_leaf e ≡ true → without_length e ≡ e
 leaf_without_length e h = let f = leaf_is e h in rw f.1 refl
 
 -- more scalars change no event of the entries

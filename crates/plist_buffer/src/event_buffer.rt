@@ -18,7 +18,7 @@ use crate::event_table::EventTable;
 use crate::expects::{Expect, Transition};
 use crate::long_scalar::LongRef;
 use crate::waiting::{BATCH_SIZE, WaitingScalars};
-use plist_base::{Event, EventKind, PackedScalar, Utf16Str};
+use plist_base::{Event, EventKind, EventShape, PackedScalar, Utf16Str};
 use std::alloc::{AllocError, Global};
 use std::borrow::CowStr;
 
@@ -111,7 +111,7 @@ fn next_expected(
 }
 
 impl EventBuffer {
-    ghost use Rattle.std.specs.Prelude.{◌≡◌, ◌<◌, [], false, true, None, IfErr, IfSome, OnOk, OnErr};
+    ghost use Rattle.std.specs.Prelude.{◌≡◌, ◌⊎◌, ◌<◌, [], length, false, true, None, IfErr, IfSome, OnOk, OnErr};
     ghost use Rattle.plist_base.specs.Events.{ScalarEvent, event_of};
     ghost use Rattle.plist_base.specs.PackedScalars.{IsUnpackable};
     ghost use Rattle.plist_base.specs.Trees.{String};
@@ -119,6 +119,9 @@ impl EventBuffer {
     ghost use Rattle.plist_base.specs.ByteTests.{EachByte};
     ghost use Rattle.plist_buffer.specs.StoredScalars.{event_of_small, scalar_of_long_ref};
     ghost use Rattle.plist_buffer.specs.EventBuffers.{buffered_events, is_whole, misplaced_error, Accepts, BuffersNext, CanTake, RejectsEvent};
+    ghost use Rattle.plist_buffer.specs.EventTable.{event_at, plain_events, table_event};
+    ghost use Rattle.plist_buffer.specs.declared.expects.Transition.TheVariants.{Refused};
+    ghost use Rattle.plist_buffer.specs.inner.Entries.{is_leaf};
     ghost use Rattle.plist_buffer.specs.inner.Expected.{change_on};
 
     /// Creates a buffer without events. It allocates no memory.
@@ -300,6 +303,79 @@ impl EventBuffer {
         Ok(())
     }
 
+    // Returns how the scalar at an index of the table changes what is expected next, or `Refused` if
+    // the event there isn't a scalar. Only where a key is expected, the scalar is looked at.
+    #[inline(always)]
+    fn change_by_earlier(&self, index: usize) -> Transition
+        requires { index < length (plain_events self.now.held) }
+        ensures { result ≡ Refused
+            ⊎ (is_leaf (table_event self.now.held index) ≡ true)
+            × (result ≡ change_on self.now.expects (table_event self.now.held index)) }
+    {
+        if let EventShape::Scalar = self.held.kind_at(index) {
+            return match self.expects {
+                Some(Expect::OneValue) => Transition::Closed,
+                Some(Expect::Items) => Transition::Kept,
+                Some(Expect::Pairs) if self.held.is_string_at(index) => {
+                    Transition::Pushed(Expect::OneValue)
+                }
+                Some(Expect::Pairs) | None => Transition::Refused,
+            };
+        }
+        Transition::Refused
+    }
+
+    // Buffers the scalar at an index of the table once more, given how it changes what is expected
+    // next.
+    #[inline(always)]
+    fn hold_earlier(&mut self, index: usize, change: Transition) -> Result<(), AllocError>
+        requires still { is_whole self.old ≡ false }
+        requires within { index < length (plain_events self.old.held) }
+        requires leaf { is_leaf (table_event self.old.held index) ≡ true }
+        requires accepted { CanTake self.old (table_event self.old.held index) }
+        requires change { change ≡ change_on self.old.expects (table_event self.old.held index) }
+        ensures taken { OnOk result (BuffersNext self.old (table_event self.old.held index)
+            self.new) }
+        ensures unchanged { OnErr result (buffered_events self.new ≡ buffered_events self.old) }
+        ensures whole { OnErr result (is_whole self.new ≡ is_whole self.old) }
+    {
+        self.append_if_any()?;
+        self.held.repeat_at(index)?;
+        self.expects = next_expected(change, self.expects, &self.held);
+        Ok(())
+    }
+
+    /// Buffers the scalar of an earlier event once more, given the index of that event, if it can
+    /// follow the buffered events, which must not form a whole property list. Otherwise, and if the
+    /// earlier event isn't a scalar or still waits, returns `None` and changes nothing.
+    ///
+    /// # Errors
+    ///
+    /// `OutOfMemory` if an allocation fails. The buffered events are unchanged then.
+    #[inline(always)]
+    pub fn try_repeat(&mut self, index: usize) -> Option<Result<(), PushError>>
+        requires still { is_whole self.old ≡ false }
+        ensures scalar { IfSome result (λ _.
+            is_leaf (event_at (buffered_events self.old) index) ≡ true) }
+        ensures taken { IfSome result (λ answer. OnOk answer (Accepts self.old
+            (event_at (buffered_events self.old) index) self.new)) }
+        ensures refused { IfSome result (λ answer. IfErr answer (RejectsEvent self.old
+            (event_at (buffered_events self.old) index) self.new)) }
+        ensures declined { result ≡ None → self.new ≡ self.old }
+    {
+        if index >= self.held.len() {
+            return None;
+        }
+        let change = self.change_by_earlier(index);
+        if let Transition::Refused = change {
+            return None;
+        }
+        match self.hold_earlier(index, change) {
+            Ok(()) => Some(Ok(())),
+            Err(error) => Some(Err(PushError::from(error))),
+        }
+    }
+
     // Buffers a string or data of more than eight bytes if it can follow the buffered events, given
     // how it changes what is expected next. Otherwise returns `None` and changes nothing.
     #[inline(always)]
@@ -424,6 +500,14 @@ impl EventBuffer {
                 Ok(())
             }
         }
+    }
+
+    /// Returns the number of buffered events.
+    #[inline(always)]
+    pub fn len(&self) -> usize
+        ensures { result ≡ length (buffered_events self.now) }
+    {
+        self.held.len() + self.waiting.len()
     }
 
     /// Returns `true` if the events form a whole property list.

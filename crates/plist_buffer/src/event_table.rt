@@ -16,7 +16,7 @@ use crate::long_scalar::{Form, LongScalar};
 use crate::stored_scalar::ScalarRef;
 use crate::wide::is_ascii_text;
 use indexmap::IndexSet;
-use plist_base::{CompactNumbers, Error, Event, EventShape, PackedScalar};
+use plist_base::{CompactNumbers, Error, Event, EventShape, PackedKind, PackedScalar};
 use std::alloc::{AllocError, Global};
 use std::borrow::{CowSlice, CowStr};
 
@@ -69,8 +69,8 @@ fn bytes_of_text<'e>(text: CowStr<'e>) -> CowSlice<'e, u8>
 
 impl<'e> EventTable<'e> {
     ghost use Rattle.plist_buffer.specs.StoredScalars.{IsStored, event_of_long, event_of_small, scalar_of_ref};
-    ghost use Rattle.std.specs.Prelude.{[], None, Some, false, IfSome, ◌+◌};
-    ghost use Rattle.plist_base.specs.Trees.{Data as DataScalar, Integer as IntegerScalar, String as StringScalar};
+    ghost use Rattle.std.specs.Prelude.{[], ℕ, List, None, Some, false, IfSome, ◌+◌};
+    ghost use Rattle.plist_base.specs.Trees.{String as StringScalar};
     ghost use Rattle.plist_buffer.specs.EventTable.{plain_event, plain_events, scalars_of, lists_in, collection_number, count_collections, EndsCollection, GrowsBy, HasItem, IsScalarAt, LacksItem, table_event, entry_event};
     ghost use Rattle.plist_buffer.specs.inner.Columns.{scalar_named};
     ghost use Rattle.plist_buffer.specs.inner.Entries.{entry_at, event_numbered, is_start, scalar_numbered, IsUnclosed, KeepsScalars};
@@ -247,6 +247,20 @@ impl<'e> EventTable<'e> {
         }
     }
 
+    // Returns `true` if the event at an index is a string.
+    pub(crate) fn is_string_at(&self, index: usize) -> bool
+        requires { index < length (plain_events self.now) }
+        ensures { result ≡ true → (text : List ℕ)
+            × (table_event self.now index ≡ ScalarEvent (StringScalar text)) }
+    {
+        match self.scalar_at(index) {
+            Some(ScalarRef::Packed(scalar)) => matches!(scalar.kind(), PackedKind::String(_)),
+            Some(ScalarRef::AsciiString(_)) => true,
+            Some(ScalarRef::WideString(_)) => true,
+            Some(ScalarRef::Data(_)) | None => false,
+        }
+    }
+
     // Returns what is expected in the innermost open collection, or `None` if none is open.
     pub(crate) fn innermost_expect(&self) -> Option<Expect>
         ensures { result ≡ innermost (expected_inside (plain_events self.now)) }
@@ -305,17 +319,31 @@ impl<'e> EventTable<'e> {
         self.long.get_index_of(scalar)
     }
 
-    // Appends a long scalar that is already stored, given its index.
+    // Appends a scalar that is already stored, given its number.
     #[inline(always)]
-    fn repeat_long(&mut self, index: usize) -> Result<(), AllocError>
-        requires { is_leaf (event_numbered (lists_in self.old) (ScalarNumber.Long index)) ≡ true }
+    fn repeat(&mut self, number: ScalarNumber) -> Result<(), AllocError>
+        requires { is_leaf (event_numbered (lists_in self.old) number) ≡ true }
         ensures events { OnOk result (GrowsBy self.old
-            (event_numbered (lists_in self.old) (ScalarNumber.Long index)) self.new) }
+            (event_numbered (lists_in self.old) number) self.new) }
+        ensures scalars { lists_in self.new ≡ lists_in self.old }
         ensures unchanged { OnErr result (plain_events self.new ≡ plain_events self.old) }
     {
-        self.entries
-            .push(EventEntry::Scalar(ScalarNumber::Long(index)))?;
+        self.entries.push(EventEntry::Scalar(number))?;
         Ok(())
+    }
+
+    // Appends the scalar at an index once more.
+    #[inline(always)]
+    pub(crate) fn repeat_at(&mut self, index: usize) -> Result<(), AllocError>
+        requires within { index < length (plain_events self.old) }
+        requires leaf { is_leaf (table_event self.old index) ≡ true }
+        ensures events { OnOk result (GrowsBy self.old (table_event self.old index) self.new) }
+        ensures unchanged { OnErr result (plain_events self.new ≡ plain_events self.old) }
+    {
+        match self.entries.scalar(index) {
+            Some(number) => self.repeat(number),
+            None => unreachable!(),
+        }
     }
 
     // Appends a small scalar, and stores it unless an equal one is stored already. If the

@@ -52,6 +52,15 @@ impl WaitingScalars {
         self.count == 0
     }
 
+    /// Returns the number of scalars.
+    #[inline(always)]
+    pub fn len(&self) -> usize
+        ensures count { result ≡ length self.now }
+        ensures bound { result ≤ BATCH_SIZE }
+    {
+        self.count
+    }
+
     /// Returns `true` if [`BATCH_SIZE`] scalars wait.
     #[inline(always)]
     pub fn is_full(&self) -> bool

@@ -3,18 +3,18 @@
 //! In a large table a look-up mostly waits for memory, but the processor waits only once for
 //! look-ups that follow one another at once.
 
-ghost use Rattle.std.specs.Prelude.{◌≡◌, ◌++◌, ◌≤◌, true, length, take, Some, IfSome, OnOk, OnErr};
+ghost use Rattle.std.specs.Prelude.{◌≡◌, ◌++◌, ◌≤◌, length, take, Some, IfSome, OnOk, OnErr};
 ghost use Rattle.plist_buffer.specs.StoredScalars.{event_of_small, events_of_small};
 
 use super::EventTable;
-use crate::entries::{EventEntry, ScalarNumber};
+use crate::entries::ScalarNumber;
 use crate::waiting::BATCH_SIZE;
 use plist_base::PackedScalar;
 use std::alloc::AllocError;
 
 impl<'e> EventTable<'e> {
     ghost use Rattle.plist_buffer.specs.EventTable.{plain_events, lists_in, GrowsBy};
-    ghost use Rattle.plist_buffer.specs.inner.Entries.{event_numbered, is_leaf, scalar_numbered, AreFound, KeepsScalars};
+    ghost use Rattle.plist_buffer.specs.inner.Entries.{scalar_numbered, AreFound, KeepsScalars};
 
     // Returns the index of a scalar among the small ones, or `None` if no equal one is stored.
     #[inline(always)]
@@ -40,20 +40,6 @@ impl<'e> EventTable<'e> {
         found
     }
 
-    // Appends a small scalar that is already stored, given its index.
-    #[inline(always)]
-    fn repeat_small(&mut self, index: usize) -> Result<(), AllocError>
-        requires { is_leaf (event_numbered (lists_in self.old) (ScalarNumber.Small index)) ≡ true }
-        ensures events { OnOk result (GrowsBy self.old
-            (event_numbered (lists_in self.old) (ScalarNumber.Small index)) self.new) }
-        ensures scalars { lists_in self.new ≡ lists_in self.old }
-        ensures unchanged { OnErr result (plain_events self.new ≡ plain_events self.old) }
-    {
-        self.entries
-            .push(EventEntry::Scalar(ScalarNumber::Small(index)))?;
-        Ok(())
-    }
-
     // Appends a small scalar, given its index, or `None` if none was found.
     #[inline(always)]
     fn push_found(&mut self, scalar: PackedScalar, found: Option<usize>) -> Result<(), AllocError>
@@ -64,7 +50,7 @@ impl<'e> EventTable<'e> {
         ensures unchanged { OnErr result (plain_events self.new ≡ plain_events self.old) }
     {
         match found {
-            Some(index) => self.repeat_small(index),
+            Some(index) => self.repeat(ScalarNumber::Small(index)),
             None => self.push_small(scalar),
         }
     }

@@ -5,7 +5,7 @@ ghost use Rattle.plist_base.specs.Events.{ScalarEvent, event_of};
 ghost use Rattle.plist_base.specs.PackedScalars.{IsUnpackable};
 
 use super::EventTable;
-use crate::entries::EventEntry;
+use crate::entries::{EventEntry, ScalarNumber};
 use crate::long_scalar::{Form, LongRef, LongScalar};
 use crate::wide::is_ascii_text;
 use plist_base::Event;
@@ -26,7 +26,7 @@ impl EventTable<'static> {
         ensures unchanged { OnErr result (plain_events self.new ≡ plain_events self.old) }
     {
         if let Some(index) = self.find_long(&LongScalar::borrowed(scalar)) {
-            return self.repeat_long(index);
+            return self.repeat(ScalarNumber::Long(index));
         }
         self.push_long(LongScalar::copy_of(alloc, scalar)?)
     }

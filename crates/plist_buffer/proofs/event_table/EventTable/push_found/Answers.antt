@@ -6,8 +6,8 @@ use Rattle.plist_buffer.specs.inner.Entries.{is_leaf, scalar_numbered}
 use Rattle.plist_buffer.proofs.EntryEvents.{numbered_is}
 use Rattle.plist_buffer.proofs.event_table.EventTable.push_found.Goals as goal
 
-pub repeat_small-requires : goal.repeat_small-requires
-repeat_small-requires c =
+pub repeat-requires : goal.repeat-requires
+repeat-requires c =
     let scalars = lists_in c.args.self.now in
     ap is_leaf (numbered_is scalars (Small c.in-Some.index) _
     (subst (λ found. IfSome found (λ index. scalar_numbered scalars (Small index)
