@@ -1,5 +1,5 @@
 -- The items that a source yields, one by one or in a visit.
-use Rattle.std.proofs.Common.{◌≡◌, ◌⊎◌, inl, inr, List, [], ◌∷◌, ◌++◌, Option, None, Some, IfSome, Result, Ok, Err, map, refl, ap, subst, ◌∙◌}
+use Rattle.std.proofs.Common.{◌≡◌, ◌⊎◌, inl, inr, ℕ, List, [], ◌∷◌, ◌++◌, Option, None, Some, IfSome, Result, Ok, Err, map, refl, ap, subst, ◌∙◌}
 use Rattle.std.proofs.lemmas.Option.{IfSome_then}
 use Rattle.std.specs.declared.ops.ControlFlow.TheVariants.{Continue}
 use Rattle.plist_base.specs.declared.error.Error.{Error}
@@ -7,6 +7,7 @@ use Rattle.plist_base.specs.declared.event.Event.{Event}
 use Rattle.plist_base.specs.declared.visitor.Visited.{Visited}
 use Rattle.plist_base.specs.Events.{PlainEvent, Item, event_of}
 use Rattle.plist_base.specs.FirstItems.{GivesFirstIfKnown, StopsIf}
+use Rattle.plist_base.specs.Tokens.{HasNamed}
 use Rattle.plist_base.specs.VisitedItems.{NoneLeft, VisitsKnown, WantsAll, YieldsFirst}
 use Rattle.plist_base.specs.Visits.{Flow, HandsOverAll, PlainItem, TakesTurn, Visits, YieldsAll, last_turn, plain_item}
 use Rattle.plist_base.proofs.FirstItems.{first_weaker_if_known, plain_first}
@@ -33,6 +34,27 @@ pub plain_comes : (io memory : List Item → Type 0) (before after : Option (Lis
 plain_comes io memory before after item first =
     comes_first io memory before after (plain_item item)
     (plain_first (StopsIf io) (StopsIf memory) before after item first)
+
+module _ {V : Type 0} (step : V → PlainEvent → Flow → V → Type 0) where
+  -- the visitor took one more event, and wanted more after it
+  wants_then : (old last new : V) (events : List PlainEvent) (event : PlainEvent)
+      → WantsAll step old events last → step last event (Continue tt) new
+      → WantsAll step old (events ++ event ∷ []) new
+  wants_then old last new [] event is taken =
+      (new, subst (λ l. step l event (Continue tt) new) is taken, refl)
+  wants_then old last new (first ∷ events) event (next, one, others) taken =
+      (next, one, wants_then next last new events event others taken)
+
+  -- what a token named is still named after the visitor took one more event
+  pub named_then : (names : V → (token : ℕ) → PlainEvent → Type 0) (token : ℕ)
+      (event next : PlainEvent) (old new : V) → HasNamed step names token event old
+      → step old next (Continue tt) new → HasNamed step names token event new
+  named_then names token event next old new has taken = record {
+    past = has.past;
+    events = has.events ++ next ∷ [];
+    named = has.named;
+    since = wants_then has.past old new has.events next has.since taken;
+  }
 
 here : (o p : Option (List Item)) → p ≡ o
     → IfSome o (λ all. (left : List Item) × (p ≡ Some left) × (all ≡ left))
@@ -61,15 +83,6 @@ module _ {I : Type 0} (yields : I → PlainItem → I → Type 0) (coming : I �
       let (more, after, next) = rw to at (comes left item new last) in (rest, more, is, next))
 
   module _ {V : Type 0} (step : V → PlainEvent → Flow → V → Type 0) where
-    -- the visitor took one more event, and wanted more after it
-    pub wants_then : (old last new : V) (events : List PlainEvent) (event : PlainEvent)
-        → WantsAll step old events last → step last event (Continue tt) new
-        → WantsAll step old (events ++ event ∷ []) new
-    wants_then old last new [] event is taken =
-        (new, subst (λ l. step l event (Continue tt) new) is taken, refl)
-    wants_then old last new (first ∷ events) event (next, one, others) taken =
-        (next, one, wants_then next last new events event others taken)
-
     taken_all : (old new : I × V) (events : List PlainEvent)
         → HandsOverAll yields step old events new → WantsAll step old.1 events new.1
     taken_all old new [] is = ap (λ (now : I × V). now.1) is

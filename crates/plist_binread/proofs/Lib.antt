@@ -4,6 +4,7 @@ pub mod ChildReferences
 pub mod WalkInvariant
 pub mod ChildInvariant
 pub mod Tags
+pub mod TokenSteps
 pub mod OpenObjects
 pub mod UnlimitedSteps
 pub mod WalkSteps

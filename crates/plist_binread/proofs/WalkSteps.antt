@@ -1,7 +1,8 @@
 -- What one step of the walk yields of the remaining items.
-use Rattle.std.proofs.Common.{◌≡◌, ℕ, zero, suc, ◌+◌, ◌-◌, ◌*◌, ◌^◌, ◌<◌, ◌≤◌, true, false, nat_eq, List, [], ◌∷◌, ◌++◌, length, reverse, Option, Some, None, Ok, Err, refl, ap, sym, ◌∙◌, arith, append_assoc, add-zero}
+use Rattle.std.proofs.Common.{◌≡◌, ℕ, zero, suc, ◌+◌, ◌-◌, ◌*◌, ◌^◌, ◌<◌, ◌≤◌, Bool, true, false, nat_eq, List, [], ◌∷◌, ◌++◌, length, reverse, Option, Some, None, Ok, Err, refl, ap, sym, ◌∙◌, arith, append_assoc, add-zero}
 use Rattle.std.specs.List.{list_any, flat_map, slice_get}
 use Rattle.std.proofs.lemmas.List.{reverse-append}
+use Rattle.std.proofs.lemmas.Option.{slice_get_within}
 use Rattle.std.proofs.Math.Nat.{mul-le-mul_right}
 use Rattle.plist_base.specs.declared.error.Error.{Error}
 use Rattle.plist_base.specs.Faults.{Fault, InvalidUtf8String, InvalidUtf16String, OutOfMemory, ObjectReferenceTooLarge, RecursiveObject, kind_of, error_kind_of, fault_of, fault_at, fault_without_offset}
@@ -13,6 +14,8 @@ use Rattle.plist_base.specs.Object.{Object, Scalar, Array, Dictionary, Faulty}
 use Rattle.plist_base.specs.Unfolding.{TableEntry, items_of, unfolding_of, until_fault}
 use Rattle.plist_binread.specs.Remaining.{path_of, MarksOpenPath, remaining_items, SomeRemain, AllocatesFirst, Explains, walk_steps, walk_weight}
 use Rattle.plist_decode.specs.Decoding.{IsCollection, children_in, scalar_event_in, Allocates, IsRefusedAs}
+use Rattle.plist_binread.specs.ObjectEvents.{event_of_object}
+use Rattle.plist_binread.specs.Tokens.{first_event}
 use Rattle.plist_binread.proofs.OpenObjects.{admits_more}
 
 -- ---- the first item of an object
@@ -58,6 +61,15 @@ wanted_at (Dictionary pairs) place child more h = tt
 wanted_at (Faulty InvalidUtf8String) place child more h = tt
 wanted_at (Faulty InvalidUtf16String) place child more h = tt
 wanted_at (Faulty kind) place child more h = absurd h
+
+-- if an event is the first of these items, it is the object's first event
+first_named : (object : Object) (place : ℕ) (child : ℕ → List Item) (more rest : List Item)
+    (event : PlainEvent) → until_fault (items_of place object child ++ more) ≡ Ok event ∷ rest
+    → event_of_object object ≡ Some event
+first_named (Scalar scalar) place child more rest event is = cc
+first_named (Array items) place child more rest event is = cc
+first_named (Dictionary pairs) place child more rest event is = cc
+first_named (Faulty kind) place child more rest event is = cc
 
 -- a collection needs memory
 grows_at-collection : (object : Object) (start : PlainEvent) (count : ℕ)
@@ -142,6 +154,24 @@ module _ (table : List TableEntry) where
         ∙ ap (λ (offset : Option ℕ). Err
         (record { kind = kind_of (error_kind_of e); offset = offset }) ∷ []) (sym faulty.1))
         refused)
+
+  module _ (tags : List ℕ) (len : length table ≡ length tags) (fs : List Frame) (at i : ℕ)
+      (o : MarksOpenPath tags fs) (event : PlainEvent) (rest : List Item) where
+    -- if an event is the first item of an object, it is the object's first event
+    pub first_there : until_fault (unfolding_of table (length tags - length fs) (path_of fs) at i
+        ++ remaining_items table fs) ≡ Ok event ∷ rest → first_event (slice_get table i) ≡ Some event
+    first_there is = by (slice_get table i) refl (list_any (nat_eq i) (path_of fs)) refl
+      where
+        by : (found : Option TableEntry) → slice_get table i ≡ found → (any : Bool)
+            → list_any (nat_eq i) (path_of fs) ≡ any → first_event (slice_get table i) ≡ Some event
+        by None none any a =
+            let no = rw (items_beyond _ (path_of fs) at i none) at is in absurd (cc)
+        by (Some entry) there true a =
+            let no = rw (items_open _ (path_of fs) at i entry there a) at is in absurd (cc)
+        by (Some entry) there false a =
+            let below : i < length tags = rw (← len) (slice_get_within table i entry there) in
+            rw there (first_named entry.object entry.place _ (remaining_items table fs) rest event
+            (rw (entered tags len fs at i entry o below there a) at is))
 
 -- ---- the number that falls with each step
 

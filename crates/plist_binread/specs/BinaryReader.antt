@@ -8,7 +8,7 @@ use Rattle.plist_base.specs.Events.{PlainEvent, Item, event_of}
 use Rattle.plist_base.specs.FirstItems.{GivesFirst, StopsIf}
 use Rattle.plist_base.specs.Limits.{KeepsLimits, limited_by_any}
 use Rattle.plist_base.specs.Sources.{CountsIo}
-use Rattle.plist_base.specs.Visits.{PlainItem}
+use Rattle.plist_base.specs.Visits.{Flow, PlainItem}
 use Rattle.plist_base.specs.Container.{head_of}
 use Rattle.plist_base.specs.Unfolding.{items_of_file, until_fault}
 use Rattle.plist_decode.specs.FaultOffsets.{ItemGivenWithin}
@@ -19,6 +19,8 @@ use Rattle.plist_binread.specs.declared.reader.WalkState.TheVariants.{Ended, Fre
 use Rattle.plist_binread.specs.declared.frames.Frame.{Frame}
 use Rattle.plist_decode.specs.declared.head.Bounds.{Bounds}
 use Rattle.plist_binread.specs.Remaining.{AllocatesNext, AreBoundsOf, CountsObjects, MarksOpenPath, SomeRemain, by_state, entries_of, is_fresh, is_walking, next_number, objects_in_head, remaining_items, walk_steps}
+use Rattle.plist_binread.specs.Tokens.{HoldsTokens, IsEventOf}
+use Rattle.plist_binread.specs.declared.tokens.Tokens.{Tokens}
 use Rattle.plist_binread.specs.Walking.{IsCachedIfSmall, cached_in, open_in, root_with, weight_in}
 
 -- the items that remain in this state, without regard to limits
@@ -85,6 +87,12 @@ module _ {R C : Type 0} {g : Ghosts R} {h : CounterGhosts C} where
   -- an upper bound on the number of items that remain
   abbrev pub binary_steps : BinaryReader R C g h → ℕ
   binary_steps reader = by_state reader.state (walk_steps (2 ^ 64) + 1) (weight_in reader.walk) 0
+
+  -- the visitor has taken the scalars for which these tokens are stored
+  abbrev pub Remembers : {V : Type 0} → (step : V → PlainEvent → Flow → V → Type 0)
+      → (names : V → (token : ℕ) → PlainEvent → Type 0) → BinaryReader R C g h → Tokens → V → Type 0
+  Remembers step names reader tokens visitor = HoldsTokens step names tokens
+      (IsEventOf (g.known (binary_source reader)) reader.decoder.bounds reader.walk) visitor
 
   -- what is true of a reader after each call, whatever the call returned
   pub record KeepsInvariant (old new : BinaryReader R C g h) : Type 0 where

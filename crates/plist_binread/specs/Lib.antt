@@ -3,6 +3,7 @@ pub mod Remaining
 pub mod Frames
 pub mod Walking
 pub mod ObjectEvents
+pub mod Tokens
 pub mod Step
 pub mod Handovers
 pub mod BinaryReader

@@ -11,6 +11,7 @@ ghost use Rattle.plist_binread.specs.ObjectEvents.{FitsWalk};
 ghost use Rattle.plist_binread.specs.Handovers.{HandsItem};
 ghost use Rattle.plist_decode.specs.declared.decoded.Decoded.TheVariants.{Collection as OpenCollection};
 ghost use Rattle.plist_base.specs.Sources.{CountsIo};
+ghost use Rattle.plist_binread.specs.Tokens.{KeepsCached};
 ghost use Rattle.plist_decode.specs.StepFaults.{result_with};
 
 use crate::hand::{hand_bytes, hand_decoded};
@@ -87,6 +88,7 @@ fn open(walk: &mut Walk, number: u64, kind: CollectionKind, start: u8, count: u6
     ensures counted { cached_in walk.new ≡ cached_in walk.old }
     ensures falls { result ≡ true → IsLighterEntered walk.old walk.new }
     ensures unchanged { result ≡ false → IsUnchanged walk.old walk.new }
+    ensures still_cached { KeepsCached walk.old walk.new }
 {
     match walk.frames.push(number, kind.children(count)) {
         Ok(()) => {
@@ -114,6 +116,7 @@ fn cache_or_open(walk: &mut Walk, number: u64, decoded: Decoded) -> bool
         → 0 < unmarked (slice_index walk.new.tags.items number) }
     ensures falls { result ≡ true → IsLighterEntered walk.old walk.new }
     ensures unchanged { result ≡ false → IsUnchanged walk.old walk.new }
+    ensures still_cached { KeepsCached walk.old walk.new }
 {
     match decoded {
         Decoded::Small(tag, content) => {
@@ -128,9 +131,10 @@ fn cache_or_open(walk: &mut Walk, number: u64, decoded: Decoded) -> bool
     }
 }
 
-/// Hands the first event of an object to a visitor, and opens the object if it is a collection.
+/// Hands the first event of an object to a visitor, and opens the object if it is a collection. No
+/// token is used or stored.
 #[inline(always)]
-pub fn enter<S: Source, C: DecodeCounter, V: EventVisitor>(
+pub fn enter_object<S: Source, C: DecodeCounter, V: EventVisitor>(
     source: &mut S,
     decoder: &mut Decoder<C>,
     walk: &mut Walk,
@@ -154,6 +158,7 @@ pub fn enter<S: Source, C: DecodeCounter, V: EventVisitor>(
     // State afterwards.
     ensures kept { KeepsWalk S.known C.counts C.count (source.old, decoder.old, walk.old)
         (source.new, decoder.new, walk.new) }
+    ensures still_cached { KeepsCached walk.old walk.new }
     ensures falls { OnOk result (IsLighterEntered walk.old walk.new) }
     ensures failures { CountsIo (Some (result_with result decoder.new.details))
         (S.failures source.old) (S.failures source.new) }

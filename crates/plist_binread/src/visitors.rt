@@ -43,8 +43,15 @@ impl<'v, V: EventVisitor> EventVisitor for Relay<'v, V> {
 
     ghost step = { PassesOn V.step };
 
+    ghost names = { λ relay. V.names relay.visitor.now };
+
     fn event(&mut self, event: Event<'_>) -> ControlFlow<()> {
         self.visitor.event(event)
+    }
+
+    #[inline(always)]
+    fn again(&mut self, token: u32) -> Option<ControlFlow<()>> {
+        self.visitor.again(token)
     }
 
     #[inline(always)]
@@ -85,6 +92,11 @@ impl<'v, V: EventVisitor> EventVisitor for Relay<'v, V> {
     #[inline(always)]
     fn string(&mut self, text: CowStr<'_>) -> ControlFlow<()> {
         self.visitor.string(text)
+    }
+
+    #[inline(always)]
+    fn token(&self) -> u32 {
+        self.visitor.token()
     }
 
     #[inline(always)]

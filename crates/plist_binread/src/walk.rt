@@ -28,6 +28,7 @@ pub struct Walk {
 impl Walk {
     ghost use Rattle.std.specs.Prelude.{◌≡◌, ◌<◌, ℕ, true};
     ghost use Rattle.plist_binread.specs.Step.{IsEnd, ParentIsOpen, TakesNextChild, WeightFalls, closes, stored_references};
+    ghost use Rattle.plist_binread.specs.Tokens.{KeepsCached};
     ghost use Rattle.plist_binread.specs.Walking.{IsEmptyWalk, cached_in, open_in, walk_objects};
 
     /// Creates a walk over a file. Its objects aren't known yet.
@@ -53,6 +54,7 @@ impl Walk {
         ensures counted { cached_in self.new ≡ cached_in self.old }
         ensures weight { (count : ℕ) → WeightFalls count self.old result self.new }
         ensures contents { self.new.contents.items ≡ self.old.contents.items }
+        ensures still_cached { KeepsCached self.old self.new }
     {
         match self.frames.next_child() {
             NextChild::Nothing => NextChild::Nothing,

@@ -63,9 +63,9 @@ count g c =
 
 pub returns-clause-objects : goal.returns-clause-objects
 returns-clause-objects g c =
-    known_counted (g.S.Source.known c.args.source.now) c.in_ok-head.head c.enter.result
-    c.enter.new.decoder.details c.enter.new.walk
-    (c.enter.ensures.kept.size ∙ count g (goal.at.returns-clause-objects g c).In_ok-tags)
+    known_counted (g.S.Source.known c.args.source.now) c.in_ok-head.head c.enter_object.result
+    c.enter_object.new.decoder.details c.enter_object.new.walk
+    (c.enter_object.ensures.kept.size ∙ count g (goal.at.returns-clause-objects g c).In_ok-tags)
     (rw (← c.in_ok-head.ensures.answer) at c.read.ensures.value)
 
 pub invariant_of-walk : goal.invariant_of-walk
@@ -78,9 +78,9 @@ invariant_of-walk g c =
           (zeros_packed c.len.result _);
     }
 
-pub enter-requires-clause-known : goal.enter-requires-clause-known
-enter-requires-clause-known g c =
-    let there = (goal.at.enter-requires-clause-known g c).In_ok-tags in
+pub enter_object-requires-clause-known : goal.enter_object-requires-clause-known
+enter_object-requires-clause-known g c =
+    let there = (goal.at.enter_object-requires-clause-known g c).In_ok-tags in
     let value = rw (← c.in_ok-head.ensures.answer) at c.read.ensures.value in
     let within = rw (← c.in_ok-head.ensures.answer) at c.read.ensures.within in
     known_opens (g.S.Source.known c.args.source.now) (g.S.Source.known c.read.new.source)
@@ -88,9 +88,9 @@ enter-requires-clause-known g c =
     c.read.ensures.unchanged value within refl refl (none g there)
     (c.len.ensures ∙ c.in_ok-head.head.places.ok.0) c.requires.empty.1
 
-pub enter-requires-clause-counted : goal.enter-requires-clause-counted
-enter-requires-clause-counted g c = λ counts.
-    let there = (goal.at.enter-requires-clause-counted g c).In_ok-tags in
+pub enter_object-requires-clause-counted : goal.enter_object-requires-clause-counted
+enter_object-requires-clause-counted g c = λ counts.
+    let there = (goal.at.enter_object-requires-clause-counted g c).In_ok-tags in
     c.requires.counted counts
     ∙ cached_count-empty c.args.walk.now.tags.items c.requires.empty.0
     ∙ sym (cached_count-none c.len.result c.in_ok-tags.tags.items (none g there))
@@ -107,21 +107,21 @@ bounds g c = record {
 pub returns-clause-handed : goal.returns-clause-handed
 returns-clause-handed g c =
     let there = (goal.at.returns-clause-handed g c).In_ok-tags in
-    let h = c.enter.ensures.handed in
+    let h = c.enter_object.ensures.handed in
     record {
       event = h.event;
       is = record {
-        first = rw c.enter.ensures.kept.bounds (known_begun
+        first = rw c.enter_object.ensures.kept.bounds (known_begun
             (g.S.Source.known c.args.source.now) (g.S.Source.known c.read.new.source)
             c.in_ok-head.head (bounds g there) c.in_ok-tags.tags.items c.args.walk.now.frames
-            c.enter.new.walk.frames (result_with c.enter.result c.enter.new.decoder.details) h.event
+            c.enter_object.new.walk.frames (result_with c.enter_object.result c.enter_object.new.decoder.details) h.event
             c.read.ensures.unchanged c.requires.empty.1 (count g there) refl refl
             (rw (← c.in_ok-head.ensures.answer) at c.read.ensures.value) h.is.0);
         cached = known_cached (g.S.Source.known c.args.source.now)
             (g.S.Source.known c.read.new.source) c.in_ok-head.head _
-            (result_with c.enter.result c.enter.new.decoder.details) h.event c.enter.new.walk.tags.items
+            (result_with c.enter_object.result c.enter_object.new.decoder.details) h.event c.enter_object.new.walk.tags.items
             c.read.ensures.unchanged refl (rw (← c.in_ok-head.ensures.answer) at c.read.ensures.value) h.is.1;
       };
-      taken = passed_on g.V.EventVisitor.step c.new-relay.result c.enter.new.visitor _ _
-          c.enter.result h.event (search rules) (search rules) h.taken;
+      taken = passed_on g.V.EventVisitor.step c.new-relay.result c.enter_object.new.visitor _ _
+          c.enter_object.result h.event (search rules) (search rules) h.taken;
     }

@@ -3,6 +3,7 @@ use Rattle.plist_base.specs.Events.{EndCollection}
 use Rattle.plist_binread.proofs.ReaderCalls.{left_behind, nothing_ended}
 use Rattle.plist_decode.proofs.UnknownBytes.{IfSome-all, IfSome-never}
 use Rattle.plist_binread.specs.Walking.{IsBounded}
+use Rattle.plist_binread.proofs.TokenSteps.{no_tokens}
 use Rattle.plist_binread.proofs.UnlimitedSteps.{first_walks, item_walks, not_fresh, walks_on_ok}
 use Rattle.plist_binread.proofs.reader.BinaryReader.step.Goals as goal
 
@@ -78,3 +79,7 @@ invariant_of-self-in-Walking g c = record {
       c.advance-item.ensures.kept.known_walk;
   refers = rw c.advance-item.ensures.kept.unchanged c.advance-item.ensures.references;
 }
+
+pub returns-in-Fresh-clause-tokens : goal.returns-in-Fresh-clause-tokens
+returns-in-Fresh-clause-tokens g c = λ _.
+    no_tokens g.V.EventVisitor.step g.V.EventVisitor.names c.new.result _ _ c.new.ensures

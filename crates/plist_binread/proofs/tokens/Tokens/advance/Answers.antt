@@ -1,4 +1,5 @@
-use Rattle.std.proofs.Common.{arith, ◌<◌, length, ◌-◌, reverse, IfSome, refl}
+use Rattle.std.proofs.Common.{◌≡◌, arith, ◌<◌, length, ◌-◌, reverse, IfSome, refl, subst}
+use Rattle.std.specs.declared.ops.ControlFlow.TheVariants.{Continue}
 use Rattle.std.proofs.lemmas.Result.{on_ok_weaker}
 use Rattle.plist_binread.specs.declared.frames.NextChild.TheVariants.{Child}
 use Rattle.plist_base.specs.Events.{EndCollection}
@@ -7,8 +8,9 @@ use Rattle.plist_decode.proofs.UnknownBytes.{IfSome-all}
 use Rattle.plist_binread.specs.Walking.{weight_in}
 use Rattle.plist_binread.proofs.WalkSteps.{steps_positive}
 use Rattle.plist_binread.proofs.ChildInvariant.{ChildTaken, known_child_taken, child_failed, child_kept, child_references, child_yields}
-use Rattle.plist_binread.proofs.steps.advance.Goals as goal
-use Rattle.plist_binread.proofs.steps.advance.Goals.{In-Child}
+use Rattle.plist_binread.proofs.TokenSteps.{tokens_kept, tokens_then}
+use Rattle.plist_binread.proofs.tokens.Tokens.advance.Goals as goal
+use Rattle.plist_binread.proofs.tokens.Tokens.advance.Goals.{In-Child}
 
 -- the next child was taken as `ChildTaken` says
 taken : (g : _) (c : In-Child g) → IfSome (g.S.Source.known c.args.source.now) (λ bytes.
@@ -30,6 +32,18 @@ some g c =
     let n = length c.args.walk.now.tags.items in
     let e = c.in-Child.ensures.weight n in
     omega (arith, e, steps_positive (n - length (reverse c.next_child.new.self.frames)))
+
+-- ---- an end
+
+pub returns-in-End-clause-tokens : goal.returns-in-End-clause-tokens
+returns-in-End-clause-tokens g c = λ more.
+    let goes : c.end_collection.result ≡ Continue tt = cc in
+    tokens_then g.V.EventVisitor.step g.V.EventVisitor.names c.args.self.now _ EndCollection _ _
+    (tokens_kept g.V.EventVisitor.step g.V.EventVisitor.names _ c.args.decoder.now.bounds
+    c.args.walk.now c.next_child.new.self c.args.self.now _ c.requires.tokens
+    c.next_child.ensures.still_cached)
+    (subst (λ flow. g.V.EventVisitor.step c.args.visitor.now EndCollection flow
+    c.end_collection.new.self) goes c.end_collection.ensures)
 
 -- ---- a child whose reference can't be read
 

@@ -20,8 +20,8 @@ use Rattle.plist_binread.specs.Handovers.{PassesOn}
 use Rattle.plist_decode.specs.Packed.{is_small_event, unmarked}
 use Rattle.plist_decode.specs.StepFaults.{error_of, result_with}
 use Rattle.plist_decode.specs.declared.step_fault.StepFault.TheVariants.{Memory}
-use Rattle.plist_binread.proofs.enter.enter.Goals as goal
-use Rattle.plist_binread.proofs.enter.enter.Goals.{After-cache_or_open, In-Long, in-Some+in-Long+else-lies_in, in-Some+in_default, in-None+in_ok-decoded-in-None}
+use Rattle.plist_binread.proofs.enter.enter_object.Goals as goal
+use Rattle.plist_binread.proofs.enter.enter_object.Goals.{After-cache_or_open, In-Long, in-Some+in-Long+else-lies_in, in-Some+in_default, in-None+in_ok-decoded-in-None}
 
 pub from_parts-requires : goal.from_parts-requires
 from_parts-requires g c = (rw c.in-Small.is at c.in_ok-tag.ensures.found).3
