@@ -3,7 +3,7 @@
 
 The files and the programs are those of speed.py, with as many runs. For each program the least
 processor time (user and system) and the greatest peak memory count. There are more shapes: many empty
-arrays, a dictionary of many keys, an array of equal texts, and ASCII project files, which neither
+arrays, a dictionary of many keys, arrays of equal short and long texts, and ASCII project files, which neither
 version 1.3.1 of the crate nor `plistlib` reads. `plistlib` loads and dumps the value. `plistutil` is left out,
 because it copies a file that is binary already.
 
@@ -41,6 +41,10 @@ def equal_texts(file):
     return file.array([text] * 10**6)
 
 
+def equal_long_texts(file):
+    return file.array([file.text("a" * (1 << 16))] * 10**5)
+
+
 def project(size):
     """Returns an ASCII project file: objects by identifier, with references, lists and settings."""
     rng, names, lines = random.Random(5), [], ["// !$*UTF8*$!", "{", "archiveVersion = 1;", "objects = {"]
@@ -61,7 +65,8 @@ def project(size):
     return "\n".join([*lines, "};", f"rootObject = {names[0]};", "}", ""]).encode()
 
 
-WIDE = {"66,000 empty arrays": empty_arrays, "10^6 keys": many_keys, "10^6 equal texts": equal_texts}
+WIDE = {"66,000 empty arrays": empty_arrays, "10^6 keys": many_keys, "10^6 equal texts": equal_texts,
+        "10^5 times 64 KiB": equal_long_texts}
 
 
 def programs(folder):
