@@ -4,3 +4,4 @@ pub mod BufferedRuns
 pub mod BufferedItems
 pub mod Trees
 pub mod ErrorMessages
+pub mod CollectorTokens

@@ -1,5 +1,5 @@
 -- What a collector does when it takes an event.
-use Rattle.std.specs.Prelude.{◌≡◌, Bool, true, false, List, [], ◌∷◌, ◌++◌, Result, Ok, Err}
+use Rattle.std.specs.Prelude.{◌≡◌, ℕ, ◌-◌, ◌<◌, Bool, true, false, List, [], ◌∷◌, ◌++◌, Some, slice_get, Result, Ok, Err}
 use Rattle.std.specs.declared.ops.ControlFlow.TheVariants.{Continue, Break}
 use Rattle.plist_base.specs.Bracketing.{CanContinue, without_length}
 use Rattle.plist_base.specs.declared.error.Error.{Error}
@@ -20,6 +20,11 @@ abbrev pub HoldsMore : (whole : Bool) → (before : List PlainEvent) → PlainEv
 HoldsMore whole before event after =
     CanContinue before event × (after ≡ before ++ without_length event ∷ [])
     × TestsWhole whole (before ++ event ∷ [])
+
+-- the event is buffered, without its length, and the token is one more than its index
+abbrev pub IsBufferedAt : List PlainEvent → (token : ℕ) → PlainEvent → Type 0
+IsBufferedAt events token event =
+    (0 < token) × (slice_get events (token - 1) ≡ Some (without_length event))
 
 -- the events that a collector has buffered
 abbrev pub collected : Collector → List PlainEvent

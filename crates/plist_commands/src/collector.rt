@@ -3,13 +3,13 @@
 ghost use Rattle.std.specs.Prelude.{◌≡◌, ◌<◌, None, false, true, IfSome, OnOk};
 ghost use Rattle.plist_base.specs.Bracketing.{CanContinue};
 ghost use Rattle.plist_base.specs.ByteTests.{EachByte};
-ghost use Rattle.plist_base.specs.Events.{ScalarEvent, event_of};
+ghost use Rattle.plist_base.specs.Events.{IsScalarEvent, PlainEvent, ScalarEvent, event_of};
 ghost use Rattle.plist_base.specs.Trees.{String};
 ghost use Rattle.plist_base.specs.Utf16Strings.{string_of_utf16};
 ghost use Rattle.plist_buffer.specs.EventBuffers.{TestsWhole, buffered_events, is_whole};
 ghost use Rattle.plist_buffer.specs.StoredScalars.{event_of_small};
 ghost use Rattle.plist_commands.specs.Converting.{IfOkIs};
-ghost use Rattle.plist_commands.specs.CollectorSteps.{HoldsMore};
+ghost use Rattle.plist_commands.specs.CollectorSteps.{HoldsMore, IsBufferedAt};
 
 use plist_base::{Error, Event, EventVisitor, PackedScalar, Utf16Str, Visited};
 use plist_buffer::event_buffer::{EventBuffer, PushError};
@@ -90,6 +90,23 @@ fn take_ascii(
         return None;
     }
     pending.try_push_ascii(alloc, bytes)
+}
+
+// Buffers a scalar once more, given its token, or returns `None` and changes nothing if it can't
+// follow the buffered events, or if it is to be buffered in another way.
+#[inline(always)]
+fn take_again(pending: &mut EventBuffer, token: u32) -> Option<Result<(), PushError>>
+    ensures unnamed { token ≡ 0 → result ≡ None }
+    ensures taken { (event : PlainEvent) → IsBufferedAt (buffered_events pending.old) token event
+        → IfSome result (λ answer. IsScalarEvent event × OnOk answer
+        (HoldsMore (is_whole pending.new) (buffered_events pending.old) event
+        (buffered_events pending.new))) }
+    ensures declined { result ≡ None → pending.new ≡ pending.old }
+{
+    if token == 0 || pending.is_whole() {
+        return None;
+    }
+    pending.try_repeat(token as usize - 1)
 }
 
 /// Why a collector wants no more events.
@@ -215,9 +232,11 @@ impl Collector {
 }
 
 impl EventVisitor for Collector {
-    ghost use Rattle.plist_commands.specs.CollectorSteps.{CollectsEvent};
+    ghost use Rattle.plist_commands.specs.CollectorSteps.{CollectsEvent, IsBufferedAt, collected};
 
     ghost step = { CollectsEvent };
+
+    ghost names = { λ collector. IsBufferedAt (collected collector) };
 
     #[inline(always)]
     fn event(&mut self, event: Event<'_>) -> ControlFlow<()> {
@@ -264,6 +283,24 @@ impl EventVisitor for Collector {
 
     fn utf16_string(&mut self, text: Utf16Str<'_>) -> Option<ControlFlow<()>> {
         match take_utf16(self.alloc, &mut self.pending, text) {
+            Some(Ok(())) => Some(self.go_on()),
+            Some(Err(_)) => Some(self.end(StopReason::Failed(Error::from(AllocError)))),
+            None => None,
+        }
+    }
+
+    // The token of a scalar is one more than the index of its event among the buffered ones.
+    #[inline(always)]
+    fn token(&self) -> u32 {
+        match u32::try_from(self.pending.len()) {
+            Ok(token) => token,
+            Err(_) => 0,
+        }
+    }
+
+    #[inline(always)]
+    fn again(&mut self, token: u32) -> Option<ControlFlow<()>> {
+        match take_again(&mut self.pending, token) {
             Some(Ok(())) => Some(self.go_on()),
             Some(Err(_)) => Some(self.end(StopReason::Failed(Error::from(AllocError)))),
             None => None,
