@@ -56,3 +56,9 @@ abbrev pub StoresToken : (old : Tokens) → (number token : ℕ) → (new : Toke
 StoresToken old number token new = (other : ℕ) → 0 < stored_token new other
     → (stored_token new other ≡ stored_token old other)
     ⊎ ((other ≡ number) × (stored_token new other ≡ token))
+
+-- the same is true of a token that names the event which the visitor took last
+abbrev pub StoresTokenOf : {V : Type 0} → (names_last : (token : ℕ) → V → Type 0) → (old : Tokens)
+    → (number : ℕ) → V → (new : Tokens) → Type 0
+StoresTokenOf names_last old number visitor new =
+    (token : ℕ) × names_last token visitor × StoresToken old number token new

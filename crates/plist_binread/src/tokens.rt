@@ -29,7 +29,8 @@ pub struct Tokens {
 }
 
 impl Tokens {
-    ghost use Rattle.plist_binread.specs.Tokens.{HasNoTokens, HoldsTokens, IsEventOf, IsTokenOf, StoresToken, stored_token};
+    ghost use Rattle.plist_binread.specs.Tokens.{HasNoTokens, HoldsTokens, IsEventOf, IsTokenOf, StoresToken, StoresTokenOf, stored_token};
+    ghost use Rattle.plist_base.specs.Tokens.{NamesLast};
 
     /// Creates an empty list. It allocates no memory.
     pub fn new(alloc: Global) -> Tokens
@@ -57,7 +58,7 @@ impl Tokens {
     // Stores the token of an object, unless it is 0. If the allocation for the tokens fails, none is
     // stored.
     #[inline(always)]
-    fn remember(&mut self, walk: &Walk, number: u64, token: u32)
+    fn store(&mut self, walk: &Walk, number: u64, token: u32)
         ensures { StoresToken self.old number token self.new }
     {
         if token == 0 {
@@ -68,6 +69,18 @@ impl Tokens {
         }
         if number < self.list.len() as u64 {
             self.list[number as usize] = token;
+        }
+    }
+
+    // Stores the token that the visitor gives for an object, if the object's tag is still `before`, as
+    // it was before the object was entered. So the object isn't a collection, and it isn't a small
+    // scalar that was decoded now: a token serves a small scalar only if it comes a third time.
+    #[inline(always)]
+    fn remember<V: EventVisitor>(&mut self, walk: &Walk, number: u64, before: u8, visitor: &V)
+        ensures { StoresTokenOf (NamesLast V.step V.names) self.old number visitor.now self.new }
+    {
+        if walk.tag_of(number) == before {
+            self.store(walk, number, visitor.token());
         }
     }
 
@@ -123,8 +136,9 @@ impl Tokens {
         match visitor.again(self.token_of(walk, reference.number)) {
             Some(flow) => Ok(flow),
             None => {
+                let before = walk.tag_of(reference.number);
                 let entered = enter_object(source, decoder, walk, reference, visitor);
-                self.remember(walk, reference.number, visitor.token());
+                self.remember(walk, reference.number, before, visitor);
                 entered
             }
         }

@@ -81,6 +81,15 @@ impl Walk {
         }
     }
 
+    /// Returns the tag of an object, or 0 if the object doesn't exist.
+    #[inline(always)]
+    pub fn tag_of(&self, number: u64) -> u8 {
+        if number >= self.tags.len() as u64 {
+            return 0;
+        }
+        self.tags[number as usize]
+    }
+
     /// Returns the offset of an object, or `None` if it is cached or open, or doesn't exist.
     #[inline(always)]
     pub fn offset_of(&self, number: u64) -> Option<u64> {

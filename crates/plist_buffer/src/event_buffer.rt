@@ -330,6 +330,7 @@ impl EventBuffer {
     #[inline(always)]
     fn hold_earlier(&mut self, index: usize, change: Transition) -> Result<(), AllocError>
         requires still { is_whole self.old ≡ false }
+        requires settled { self.old.waiting ≡ [] }
         requires within { index < length (plain_events self.old.held) }
         requires leaf { is_leaf (table_event self.old.held index) ≡ true }
         requires accepted { CanTake self.old (table_event self.old.held index) }
@@ -339,7 +340,6 @@ impl EventBuffer {
         ensures unchanged { OnErr result (buffered_events self.new ≡ buffered_events self.old) }
         ensures whole { OnErr result (is_whole self.new ≡ is_whole self.old) }
     {
-        self.append_if_any()?;
         self.held.repeat_at(index)?;
         self.expects = next_expected(change, self.expects, &self.held);
         Ok(())
@@ -347,7 +347,7 @@ impl EventBuffer {
 
     /// Buffers the scalar of an earlier event once more, given the index of that event, if it can
     /// follow the buffered events, which must not form a whole property list. Otherwise, and if the
-    /// earlier event isn't a scalar or still waits, returns `None` and changes nothing.
+    /// earlier event isn't a scalar, or if scalars wait, returns `None` and changes nothing.
     ///
     /// # Errors
     ///
@@ -363,7 +363,7 @@ impl EventBuffer {
             (event_at (buffered_events self.old) index) self.new)) }
         ensures declined { result ≡ None → self.new ≡ self.old }
     {
-        if index >= self.held.len() {
+        if index >= self.held.len() || !self.waiting.is_empty() {
             return None;
         }
         let change = self.change_by_earlier(index);

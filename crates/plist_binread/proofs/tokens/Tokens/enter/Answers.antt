@@ -42,12 +42,12 @@ returns-in-None-clause-tokens g c = λ more.
     c.enter_object-entered.new.visitor) (c.in-None.ensures.declined refl) (rw more at h.taken) in
     let now = c.enter_object-entered.new.walk in
     tokens_stored g.V.EventVisitor.step g.V.EventVisitor.names c.args.self.now
-    c.remember.new.self c.args.reference.number c.token.result h.event _ _
+    c.remember.new.self c.args.reference.number c.remember.ensures.0 h.event _ _
     (tokens_then g.V.EventVisitor.step g.V.EventVisitor.names c.args.self.now _ h.event _ _
     (tokens_kept g.V.EventVisitor.step g.V.EventVisitor.names _ c.args.decoder.now.bounds
     c.args.walk.now now c.args.self.now _ c.requires.tokens
     c.enter_object-entered.ensures.still_cached) taken)
-    c.remember.ensures (λ some. c.token.ensures c.args.visitor.now h.event taken some)
+    c.remember.ensures.2 (λ some. c.remember.ensures.1 c.args.visitor.now h.event taken some)
     (event_entered _ c.args.decoder.now.bounds c.args.walk.now now c.requires.known
     c.args.reference (result_with c.enter_object-entered.result
     c.enter_object-entered.new.decoder.details) (Continue tt) h.event (rw more refl) h.is.0 h.is.1)

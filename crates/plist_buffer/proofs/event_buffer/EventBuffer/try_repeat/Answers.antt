@@ -1,5 +1,7 @@
-use Rattle.std.proofs.Common.{◌≡◌, ◌<◌, inl, inr, arith, true, length, sym, subst, ◌∙◌}
-use Rattle.plist_buffer.specs.EventBuffers.{Accepts, CanTake, RejectsEvent}
+use Rattle.std.proofs.Common.{◌≡◌, ◌<◌, [], inl, inr, arith, true, length, sym, ◌∙◌}
+use Rattle.std.proofs.lemmas.Bool.{eqb-true}
+use Rattle.std.proofs.lemmas.List.{nil_from_length}
+use Rattle.plist_buffer.specs.EventBuffers.{CanTake}
 use Rattle.plist_buffer.specs.EventTable.{plain_events, table_event}
 use Rattle.plist_buffer.specs.inner.Entries.{is_leaf}
 use Rattle.plist_buffer.specs.inner.Expected.{change_on}
@@ -11,6 +13,10 @@ use Rattle.plist_buffer.proofs.event_buffer.EventBuffer.try_repeat.Goals.{In_def
 -- the index is that of an event of the table
 within : (c : In_default) → c.args.index < length (plain_events c.args.self.now.held)
 within c = omega (arith, c.len.ensures)
+
+-- no scalar waits
+settled : (c : In_default) → c.args.self.now.waiting ≡ []
+settled c = nil_from_length _ (eqb-true _ _ (sym c.if-not-is_empty.ensures))
 
 -- the event there is a scalar, and changes what is expected next as it was said
 chosen : (c : In_default) → (is_leaf (table_event c.args.self.now.held c.args.index) ≡ true)
@@ -32,6 +38,7 @@ hold_earlier-requires c =
     let at = (goal.at.hold_earlier-requires c).In_default in
     record {
       still = c.requires.still;
+      settled = settled at;
       within = within at;
       leaf = (chosen at).0;
       accepted = can_follow at;
