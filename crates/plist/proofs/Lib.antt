@@ -15,6 +15,7 @@ pub mod Allowances
 pub mod LimitedValues
 pub mod KeysOnce
 pub mod RemainingItems
+pub mod CopiedValues
 pub mod WriterEvents
 pub mod WriterFiles
 pub mod SameTrees

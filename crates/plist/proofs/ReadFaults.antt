@@ -171,9 +171,9 @@ module _ {R : Type 0} {g : Ghosts R} (known : R → Option (List ℕ)) (failed :
   reader-tells reader answer none collects =
       error-tells event_of (Gives known failed) (IsReadingFault false) (covered false)
       (λ (r : Reader R g). is_limited_in r.state ≡ false)
-      (λ old item new gives none. gives.limits none)
+      (λ old item new gives none. gives.inner.limits none)
       (λ old error new gives none.
-      inl (subst (λ b. IsReaderFault b (fault_of error)) none gives.faults))
+      inl (subst (λ b. IsReaderFault b (fault_of error)) none gives.inner.faults))
       reader answer none collects
 
   limit-tells : (old : LimitedItems (Reader R g) LimitCounter) (error : Error)
@@ -183,7 +183,8 @@ module _ {R : Type 0} {g : Ghosts R} (known : R → Option (List ℕ)) (failed :
   limit-tells =
       passed limited_by IsLimitReached (Gives known failed) (IsReadingFault true)
       (λ fault reached. subst (IsReadingFault true) (sym reached.1) (inl (inr (refl, refl))))
-      (λ old error new gave. inl (loosened (is_limited_in old.state) (fault_of error) gave.faults))
+      (λ old error new gave.
+      inl (loosened (is_limited_in old.state) (fault_of error) gave.inner.faults))
 
   budget-tells : (old : LimitedItems (LimitedItems (Reader R g) LimitCounter) ByteBudget) (error : Error)
       (new : LimitedItems (LimitedItems (Reader R g) LimitCounter) ByteBudget)
@@ -252,7 +253,7 @@ module _ {R : Type 0} {g : Ghosts R} (known : R → Option (List ℕ)) (failed :
   has-source (state.Ascii reader) error new step e = cc e
   has-source (state.Limited reader) error new step e = cc e
   has-source (state.Refused source) error new step e = cc e
-  has-source state.Moved error new step e = cc (step.inside.0)
+  has-source state.Moved error new step e = cc (step.inner.inside.0)
 
   never-gives : (old : Reader R g) (error : Error) (new : Reader R g)
       → Gives known failed old (Some (Err error)) new → NotIo (fault_of error)
@@ -321,7 +322,8 @@ module _ {R : Type 0} (known : R → Option (List ℕ)) (failed : R → Option �
   ascii-tells =
       always-tells event_of (GivesAscii known failed) IsAsciiReadingFault covered-ascii
       (λ old error new gives.
-      of-bytes (fault_of error).kind (fault_of error).offset (place_of new) gives.kinds gives.offset)
+      of-bytes (fault_of error).kind (fault_of error).offset (place_of new) gives.inner.kinds
+      gives.inner.offset)
 
   pub ascii-never : NeverFailsReading failed → (reader : AsciiReader R) (answer : Result Value Error)
       → Collects event_of (GivesAscii known failed) reader (built_tree answer)

@@ -23,7 +23,6 @@ use Rattle.plist.specs.Collecting.{Collects, built_tree}
 use Rattle.plist.specs.declared.value.Value.{Value}
 use Rattle.plist.specs.ValueOfItems.{IsPredicted, IsValueOf, IsReadIfKnown, ReadsBackIn}
 use Rattle.plist_base.specs.FirstItems.{StopsIf}
-use Rattle.plist_base.proofs.FirstItems.{first_of_known}
 use Rattle.plist.specs.Events.{BeginsWithStart, GivesEvent, remaining_events}
 use Rattle.plist_decode.specs.declared.counter.DecodeCounter.{Ghosts as CounterGhosts}
 use Rattle.plist_base.specs.Bracketing.{bracketing}
@@ -78,29 +77,16 @@ pub binary-shows : {R C : Type 0} {g : Ghosts R} {h : CounterGhosts C}
     → IsPredicted event_of (binary.file_items g.known old) item (binary.file_items g.known new)
 binary-shows {g = g} old new item gives =
     predicted event_of (StopsIf SomeRemain) (StopsIf (AllocatesNext (binary.is_new old)))
-    (binary.file_items g.known old) (binary.file_items g.known new) item
-    (first_of_known event_of (StopsIf SomeRemain) (StopsIf (AllocatesNext (binary.is_new old)))
-    (g.known (binary.binary_source old)) (g.known (binary.binary_source new))
-    (λ bytes. binary.items_to_come bytes old) (λ bytes. binary.items_to_come bytes new) item
-    gives.unchanged gives.items)
-
-file-items : (k : Option (List ℕ)) (coming : List ℕ → List Item)
-    → IfSome k (λ bytes. coming bytes ≡ items_of_file bytes)
-    → option_map coming k ≡ option_map items_of_file k
-file-items None coming h = refl
-file-items (Some bytes) coming h = ap Some h
+    (binary.file_items g.known old) (binary.file_items g.known new) item gives.items
 
 pub of-binary : {R C : Type 0} {g : Ghosts R} {h : CounterGhosts C} (known : R → Option (List ℕ))
     (source : R) (iter new : BinaryReader R C g h) (answer : Result Tree Fault) → iter ≡ new
-    → binary.binary_source new ≡ source
-    → IfSome (known source) (λ bytes. binary.items_to_come bytes new ≡ items_of_file bytes)
+    → binary.file_items known new ≡ option_map items_of_file (known source)
     → IsReadIfKnown (binary.file_items known iter) answer
     → IfSome (known source) (λ bytes. IsValueOf (items_of_file bytes) answer)
-of-binary known source iter new answer is holds items seen =
+of-binary known source iter new answer is items seen =
     of-items items_of_file (known source) (binary.file_items known iter) answer
-    (ap (binary.file_items known) is ∙ ap
-    (λ s. option_map (λ bytes. binary.items_to_come bytes new) (known s)) holds
-    ∙ file-items (known source) (λ bytes. binary.items_to_come bytes new) items) seen
+    (ap (binary.file_items known) is ∙ items) seen
 
 -- ---- the events of a value
 

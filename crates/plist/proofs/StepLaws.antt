@@ -1,5 +1,5 @@
 -- A builder follows the laws of writers.
-use Rattle.std.specs.Prelude.{◌≡◌, ◌++◌, ◌∷◌, [], true, false, Some, None, Ok, Err}
+use Rattle.std.specs.Prelude.{◌≡◌, ◌++◌, ◌∷◌, [], true, false, Some, None, Ok, Err, OnOk}
 use Rattle.std.proofs.Common.{inr}
 use Rattle.std.proofs.Common.{refl, sym, ◌∙◌, subst, true≢false}
 use Rattle.std.proofs.lemmas.Option.{none-some, same_Some}
@@ -15,6 +15,7 @@ use Rattle.plist_base.specs.Writing.{Answer, MatchKind, AnswersByOrder}
 use Rattle.plist.specs.declared.stream.builder.Builder.{Builder}
 use Rattle.plist.specs.Building.{Unfinished, NotBegun, Within, Complete, Built, IsAnswered, IsNested, events_so_far, expected_within, if_refused, refusal_at, IsRefusedStep}
 use Rattle.plist.specs.Builder.{built_of, IsBuildingStep}
+use Rattle.plist.specs.Collecting.{TakesOne}
 use Rattle.plist.proofs.Following.{refused-ends, taken-continues, accepted-continues, last-continues}
 
 -- this kind of fault is that of an event that can't come next
@@ -124,9 +125,11 @@ failure_law before after event (Err fault) s f =
 pub by_laws : (before after : Builder) (event : PlainEvent) (answer : Answer)
     → IsNested (built_of before).unfinished
     → IsAnswered (built_of before) event answer (built_of after) (after ≡ before)
+    → OnOk answer (TakesOne (built_of before) (Ok event) (built_of after))
     → IsBuildingStep before event answer after
-by_laws before after event answer ok s = record {
+by_laws before after event answer ok s added = record {
   answered = s;
+  added = added;
   order = order_law before after event answer ok s;
   failure = failure_law before after event answer s;
 }

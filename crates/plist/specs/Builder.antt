@@ -1,5 +1,5 @@
 -- What contracts see of a builder, and of a visitor that builds a value.
-use Rattle.std.specs.Prelude.{◌≡◌, true, false, Result, Ok, Err, IfErr}
+use Rattle.std.specs.Prelude.{◌≡◌, true, false, Result, Ok, Err, IfErr, OnOk}
 use Rattle.std.specs.declared.ops.ControlFlow.TheVariants.{Continue, Break}
 use Rattle.plist_base.specs.declared.error.Error.{Error}
 use Rattle.plist_base.specs.Events.{PlainEvent, Item}
@@ -22,6 +22,8 @@ built_of builder = record { unfinished = unfinished_of builder.unfinished; faile
 pub record IsBuildingStep (before : Builder) (event : PlainEvent) (answer : Answer)
     (after : Builder) : Type 0 where
   pub answered : IsAnswered (built_of before) event answer (built_of after) (after ≡ before)
+  -- after `Ok` the event was added to the builder's contents
+  pub added : OnOk answer (TakesOne (built_of before) (Ok event) (built_of after))
   pub order : before.failed ≡ false → AnswersByOrder (events_so_far (built_of before).unfinished)
       event answer (events_so_far (built_of after).unfinished) after.failed (after ≡ before)
   pub failure : before.failed ≡ true

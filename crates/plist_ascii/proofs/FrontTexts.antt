@@ -182,17 +182,17 @@ borrowed_gives known failed old new count text event is ahead going bytes place 
     } in
     record {
       items = items_come refl takes;
-      takes = bytes_taken takes;
-      dialect = refl;
-      rises = (omega arith, omega arith);
-      offset = tt;
-      kinds = subst IsAsciiEvent (sym is) tt;
-      brackets = subst (λ e. IfBracket e (new.peeked ≡ None)) (sym is) tt;
-      quotes = λ xs e first. peeked;
       failures = failures;
-      ended = λ h. absurd (going h);
-      unasked = λ h. absurd (going h);
-      ends = tt;
+      state = record { ended = λ h. absurd (going h); unasked = λ h. absurd (going h); ends = tt };
+      inner = record {
+        takes = bytes_taken takes;
+        dialect = refl;
+        rises = (omega arith, omega arith);
+        offset = tt;
+        kinds = subst IsAsciiEvent (sym is) tt;
+        brackets = subst (λ e. IfBracket e (new.peeked ≡ None)) (sym is) tt;
+        quotes = λ xs e first. peeked;
+      };
     }
 
 -- fewer items remain after bytes are taken

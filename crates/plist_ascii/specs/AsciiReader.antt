@@ -64,15 +64,18 @@ TakesItem stops bytes p item rest q =
     MatchItem item (rest ≡ []) (λ event. BeginsWithItem stops bytes p (Ok (event_of event)) rest q)
     (rest ≡ []) (rest ≡ []) (λ fault. BeginsWithItem stops bytes p (Err fault) rest q)
 
--- what one call of `next` does: it returns the first item of the bytes not taken yet; a reader that
--- has ended doesn't call the inner reader, and after a start, an end or a quoted string no further
--- byte has been looked at
-pub record GivesAscii {R : Type 0} (known : R → Option (List ℕ)) (failed : R → Option ℕ)
-    (old : AsciiReader R) (item : Option (Result Event Error)) (new : AsciiReader R) : Type 0 where
-  -- the first item is yielded, and the others remain; none remain after `None`, `Io`, `OutOfMemory`,
-  -- which is yielded only in place of a string, an integer or a string's fault
-  pub items : GivesFirstIfKnown event_of (StopsIf (λ _. ⊤)) (StopsIf BeginsWithText)
-      (ascii_items_to_come known old) item (ascii_items_to_come known new)
+-- the state after a call: a reader ends with `None`, `Io` or `OutOfMemory`, and one that has ended
+-- yields nothing and doesn't call the inner reader
+pub record EndsAscii {R : Type 0} (old : AsciiReader R) (item : Option (Result Event Error))
+    (new : AsciiReader R) : Type 0 where
+  pub ended : HasEndedAscii old → item ≡ None
+  pub unasked : HasEndedAscii old → device_of new ≡ device_of old
+  pub ends : let over = HasEndedAscii new in MatchItem item over (λ _. ⊤) over over (λ _. ⊤)
+
+-- what else is true of a call: which bytes are taken, what the item can be, and where a fault lies;
+-- after a start, an end or a quoted string no further byte has been looked at
+pub record TakesAscii {R : Type 0} (known : R → Option (List ℕ)) (old : AsciiReader R)
+    (item : Option (Result Event Error)) (new : AsciiReader R) : Type 0 where
   pub takes : IfKnown (untaken_bytes known old) (λ bytes. (rest : List ℕ)
       × (untaken_bytes known new ≡ Some rest) × TakesItem (ends_bare (dialect_of old)) bytes
       (place_of old) item rest (place_of new))
@@ -91,14 +94,21 @@ pub record GivesAscii {R : Type 0} (known : R → Option (List ℕ)) (failed : R
   pub quotes : IfKnown (untaken_bytes known old) (λ bytes. IfSome item (λ answer. OnOk answer
       (FirstIsQuoted (placed_items (ends_bare (dialect_of old)) bytes (place_of old))
       → peeked_byte new ≡ None)))
-  -- the count of failures rose if the item is `Io`, and otherwise is unchanged
+
+-- what one call of `next` does
+pub record GivesAscii {R : Type 0} (known : R → Option (List ℕ)) (failed : R → Option ℕ)
+    (old : AsciiReader R) (item : Option (Result Event Error)) (new : AsciiReader R) : Type 0 where
+  -- If the bytes are known, the item is the first of those not taken yet, and the others remain. No
+  -- item remains after `None`, `Io` and `OutOfMemory`, which is yielded only in place of a string, an
+  -- integer or a string's fault.
+  pub items : GivesFirstIfKnown event_of (StopsIf (λ _. ⊤)) (StopsIf BeginsWithText)
+      (ascii_items_to_come known old) item (ascii_items_to_come known new)
+  -- the count of failures rises if the item is `Io`, and is otherwise unchanged
   pub failures : let same = failed (device_of new) ≡ failed (device_of old) in
       MatchItem item same (λ _. same)
       (RisesIfCounted (failed (device_of old)) (failed (device_of new))) same (λ _. same)
-  pub ended : HasEndedAscii old → item ≡ None
-  pub unasked : HasEndedAscii old → device_of new ≡ device_of old
-  -- the reader has ended after `None`, `Io` and `OutOfMemory`
-  pub ends : let over = HasEndedAscii new in MatchItem item over (λ _. ⊤) over over (λ _. ⊤)
+  pub state : EndsAscii old item new
+  pub inner : TakesAscii known old item new
 
 -- an upper bound on the number of a reader's remaining items
 abbrev pub ascii_steps : {R : Type 0} → AsciiReader R → ℕ

@@ -1,9 +1,10 @@
 -- What is true of a reader after each call.
-use Rattle.std.proofs.Common.{◌≡◌, ℕ, ◌≤◌, arith, Bool, false, List, [], ◌∷◌, length, Option, None, Some, Err, IfSome, MatchOption, refl, sym}
+use Rattle.std.proofs.Common.{◌≡◌, ℕ, ◌≤◌, arith, Bool, false, List, [], ◌∷◌, length, Option, None, Some, Result, Err, IfSome, MatchOption, refl, sym}
 use Rattle.std.proofs.lemmas.List.{length-reverse}
 use Rattle.plist_base.specs.declared.source.Source.{Ghosts}
 use Rattle.plist_base.specs.declared.error.Error.{Error}
-use Rattle.plist_base.specs.Events.{Item, PlainEvent}
+use Rattle.plist_base.specs.declared.event.Event.{Event}
+use Rattle.plist_base.specs.Events.{Item, PlainEvent, event_of}
 use Rattle.plist_base.specs.Faults.{MatchFault, error_kind_of, fault_of, kind_of}
 use Rattle.plist_base.specs.FirstItems.{GivesFirst, StopsIf}
 use Rattle.plist_base.specs.Visits.{PlainItem}
@@ -17,7 +18,7 @@ use Rattle.plist_decode.specs.declared.head.Bounds.{Bounds}
 use Rattle.plist_binread.specs.declared.walk.Walk.{Walk}
 use Rattle.plist_base.specs.Container.{head_of}
 use Rattle.plist_binread.specs.Walking.{IsBounded, IsKnownWalk, cached_in, walk_objects}
-use Rattle.plist_binread.specs.BinaryReader.{KeepsInvariant, Steps, binary_source, file_items, is_new, items_to_come}
+use Rattle.plist_binread.specs.BinaryReader.{GivesBinary, GivesBinaryBy, KeepsInvariant, Steps, admitted_by, binary_source, file_items, has_limits, is_new, items_to_come}
 use Rattle.plist_binread.specs.Remaining.{AllocatesNext, AreBoundsOf, SomeRemain, objects_in_head}
 use Rattle.plist_binread.proofs.OpenObjects.{IsOpen-length}
 use Rattle.plist_decode.proofs.UnknownBytes.{IfSome-all}
@@ -73,9 +74,24 @@ nothing_ended known = IfSome-all known (λ bytes. (refl, refl))
 pub file_comes : {R C : Type 0} {g : Ghosts R} {h : CounterGhosts C}
     (old : BinaryReader R C g h) (item : PlainItem) (new : BinaryReader R C g h)
     → Steps old item new → Comes (file_items g.known old) item (file_items g.known new)
+unfolding file_items
 file_comes {g = g} old item new step =
     comes_first SomeRemain (AllocatesNext (is_new old)) (file_items g.known old)
     (file_items g.known new) item (first_of_known (λ event. event) (StopsIf SomeRemain)
     (StopsIf (AllocatesNext (is_new old))) (g.known (binary_source old))
     (g.known (binary_source new)) (λ bytes. items_to_come bytes old)
     (λ bytes. items_to_come bytes new) item step.gives.unchanged step.gives.items)
+
+-- what a call says of the items to come is true of the items of the file
+pub gives_binary : {R C : Type 0} {g : Ghosts R} {h : CounterGhosts C}
+    (old : BinaryReader R C g h) (item : Option (Result Event Error)) (new : BinaryReader R C g h)
+    → GivesBinaryBy old event_of admitted_by has_limits item new → GivesBinary old item new
+unfolding file_items
+gives_binary {g = g} old item new gives = record {
+  items = first_of_known event_of (StopsIf SomeRemain) (StopsIf (AllocatesNext (is_new old)))
+      (g.known (binary_source old)) (g.known (binary_source new)) (λ bytes. items_to_come bytes old)
+      (λ bytes. items_to_come bytes new) item gives.unchanged gives.items;
+  failures = gives.failures;
+  state = record { ended = gives.ended; unasked = gives.unasked; ends = gives.ends };
+  inner = gives;
+}

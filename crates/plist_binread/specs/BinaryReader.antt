@@ -5,7 +5,7 @@ use Rattle.plist_base.specs.declared.error.Error.{Error}
 use Rattle.plist_base.specs.declared.event.Event.{Event}
 use Rattle.plist_base.specs.declared.source.Source.{Ghosts}
 use Rattle.plist_base.specs.Events.{PlainEvent, Item, event_of}
-use Rattle.plist_base.specs.FirstItems.{GivesFirst, StopsIf}
+use Rattle.plist_base.specs.FirstItems.{GivesFirst, GivesFirstIfKnown, StopsIf}
 use Rattle.plist_base.specs.Limits.{KeepsLimits, limited_by_any}
 use Rattle.plist_base.specs.Sources.{CountsIo}
 use Rattle.plist_base.specs.Visits.{Flow, PlainItem}
@@ -59,14 +59,9 @@ module _ {R C : Type 0} {g : Ghosts R} {h : CounterGhosts C} where
   items_to_come bytes reader = admitted_by reader (unlimited_items bytes reader)
 
   -- the items that remain, if the bytes of the source are known
-  abbrev pub file_items : (R → Option (List ℕ)) → BinaryReader R C g h → Option (List Item)
+  unfoldable pub file_items : (R → Option (List ℕ)) → BinaryReader R C g h → Option (List Item)
   file_items known reader =
       option_map (λ bytes. items_to_come bytes reader) (known (binary_source reader))
-
-  -- if the bytes are known, all items that `items` returns for them remain
-  abbrev pub WillGive : (known : Option (List ℕ)) → (items : List ℕ → List Item)
-      → BinaryReader R C g h → Type 0
-  WillGive known items reader = IfSome known (λ bytes. items_to_come bytes reader ≡ items bytes)
 
   -- whether the reader has limits
   abbrev pub has_limits : BinaryReader R C g h → Bool
@@ -149,9 +144,25 @@ module _ {R C : Type 0} {g : Ghosts R} {h : CounterGhosts C} (old : BinaryReader
     pub kept : (has_limits new ≡ has_limits old)
         × (is_new old ≡ false → objects_in_file new ≡ objects_in_file old)
 
-  -- one call of `next` yields an item
-  abbrev pub GivesBinary : Option (Result Event Error) → (new : BinaryReader R C g h) → Type 0
-  GivesBinary item new = GivesBinaryBy event_of admitted_by has_limits item new
+  -- the state after a call: a reader ends with an error or `None`, and one that has ended yields
+  -- nothing and doesn't call its source
+  pub record EndsBinary (item : Option (Result Event Error)) (new : BinaryReader R C g h) : Type 0
+    where
+      pub ended : HasEndedBinary old → item ≡ None
+      pub unasked : HasEndedBinary old → binary_source new ≡ binary_source old
+      pub ends : MatchOption item (HasEndedBinary new) (λ answer. OnErr answer (HasEndedBinary new))
+
+  -- what one call of `next` does
+  pub record GivesBinary (item : Option (Result Event Error)) (new : BinaryReader R C g h) : Type 0
+    where
+      -- if the bytes are known, the item is the first that remained, and the others remain
+      pub items : GivesFirstIfKnown event_of (StopsIf SomeRemain) (StopsIf (AllocatesNext (is_new old)))
+          (file_items g.known old) item (file_items g.known new)
+      -- the count of failed reads rises if the item is `Io`, and is otherwise unchanged
+      pub failures : CountsIo item (g.failures (binary_source old)) (g.failures (binary_source new))
+      pub state : EndsBinary item new
+      -- what else is true of a call
+      pub inner : GivesBinaryBy event_of admitted_by has_limits item new
 
   -- one step yields an item as `GivesBinaryBy` says; if there is one, the bound `binary_steps`
   -- falls

@@ -96,7 +96,7 @@ module _ {R : Type 0} {g : Ghosts R} (known : R → Option (List ℕ)) where
   has-source (state.Ascii reader) error new step e = cc e
   has-source (state.Limited reader) error new step e = cc e
   has-source (state.Refused source) error new step e = cc e
-  has-source state.Moved error new step e = cc (step.inside.0)
+  has-source state.Moved error new step e = cc (step.inner.inside.0)
 
   never-gives : (old : Reader R g) (error : Error) (new : Reader R g)
       → Gives known (λ _. 0) old (Some (Err error)) new → IsNotIo (kind_of (error_kind_of error))

@@ -1,5 +1,5 @@
 -- What readers under limits yield, whatever their source does.
-use Rattle.std.proofs.Common.{◌≡◌, ℕ, ◌+◌, Bool, true, false, ◌&&◌, cond, leb, List, [], ◌∷◌, Option, None, Some, Result, Ok, Err, refl, ap, sym, subst, ◌∙◌}
+use Rattle.std.proofs.Common.{◌≡◌, Bool, true, false, ◌&&◌, cond, leb, List, [], ◌∷◌, Option, None, Some, Result, Ok, Err, refl, ap, sym, subst, ◌∙◌}
 use Rattle.plist_base.specs.declared.error.Error.{Error}
 use Rattle.plist_base.specs.declared.event.Event.{Event}
 use Rattle.plist_base.specs.declared.event.EventShape.{EventShape}
@@ -9,7 +9,7 @@ use Rattle.plist_base.specs.declared.limits.Limits.{Limits}
 use Rattle.plist_base.specs.Events.{Item, PlainEvent, event_of, shape_of}
 use Rattle.plist_base.specs.Faults.{Fault, fault_of}
 use Rattle.plist_base.specs.Allowances.{RefusesEvent}
-use Rattle.plist_base.specs.Limits.{IfLimitReached, IsLimitReached, KeepsLimits, event_or_limit, level_after, limit_at, limited_from, limited_items, opens}
+use Rattle.plist_base.specs.Limits.{IfLimitReached, IsLimitReached, KeepsLimits, event_or_limit, level_after, limit_at, limited_items, opens}
 use Rattle.plist_callers.specs.LimitedItems.{IsEvent, IsLimit, IsStart}
 
 abbrev Given : Type 0

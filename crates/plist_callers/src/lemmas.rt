@@ -1,8 +1,8 @@
 //! Proved callers whose proofs cite lemmas of the libraries. They insert the pairs of lists, build
-//! values from events, write files from a value's events, write values through entries, and use
-//! `==` and its laws.
+//! values from events, also from copied ones, write files from a value's events, write values
+//! through entries, and use `==` and its laws.
 
-ghost use Rattle.std.specs.Prelude.{◌≡◌, [], IfOk, IfSome, OnOk, filter, map, option_map, string_bytes, true};
+ghost use Rattle.std.specs.Prelude.{◌≡◌, [], IfOk, IfSome, Ok, OnOk, filter, map, option_map, string_bytes, true};
 ghost use Rattle.std.specs.Map.{lookup};
 ghost use Rattle.std.specs.Str.{bytes_eq};
 ghost use Rattle.indexmap.specs.IndexMap.{insert_all};
@@ -11,18 +11,20 @@ ghost use Rattle.plist_base.specs.Trees.{Tree};
 ghost use Rattle.plist_base.specs.Unfolding.{items_of_file};
 ghost use Rattle.plist_pairs.specs.Shown.{shown_owned_pair};
 ghost use Rattle.plist_pairs.specs.TreeEquality.{same, IsTransitive, DecidesScalars, DecidesDictionaries, same_members};
+ghost use Rattle.plist_reader.specs.Reader.{items_of_input};
 ghost use Rattle.plist.specs.Collecting.{built_tree};
 ghost use Rattle.plist.specs.Dictionaries.{pairs_of};
-ghost use Rattle.plist.specs.ValueOfItems.{IsReadBack, ReadsItems};
+ghost use Rattle.plist.specs.ValueOfItems.{IsReadBack, IsValueOf, ReadsItems};
 ghost use Rattle.plist.specs.ValueTrees.{pair_trees, tree_of};
 ghost use Rattle.plist.specs.WrittenEvents.{StopsWriter};
 ghost use Rattle.plist.specs.inner.DeferredPairs.{same_values_at};
 
 use plist::dictionary::Entry;
-use plist::{Dictionary, Value, write_value};
-use plist_base::{Error, Source};
+use plist::{Builder, Dictionary, Value, write_value};
+use plist_base::{Error, Source, copy_events};
 use plist_binread::BinaryReader;
 use plist_binwrite::{FileWriter, Sharing};
+use plist_reader::Reader;
 use std::alloc::Global;
 use std::mem;
 
@@ -83,6 +85,24 @@ pub fn value_again(alloc: Global, value: &Value) -> Result<Value, Error>
     ensures memory { OnlyMemory result }
 {
     Value::from_events(alloc, value.events(alloc))
+}
+
+/// Copies the events of an input of either format to a builder, and returns the value that it has
+/// built, which is the value of the items of the input.
+///
+/// # Errors
+///
+/// Any error of the reader, of the builder's `write`, and of [`Builder::finish`].
+#[tactic(auto, using(plist::proofs::CopiedValues::copied_value))]
+pub fn value_by_copy(alloc: Global, bytes: &[u8]) -> Result<Value, Error>
+    ensures value { IfOk result (λ value.
+        IsValueOf (items_of_input bytes.now) (Ok (tree_of value))) }
+{
+    let mut reader = Reader::new(alloc, bytes);
+    let mut builder = Builder::new(alloc);
+    copy_events(&mut reader, &mut builder)?;
+    let value = builder.finish()?;
+    Ok(value)
 }
 
 /// Returns the file that a new writer writes for a value's events. `S` decides which objects are

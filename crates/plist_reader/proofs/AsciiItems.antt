@@ -219,14 +219,19 @@ module _ {R : Type 0} {g : Ghosts R} (known : R → Option (List ℕ)) (failed :
         (λ before after p. (text-remain before p.0, p.1))
         (ascii.ascii_items_to_come (stream_bytes_left known) old)
         (ascii.ascii_items_to_come (stream_bytes_left known) new) item h.items;
-    admitted = all-admitted item (ascii-faults false (ascii.place_of new) item h.kinds h.offset);
     failures = counted-failures (failed (buffered_source (ascii.device_of old)))
         (failed (buffered_source (ascii.device_of new))) item h.failures;
-    ended = h.ended;
-    ends = ascii-ends (ascii.HasEndedAscii new) item h.ends h.kinds;
-    faults = ascii-faults false (ascii.place_of new) item h.kinds h.offset;
-    limits = λ none. refl;
-    inside = h;
+    state = record {
+      ended = h.state.ended;
+      ends = ascii-ends (ascii.HasEndedAscii new) item h.state.ends h.inner.kinds;
+    };
+    inner = record {
+      admitted = all-admitted item
+          (ascii-faults false (ascii.place_of new) item h.inner.kinds h.inner.offset);
+      faults = ascii-faults false (ascii.place_of new) item h.inner.kinds h.inner.offset;
+      limits = λ none. refl;
+      inside = h;
+    };
   }
 
   -- the reader has ended
@@ -235,13 +240,14 @@ module _ {R : Type 0} {g : Ghosts R} (known : R → Option (List ℕ)) (failed :
   over-gives old over = record {
     items = none_allowed event_of (StopsIf (λ _. ⊤)) (StopsIf SomeRemain) (items_admitted old) (ascii.ascii_items_to_come (stream_bytes_left known) (iterator_of old))
         (λ items. rw over refl);
-    admitted = tt;
     failures = refl;
-    ended = λ _. refl;
-    ends = over;
-    faults = tt;
-    limits = λ none. none;
-    inside = rw over (refl, refl);
+    state = record { ended = λ _. refl; ends = over };
+    inner = record {
+      admitted = tt;
+      faults = tt;
+      limits = λ none. none;
+      inside = rw over (refl, refl);
+    };
   }
 
   pub limited-gives : (old new : LimitedItems (AsciiReaderOf R) LimitCounter) (item : Given)
@@ -255,7 +261,7 @@ module _ {R : Type 0} {g : Ghosts R} (known : R → Option (List ℕ)) (failed :
           → StateGives {R = R} {g = g} known failed (state.Limited old) item (state.Limited new)
       by true over (none, same) = rw (same, none) (over-gives old over)
       by false going (asked, gave, passes) =
-          let inner = ascii-gives old.inner new.inner asked gave in
+          let given = ascii-gives old.inner new.inner asked gave in
           record {
             items = first_allowed_if_known limited_by IsLimitReached (StopsIf (λ _. ⊤))
                 (StopsIf SomeRemain) (StopsIf (λ _. ⊤)) (StopsIf SomeRemain) (λ limiter. refl)
@@ -264,18 +270,24 @@ module _ {R : Type 0} {g : Ghosts R} (known : R → Option (List ℕ)) (failed :
                 (λ fault. (one-remain {A = Item} (Err fault) [], refl)) old.limiter new.limiter old.ended new.ended
                 (ascii.ascii_items_to_come (stream_bytes_left known) old.inner)
                 (ascii.ascii_items_to_come (stream_bytes_left known) new.inner) asked
-                item going inner.items passes;
-            admitted = passes-admitted old.ended new.ended old.limiter new.limiter asked item going
-                (ascii-faults false (ascii.place_of new.inner) asked gave.kinds gave.offset) passes;
+                item going given.items passes;
             failures = passes-count new.ended old.limiter new.limiter asked item
                 (failed (buffered_source (ascii.device_of old.inner)))
-                (failed (buffered_source (ascii.device_of new.inner))) inner.failures passes;
-            ended = λ over. (let no : false ≡ true → item ≡ None = λ q. cc in no (cc));
-            ends = passes-ends new.ended old.limiter new.limiter asked item passes;
-            faults = passes-faults new.ended old.limiter new.limiter asked item
-                (ascii-faults true (ascii.place_of new.inner) asked gave.kinds gave.offset) passes;
-            limits = λ none. none;
-            inside = h;
+                (failed (buffered_source (ascii.device_of new.inner))) given.failures passes;
+            state = record {
+              ended = λ over. (let no : false ≡ true → item ≡ None = λ q. cc in no (cc));
+              ends = passes-ends new.ended old.limiter new.limiter asked item passes;
+            };
+            inner = record {
+              admitted = passes-admitted old.ended new.ended old.limiter new.limiter asked item
+                  going (ascii-faults false (ascii.place_of new.inner) asked gave.inner.kinds
+                  gave.inner.offset) passes;
+              faults = passes-faults new.ended old.limiter new.limiter asked item
+                  (ascii-faults true (ascii.place_of new.inner) asked gave.inner.kinds
+                  gave.inner.offset) passes;
+              limits = λ none. none;
+              inside = h;
+            };
           }
 
   pub begun-ascii : (source : R) (dialect : Dialect) (sequence : BufferedSource R) (old new : AsciiReaderOf R) (item : Given)

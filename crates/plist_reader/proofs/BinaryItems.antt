@@ -1,9 +1,9 @@
 -- What the reader of the binary format yields as the chosen one.
 use Rattle.std.proofs.Common.{◌≡◌, ℕ, ◌^◌, Bool, true, false, List, [], ◌∷◌, Option, None, Some, Ok, Err, IfSome, OnErr, MatchOption, inr, ap, ◌∙◌, subst}
-use Rattle.std.specs.Option.{is_some}
+use Rattle.std.specs.Option.{is_some, option_map}
 use Rattle.plist_base.specs.declared.source.Source.{Ghosts}
 use Rattle.plist_base.specs.Events.{Item, event_of}
-use Rattle.plist_base.proofs.FirstItems.{first_of_known, first_weaker}
+use Rattle.plist_base.proofs.FirstItems.{first_weaker_if_known}
 use Rattle.plist_base.specs.FirstItems.{StopsIf}
 use Rattle.std.specs.Prelude.{⊤}
 use Rattle.std.proofs.lemmas.Option.{IfSome_then}
@@ -77,44 +77,37 @@ module _ {R : Type 0} {g : Ghosts R} where
   pub binary-gives : (old new : BinaryReaderOf R g) (item : Given) → binary.GivesBinary old item new
       → StateGives g.known g.failures (state.Binary old) item (state.Binary new)
   binary-gives old new item h = record {
-    items = first_of_known event_of (StopsIf (λ _. ⊤)) (StopsIf SomeRemain)
-        (g.known (binary.binary_source old))
-        (g.known (binary.binary_source new)) (λ bytes. binary.items_to_come bytes old)
-        (λ bytes. binary.items_to_come bytes new) item h.unchanged
-        (IfSome_then (g.known (binary.binary_source old)) h.items (λ bytes gives.
-        first_weaker event_of (StopsIf SomeRemain) (StopsIf (AllocatesNext (binary.is_new old)))
-        (StopsIf (λ _. ⊤)) (StopsIf SomeRemain) (λ before after p. (tt, p.1))
+    items = first_weaker_if_known event_of (StopsIf SomeRemain)
+        (StopsIf (AllocatesNext (binary.is_new old))) (StopsIf (λ _. ⊤)) (StopsIf SomeRemain)
+        (λ before after p. (tt, p.1))
         (λ before after p. (either-remain (binary.is_new old) before p.0, p.1))
-        (binary.items_to_come bytes old) (binary.items_to_come bytes new) item gives));
-    admitted = h.admitted;
+        (binary.file_items g.known old) (binary.file_items g.known new) item h.items;
     failures = h.failures;
-    ended = h.ended;
-    ends = over-ends (binary.HasEndedBinary new) item h.ends;
-    faults = binary-faults (binary.has_limits old) item h.faults;
-    limits = λ none. h.kept.0 ∙ none;
-    inside = h;
+    state = record {
+      ended = h.state.ended;
+      ends = over-ends (binary.HasEndedBinary new) item h.state.ends;
+    };
+    inner = record {
+      admitted = h.inner.admitted;
+      faults = binary-faults (binary.has_limits old) item h.inner.faults;
+      limits = λ none. h.inner.kept.0 ∙ none;
+      inside = h;
+    };
   }
-
-  binary-items : (limits : Option Limits) (dialect : Dialect) (k : Option (List ℕ)) (reader : BinaryReaderOf R g)
-      → IfSome k (λ bytes. format.Binary ≡ format_of bytes)
-      → IfSome k (λ bytes. binary.items_to_come bytes reader ≡ items_within limits (items_of_file bytes))
-      → IfSome k (λ bytes. binary.items_to_come bytes reader ≡ input_within dialect limits bytes)
-  binary-items limits dialect None reader is h = tt
-  binary-items limits dialect (Some bytes) reader is h = h ∙ file-input limits dialect bytes is
 
   pub begun-binary : (source : R) (limits : Option Limits) (dialect : Dialect) (old new : BinaryReaderOf R g) (item : Given)
       → binary.binary_source old ≡ source → binary.is_new old ≡ true
       → binary.has_limits old ≡ is_some limits
       → IfSome (g.known source) (λ bytes. format.Binary ≡ format_of bytes)
-      → IfSome (g.known source) (λ bytes. binary.items_to_come bytes old ≡ items_within limits (items_of_file bytes))
+      → binary.file_items g.known old
+      ≡ option_map (λ bytes. items_within limits (items_of_file bytes)) (g.known source)
       → binary.admitted_by old ≡ items_within limits
       → binary.GivesBinary old item new
       → StateGives g.known g.failures (state.Unread source limits dialect) item (state.Binary new)
   begun-binary source limits dialect old new item at fresh limited is begins admits h =
       chosen-gives {g = g} g.known g.failures source limits dialect (state.Binary old) (state.Binary new) item
-      (same-items (g.known source) (g.known (binary.binary_source old))
-      (λ bytes. binary.items_to_come bytes old)
-      (input_within dialect limits) (ap g.known at) (binary-items limits dialect (g.known source) old is begins))
+      (begins ∙ same-items (g.known source) _ (input_within dialect limits)
+      (IfSome_then (g.known source) is (λ bytes is. file-input limits dialect bytes is)))
       limited admits
       (subst (λ n. CountsIo item n (g.failures (binary.binary_source new)))
       (ap g.failures at) h.failures)

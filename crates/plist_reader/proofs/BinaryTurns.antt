@@ -16,6 +16,7 @@ use Rattle.plist_base.specs.Trees.{Boolean, Data, Date, Integer, Real, String, U
 use Rattle.plist_base.specs.Visits.{Flow, HandsOver, HandsOverAll, PlainItem, TakesTurn, Visits, YieldsPlain, last_turn}
 use Rattle.plist_base.proofs.Visits.{kept_by_visit}
 use Rattle.plist_binread.specs.BinaryReader.{GivesBinary, Steps}
+use Rattle.plist_binread.proofs.ReaderCalls.{gives_binary}
 use Rattle.plist_binread.specs.Handovers.{PassesOn}
 use Rattle.plist_binread.specs.declared.visitors.Relay.{Relay}
 use Rattle.plist_reader.specs.declared.reader.Reader.{Reader}
@@ -64,7 +65,7 @@ module _ {R : Type 0} {g : Ghosts R} where
   -- an event that a step yields is one that `next` can return
   gives_event : (from to : BinaryReaderOf R g) (handed : Event)
       → Steps from (Some (Ok (event_of handed))) to → GivesBinary from (Some (Ok handed)) to
-  gives_event from to handed step = let gives = step.gives in record {
+  gives_event from to handed step = let gives = step.gives in gives_binary from _ to (record {
     unchanged = gives.unchanged;
     items = gives.items;
     admitted = gives.admitted;
@@ -79,11 +80,11 @@ module _ {R : Type 0} {g : Ghosts R} where
     leaves = gives.leaves;
     objects = gives.objects;
     kept = gives.kept;
-  }
+  })
 
   gives_error : (from to : BinaryReaderOf R g) (error : Error) → Steps from (Some (Err error)) to
       → GivesBinary from (Some (Err error)) to
-  gives_error from to error step = let gives = step.gives in record {
+  gives_error from to error step = let gives = step.gives in gives_binary from _ to (record {
     unchanged = gives.unchanged;
     items = gives.items;
     admitted = gives.admitted;
@@ -98,10 +99,10 @@ module _ {R : Type 0} {g : Ghosts R} where
     leaves = gives.leaves;
     objects = gives.objects;
     kept = gives.kept;
-  }
+  })
 
   gives_none : (from to : BinaryReaderOf R g) → Steps from None to → GivesBinary from None to
-  gives_none from to step = let gives = step.gives in record {
+  gives_none from to step = let gives = step.gives in gives_binary from None to (record {
     unchanged = gives.unchanged;
     items = gives.items;
     admitted = gives.admitted;
@@ -116,7 +117,7 @@ module _ {R : Type 0} {g : Ghosts R} where
     leaves = gives.leaves;
     objects = gives.objects;
     kept = gives.kept;
-  }
+  })
 
 module _ {R : Type 0} {g : Ghosts R} (alloc : Global) where
   -- the reader that has chosen this one

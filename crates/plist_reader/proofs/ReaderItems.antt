@@ -70,11 +70,11 @@ refused-limit (LimitReached limit) P (inl xml) = absurd (cc)
 refused-limit (LimitReached limit) P (inr io) = absurd io
 refused-limit kind P refused = tt
 
--- two functions that agree on known bytes yield the same items that remain before the first call
-pub same-items : (k l : Option (List ℕ)) (f g : List ℕ → List Item) → l ≡ k
-    → IfSome k (λ bytes. f bytes ≡ g bytes) → option_map f l ≡ option_map g k
-same-items None l f g e h = rw e refl
-same-items (Some bytes) l f g e h = rw e (ap Some h)
+-- two functions that agree on known bytes yield the same items
+pub same-items : (k : Option (List ℕ)) (f g : List ℕ → List Item)
+    → IfSome k (λ bytes. f bytes ≡ g bytes) → option_map f k ≡ option_map g k
+same-items None f g h = refl
+same-items (Some bytes) f g h = ap Some h
 
 xml-other : (kind : FaultKind) (X Y Z : Type 0) → kind ≡ XmlUnsupported → Z → MatchFault kind X Y Z
 xml-other kind X Y Z is z = rw is z
@@ -136,13 +136,15 @@ module _ {R : Type 0} {g : Ghosts R} (known : R → Option (List ℕ)) (failed :
       → StateGives known failed (state.Unread source limits dialect) item new
   chosen-gives source limits dialect old new item same limited admits count inside h = record {
     items = subst (λ o. FirstIfKnown o item (state_items known new)) same h.items;
-    admitted = subst (λ lets. KeepsLimits event_of lets item (admitted_in new)) admits h.admitted;
     failures = count;
-    ended = λ e. absurd e;
-    ends = h.ends;
-    faults = subst (λ b. IsReaderItem b item) limited h.faults;
-    limits = λ none. h.limits (limited ∙ none);
-    inside = inside;
+    state = record { ended = λ e. absurd e; ends = h.state.ends };
+    inner = record {
+      admitted = subst (λ lets. KeepsLimits event_of lets item (admitted_in new)) admits
+          h.inner.admitted;
+      faults = subst (λ b. IsReaderItem b item) limited h.inner.faults;
+      limits = λ none. h.inner.limits (limited ∙ none);
+      inside = inside;
+    };
   }
 
   -- a reader of a source is one of each source with the same bytes and the same count of failures
@@ -167,7 +169,7 @@ module _ {R : Type 0} {g : Ghosts R} (known : R → Option (List ℕ)) (failed :
   other-source source other limits dialect new item e f h =
       chosen-gives source limits dialect (state.Unread other limits dialect) new item
       (ap (option_map (input_within dialect limits)) e) refl refl (is-kept (source_in new) h.failures)
-      (begun-other source other limits dialect new item e f h.inside) h
+      (begun-other source other limits dialect new item e f h.inner.inside) h
     where
       is-kept : (kept : Option R) → HoldsSource failed (Some other) item kept
           → HoldsSource failed (Some source) item kept
@@ -184,13 +186,14 @@ module _ {R : Type 0} {g : Ghosts R} (known : R → Option (List ℕ)) (failed :
       (state.Refused other)
   refused-gives source other limits dialect error items kind count fault = record {
     items = empty (known source) items;
-    admitted = refused-limit (kind_of (error_kind_of error)) _ kind;
     failures = count;
-    ended = λ e. absurd e;
-    ends = inr tt;
-    faults = fault;
-    limits = λ none. refl;
-    inside = kind;
+    state = record { ended = λ e. absurd e; ends = inr tt };
+    inner = record {
+      admitted = refused-limit (kind_of (error_kind_of error)) _ kind;
+      faults = fault;
+      limits = λ none. refl;
+      inside = kind;
+    };
   }
     where
       empty : (k : Option (List ℕ))

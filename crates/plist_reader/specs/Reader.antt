@@ -82,8 +82,7 @@ module _ {R : Type 0} {g : Ghosts R} (known : R → Option (List ℕ)) where
   abbrev pub state_items : State R g → Option (List Item)
   state_items (state.Unread source limits dialect) =
       option_map (λ bytes. items_within limits (items_of_dialect dialect bytes)) (known source)
-  state_items (state.Binary reader) =
-      option_map (λ bytes. binary.items_to_come bytes reader) (known (binary.binary_source reader))
+  state_items (state.Binary reader) = binary.file_items known reader
   state_items (state.Ascii reader) = ascii.ascii_items_to_come (stream_bytes_left known) reader
   state_items (state.Limited reader) = option_map (items_admitted reader)
       (ascii.ascii_items_to_come (stream_bytes_left known) (iterator_of reader))
@@ -173,6 +172,14 @@ abbrev pub IsAsBefore : {R : Type 0} (known : R → Option (List ℕ)) (failed :
     → (before source : R) → Type 0
 IsAsBefore known failed before source = (known source ≡ known before) × (failed source ≡ failed before)
 
+-- the state after a call: a reader ends with `None`, and with a fault that the bytes of ASCII can't
+-- have; one that has ended yields nothing
+pub record EndsState {R : Type 0} {g : Ghosts R} (old : State R g)
+    (item : Option (Result Event Error)) (new : State R g) : Type 0 where
+  pub ended : HasEndedState old → item ≡ None
+  pub ends : let over = HasEndedState new in
+      MatchOption item over (λ answer. IfFault answer (λ fault. IsFaultOfBytes fault.kind ⊎ over))
+
 module _ {R : Type 0} {g : Ghosts R} (known : R → Option (List ℕ)) (failed : R → ℕ) where
   -- The first item of a source, under limits if there are any, and in a dialect, is that of a new
   -- reader of the source, or a fault because no reader was chosen.
@@ -205,25 +212,28 @@ module _ {R : Type 0} {g : Ghosts R} (known : R → Option (List ℕ)) (failed :
       GivesLimited (AsciiGives known failed) old item new
   GivesInside old item new = (item ≡ None) × (new ≡ old)
 
-  -- one call of `next`, as it changes the state
-  pub record StateGives (old : State R g) (item : Option (Result Event Error)) (new : State R g)
+  -- what else is true of a call: the item is that of the chosen reader, within the limits
+  pub record ComesFromInside (old : State R g) (item : Option (Result Event Error)) (new : State R g)
       : Type 0 where
-    -- the item is the first that remained, and the others remain; no item remains after `None`, `Io`
-    -- and `OutOfMemory`, and `OutOfMemory` is yielded only if an item remained
-    pub items : GivesFirstIfKnown event_of (StopsIf (λ _. ⊤)) (StopsIf SomeRemain)
-        (state_items known old) item (state_items known new)
     -- an event is one that the limits admit, and `LimitReached` replaces one that they don't admit
     pub admitted : KeepsLimits event_of (admitted_in old) item (admitted_in new)
-    -- the source is kept, and its count of failures rises if the item is `Io`, and else is unchanged
-    pub failures : IfSome (source_in old) (λ source. IsSomeAnd (source_in new)
-        (λ kept. CountsIo item (failed source) (failed kept)))
-    pub ended : HasEndedState old → item ≡ None
-    -- the reader has ended after `None`, and after a fault that the bytes of ASCII can't have
-    pub ends : let over = HasEndedState new in
-        MatchOption item over (λ answer. IfFault answer (λ fault. IsFaultOfBytes fault.kind ⊎ over))
     pub faults : IfSome item (λ answer. IfFault answer (IsReaderFault (is_limited_in old)))
     pub limits : is_limited_in old ≡ false → is_limited_in new ≡ false
     pub inside : GivesInside old item new
+
+  -- what one call of `next` does, as it changes the state
+  pub record StateGives (old : State R g) (item : Option (Result Event Error)) (new : State R g)
+      : Type 0 where
+    -- If the bytes are known, the item is the first that remained, and the others remain. No item
+    -- remains after `None`, `Io` and `OutOfMemory`, and `OutOfMemory` is yielded only if an item
+    -- remained.
+    pub items : GivesFirstIfKnown event_of (StopsIf (λ _. ⊤)) (StopsIf SomeRemain)
+        (state_items known old) item (state_items known new)
+    -- the source is kept, and its count of failures rises if the item is `Io`, and else is unchanged
+    pub failures : IfSome (source_in old) (λ source. IsSomeAnd (source_in new)
+        (λ kept. CountsIo item (failed source) (failed kept)))
+    pub state : EndsState old item new
+    pub inner : ComesFromInside old item new
 
   -- one call of `next`, as it changes the reader
   abbrev pub Gives : (old : Reader R g) → Option (Result Event Error) → (new : Reader R g) → Type 0

@@ -1,9 +1,9 @@
 //! The reader of property lists of either format.
 
 ghost use Rattle.std.specs.Prelude.{◌≡◌, ◌<◌, IfSome, Some, true};
-ghost use Rattle.std.specs.Option.{is_some};
+ghost use Rattle.std.specs.Option.{is_some, option_map};
 ghost use Rattle.plist_base.specs.Limits.{items_within};
-ghost use Rattle.plist_binread.specs.BinaryReader.{WillGive, admitted_by, has_limits as is_limited_file, is_new, binary_source as source_of_file};
+ghost use Rattle.plist_binread.specs.BinaryReader.{admitted_by, file_items, has_limits as is_limited_file, is_new, binary_source as source_of_file};
 ghost use Rattle.plist_base.specs.Unfolding.{items_of_file};
 ghost use Rattle.plist_decode.specs.Formats.{format_of};
 ghost use Rattle.plist_reader.specs.Reader.{StateGives, all_steps, steps_in_state};
@@ -37,8 +37,8 @@ pub(crate) enum State<R: Source> {
 
 // Makes the reader of a binary source.
 fn binary_reader<R: Source>(alloc: Global, source: R, limits: Option<Limits>) -> BinaryReader<R>
-    ensures items { WillGive (R.known source)
-        (λ bytes. items_within limits (items_of_file bytes)) result }
+    ensures items { file_items R.known result
+        ≡ option_map (λ bytes. items_within limits (items_of_file bytes)) (R.known source) }
     ensures limits { admitted_by result ≡ items_within limits }
     ensures source { source_of_file result ≡ source }
     ensures new { is_new result ≡ true }
@@ -145,7 +145,6 @@ pub struct Reader<R: Source> {
 
 impl<R: Source> Reader<R> {
     ghost use Rattle.std.specs.Prelude.{◌≡◌, Option, true, false};
-    ghost use Rattle.std.specs.Option.{option_map};
     ghost use Rattle.plist_base.specs.Limits.{limited_items};
     ghost use Rattle.plist_reader.specs.Reader.{Gives, IsNewReader, IsUnread, items_of_dialect, items_of_input, reader_is_limited, reader_items, reader_objects, reader_source, steps_in_state};
 

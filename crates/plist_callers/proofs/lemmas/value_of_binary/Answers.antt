@@ -8,7 +8,7 @@ returns g c =
     let (iter, is, seen) = c.from_events.ensures.shown in
     record {
       value = of-binary g.R.Source.known c.args.source iter c.new.result
-          (built_tree c.from_events.result) is c.new.ensures.source c.new.ensures.items
+          (built_tree c.from_events.result) is c.new.ensures.items
           (seen (file_items g.R.Source.known)
           (λ old item new gives. binary-shows old new item gives));
     }

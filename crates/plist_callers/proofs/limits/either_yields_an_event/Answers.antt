@@ -6,4 +6,4 @@ use Rattle.plist_callers.proofs.limits.either_yields_an_event.Goals as goal
 pub returns : goal.returns
 returns g c =
     no_event (record { depth = c.args.depth; items = 0 }) _ _ c.next.result _ refl (ap admitted_in c.with_limits-reader.ensures.new)
-    c.next.ensures.steps.admitted c.is_event.ensures
+    c.next.ensures.steps.inner.admitted c.is_event.ensures

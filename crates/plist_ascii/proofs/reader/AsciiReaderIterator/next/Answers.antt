@@ -22,17 +22,21 @@ returns-then-has_ended-clause-steps g c =
     } in
     record {
       items = items_come refl takes;
-      takes = bytes_taken takes;
-      dialect = refl;
-      rises = search rules;
-      kinds = search rules;
-      offset = search rules;
-      brackets = search rules;
-      quotes = search rules;
       failures = search rules;
-      ended = search rules;
-      unasked = search rules;
-      ends = search rules;
+      state = record {
+        ended = search rules;
+        unasked = search rules;
+        ends = search rules;
+      };
+      inner = record {
+        takes = bytes_taken takes;
+        dialect = refl;
+        rises = search rules;
+        kinds = search rules;
+        offset = search rules;
+        brackets = search rules;
+        quotes = search rules;
+      };
     }
 
 pub tokens-preserved : goal.tokens-preserved
@@ -65,25 +69,29 @@ returns-in-Ok-Some-token_by-clause-steps g c =
     } in
     record {
       items = items_come c.tokens.invariant.dialect takes;
-      takes = bytes_taken takes;
-      dialect = c.tokens.invariant.dialect;
-      rises = (
-        omega (arith, c.tokens.invariant.since.rises, rises, a.0),
-        omega (arith, c.tokens.invariant.since.rises, rises, a.0),
-      );
-      kinds = rw c.in-Ok-Some-token_by.field-0-is at c.in-Ok-Some-token_by.ensures.kinds;
-      offset = tt;
-      brackets = (rw c.in-Ok-Some-token_by.field-0-is at c.in-Ok-Some-token_by.ensures.brackets) none;
-      quotes = λ xs e first.
-          let i = c.tokens.invariant.since.goes xs e in
-          let t = past i.0 i.1 in
-          let k = a.1 t.0 t.2 in
-          c.in-Ok-Some-token_by.ensures.quotes (going_quoted (going_blanks i.2) t.1 t.3 k.2 k.0 first);
       failures = c.in-Ok-Some-token_by.ensures.failures ∙ c.in-Ok-Some.ensures.failures
           ∙ c.tokens.invariant.since.counts;
-      ended = search rules;
-      unasked = search rules;
-      ends = tt;
+      state = record {
+        ended = search rules;
+        unasked = search rules;
+        ends = tt;
+      };
+      inner = record {
+        takes = bytes_taken takes;
+        dialect = c.tokens.invariant.dialect;
+        rises = (
+          omega (arith, c.tokens.invariant.since.rises, rises, a.0),
+          omega (arith, c.tokens.invariant.since.rises, rises, a.0),
+        );
+        kinds = rw c.in-Ok-Some-token_by.field-0-is at c.in-Ok-Some-token_by.ensures.kinds;
+        offset = tt;
+        brackets = (rw c.in-Ok-Some-token_by.field-0-is at c.in-Ok-Some-token_by.ensures.brackets) none;
+        quotes = λ xs e first.
+            let i = c.tokens.invariant.since.goes xs e in
+            let t = past i.0 i.1 in
+            let k = a.1 t.0 t.2 in
+            c.in-Ok-Some-token_by.ensures.quotes (going_quoted (going_blanks i.2) t.1 t.3 k.2 k.0 first);
+      };
     }
 
 pub returns-in-Ok-None-clause-steps : goal.returns-in-Ok-None-clause-steps
@@ -99,20 +107,24 @@ returns-in-Ok-None-clause-steps g c =
     } in
     record {
       items = items_come c.tokens.invariant.dialect takes;
-      takes = bytes_taken takes;
-      dialect = c.tokens.invariant.dialect;
-      rises = (
-        omega (arith, c.tokens.invariant.since.rises, c.in-Ok-None.ensures.place, c.end.ensures.place),
-        tt,
-      );
-      kinds = tt;
-      offset = tt;
-      brackets = tt;
-      quotes = λ xs e. tt;
       failures = search rules;
-      ended = λ _. refl;
-      unasked = search rules;
-      ends = c.end.ensures.ended;
+      state = record {
+        ended = λ _. refl;
+        unasked = search rules;
+        ends = c.end.ensures.ended;
+      };
+      inner = record {
+        takes = bytes_taken takes;
+        dialect = c.tokens.invariant.dialect;
+        rises = (
+          omega (arith, c.tokens.invariant.since.rises, c.in-Ok-None.ensures.place, c.end.ensures.place),
+          tt,
+        );
+        kinds = tt;
+        offset = tt;
+        brackets = tt;
+        quotes = λ xs e. tt;
+      };
     }
 
 pub returns-in-Err-token_by-clause-steps : goal.returns-in-Err-token_by-clause-steps
@@ -137,26 +149,30 @@ returns-in-Err-token_by-clause-steps g c =
     } in
     record {
       items = items_come c.tokens.invariant.dialect takes;
-      takes = bytes_taken takes;
-      dialect = c.tokens.invariant.dialect;
-      rises = (
-        omega (arith, less),
-        MatchFault-all _ tt tt less,
-      );
-      kinds = fault_kind fault _ (fault_of c.error.result) c.error.ensures.error;
-      offset = fault_place fault _ (fault_of c.error.result) c.error.ensures.error _
-          c.error.ensures.place;
-      brackets = tt;
-      quotes = λ xs e. tt;
       failures = fault_counts g.R.ByteReader.failures c.take_past.new.self c.token_by.new.self fault _
           (fault_of c.error.result) _ _ c.error.ensures.error c.in-Err-token_by.ensures.failures
           (c.in-Ok-Some.ensures.failures ∙ c.tokens.invariant.since.counts)
           (ap g.R.ByteReader.failures c.error.ensures.inner);
-      ended = search rules;
-      unasked = search rules;
-      ends = by_fault fault _ (fault_of c.error.result) c.error.ensures.error
-          (λ io. (rw io at c.error.ensures.ends).0)
-          (λ memory. (rw memory at c.error.ensures.ends).0) tt;
+      state = record {
+        ended = search rules;
+        unasked = search rules;
+        ends = by_fault fault _ (fault_of c.error.result) c.error.ensures.error
+            (λ io. (rw io at c.error.ensures.ends).0)
+            (λ memory. (rw memory at c.error.ensures.ends).0) tt;
+      };
+      inner = record {
+        takes = bytes_taken takes;
+        dialect = c.tokens.invariant.dialect;
+        rises = (
+          omega (arith, less),
+          MatchFault-all _ tt tt less,
+        );
+        kinds = fault_kind fault _ (fault_of c.error.result) c.error.ensures.error;
+        offset = fault_place fault _ (fault_of c.error.result) c.error.ensures.error _
+            c.error.ensures.place;
+        brackets = tt;
+        quotes = λ xs e. tt;
+      };
     }
 
 pub returns-in-Err-clause-steps : goal.returns-in-Err-clause-steps
@@ -180,28 +196,32 @@ returns-in-Err-clause-steps g c =
     } in
     record {
       items = items_come c.tokens.invariant.dialect takes;
-      takes = bytes_taken takes;
-      dialect = c.tokens.invariant.dialect;
-      rises = (
-        omega (
-          arith,
-          c.tokens.invariant.since.rises,
-          c.in-Err.ensures.place,
-          c.error-in-Err.ensures.place,
-        ),
-        MatchFault-at _ Io _ _ _ io tt,
-      );
-      kinds = fault_kind fault _ (fault_of c.error-in-Err.result) error;
-      offset = fault_place fault _ (fault_of c.error-in-Err.result) error _
-          c.error-in-Err.ensures.place;
-      brackets = tt;
-      quotes = λ xs e. tt;
       failures = fault_counts g.R.ByteReader.failures c.tokens.self.input c.take_past.new.self fault _
           (fault_of c.error-in-Err.result) _ _ error c.in-Err.ensures.failures
           c.tokens.invariant.since.counts (ap g.R.ByteReader.failures c.error-in-Err.ensures.inner);
-      ended = search rules;
-      unasked = search rules;
-      ends = by_fault fault _ (fault_of c.error-in-Err.result) error
-          (λ io. (rw io at c.error-in-Err.ensures.ends).0)
-          (λ memory. (rw memory at c.error-in-Err.ensures.ends).0) tt;
+      state = record {
+        ended = search rules;
+        unasked = search rules;
+        ends = by_fault fault _ (fault_of c.error-in-Err.result) error
+            (λ io. (rw io at c.error-in-Err.ensures.ends).0)
+            (λ memory. (rw memory at c.error-in-Err.ensures.ends).0) tt;
+      };
+      inner = record {
+        takes = bytes_taken takes;
+        dialect = c.tokens.invariant.dialect;
+        rises = (
+          omega (
+            arith,
+            c.tokens.invariant.since.rises,
+            c.in-Err.ensures.place,
+            c.error-in-Err.ensures.place,
+          ),
+          MatchFault-at _ Io _ _ _ io tt,
+        );
+        kinds = fault_kind fault _ (fault_of c.error-in-Err.result) error;
+        offset = fault_place fault _ (fault_of c.error-in-Err.result) error _
+            c.error-in-Err.ensures.place;
+        brackets = tt;
+        quotes = λ xs e. tt;
+      };
     }

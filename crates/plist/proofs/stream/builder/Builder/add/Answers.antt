@@ -17,7 +17,7 @@ returns-in-Ok-clause-step c =
       carry before.unfinished.root
           before.unfinished.collections (event_of c.args.event) _ before.nested taken
           c.in-Ok.ensures,
-    )
+    ) (c.in-Ok.ensures, c.if-self.false)
 
 pub returns-in-Some-clause-step : goal.returns-in-Some-clause-step
 returns-in-Some-clause-step c = by_laws _ _ _ _ c.args.self.now.nested (
@@ -25,10 +25,10 @@ returns-in-Some-clause-step c = by_laws _ _ _ _ c.args.self.now.nested (
   refused_step (built_of c.args.self.now) (built_of c.args.self.now) (event_of c.args.event)
       (c.args.self.now ≡ c.args.self.now) (kind_of_add_error c.in-Some.rejection)
       (sym c.in-Some.ensures) c.if-self.false refl,
-)
+) tt
 
 pub returns-in-Err-clause-step : goal.returns-in-Err-clause-step
 returns-in-Err-clause-step c = by_laws _ _ _ _ c.args.self.now.nested (
   refl,
   (c.if-self.false, sym c.in-None.ensures, refl),
-)
+) tt
