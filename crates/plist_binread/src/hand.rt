@@ -1,6 +1,6 @@
 //! Hands decoded objects to a visitor.
 
-ghost use Rattle.std.specs.Prelude.{◌≡◌, ℕ, List, Some, false, true, OnOk};
+ghost use Rattle.std.specs.Prelude.{◌≡◌, ℕ, List, Some, false, OnOk};
 ghost use Rattle.plist_base.specs.Object.{Scalar, date, text, wide_text};
 ghost use Rattle.plist_base.specs.Packing.{content_bytes};
 ghost use Rattle.plist_decode.specs.CountedContent.{AreUnits, content_means, unit_size};

@@ -26,6 +26,8 @@ pub struct Tokens {
     // The tokens by the numbers of the objects, or 0 where there is none. The list is empty until the
     // first token is stored.
     list: Vec<u32>,
+    // Whether memory for the tokens was requested. If the allocation fails, it isn't tried again.
+    is_made: bool,
 }
 
 impl Tokens {
@@ -38,6 +40,7 @@ impl Tokens {
     {
         Tokens {
             list: Vec::new(alloc),
+            is_made: false,
         }
     }
 
@@ -64,7 +67,7 @@ impl Tokens {
         if token == 0 {
             return;
         }
-        if self.list.is_empty() {
+        if !self.is_made {
             self.make_room(walk);
         }
         if number < self.list.len() as u64 {
@@ -91,6 +94,7 @@ impl Tokens {
         ensures { (number : ℕ) → 0 < stored_token self.new number
             → stored_token self.new number ≡ stored_token self.old number }
     {
+        self.is_made = true;
         let made = vec![in *self.list.allocator(); 0u32; walk.tags.len()];
         if let Ok(list) = made {
             self.list = list;
