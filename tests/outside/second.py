@@ -451,7 +451,7 @@ def file_of(value, writing=Writing):
     """Returns the binary property list of a value."""
     plan = writing(value)
     width = least_width(plan.count - 1)
-    places, file = [0] * plan.count, MAGIC
+    places, file = [0] * plan.count, bytearray(MAGIC)
     for number_of_one, one in plan.order:
         places[number_of_one] = len(file)
         if isinstance(one[0], (list, dict)):
@@ -463,7 +463,8 @@ def file_of(value, writing=Writing):
     table = len(file)
     offset_width = least_width(table)
     file += b"".join(place.to_bytes(offset_width, "big") for place in places)
-    return file + bytes(6) + bytes([offset_width, width]) + struct.pack(">QQQ", plan.count, 0, table)
+    file += bytes(6) + bytes([offset_width, width]) + struct.pack(">QQQ", plan.count, 0, table)
+    return bytes(file)
 
 
 # ---- the lines of print
