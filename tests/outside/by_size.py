@@ -6,16 +6,23 @@ No contract says that a call which allocates succeeds, so a body that returns `O
 large is proved. Here nothing fails: each file must be read as the value from which second.py wrote it, by
 `loads` and by `events`, in the binary form and in the ASCII form; and each value must be written as the
 bytes of second.py. No two collections in a value are equal, so with `share` the same bytes are written.
+`plist_tool keyed` prints the trees of keyed archives with strings, arrays and levels of these sizes.
 
 Usage: by_size.py [SIZE ..]
 
-Needs what python_package.py needs. The status is 1 if a value, an event or a file differs.
+Needs what python_package.py needs, and the built `plist_tool`. The status is 1 if a value, an event, a file
+or a line differs.
 """
+import pathlib
+import plistlib
+import subprocess
 import sys
+import tempfile
 
 import python_package
 import second
 
+PROGRAM = pathlib.Path(__file__).resolve().parents[2] / "crates/plist_tool/out/plist_tool"
 SIZES = (0, 1, 65_536, 65_537, 1_000_000)
 NO_LIMITS = {"max_depth": None, "max_events": None, "max_bytes": None}
 
@@ -42,6 +49,18 @@ VALUES = {
     "an array of one long string": (lambda size: ["one and the same string"] * size, True),
     "a dictionary": (lambda size: {f"the key {number}": "value" for number in range(size)}, True),
     "levels": (nested, True),
+}
+
+
+# The objects of an archive after "$null", of which the first is its root, and the events of their tree.
+ARCHIVES = {
+    "a string": lambda size: (["a" * size], [("String", b"a" * size)]),
+    "an array": lambda size: (
+        [[plistlib.UID(number + 2) for number in range(size)], *(f"object {number}" for number in range(size))],
+        [("StartArray", size), *(("String", b"object %d" % number) for number in range(size)), ("EndCollection",)]),
+    "levels": lambda size: (
+        [*([plistlib.UID(number + 2)] for number in range(size)), "inside"],
+        [*[("StartArray", 1)] * size, ("String", b"inside"), *[("EndCollection",)] * size]),
 }
 
 
@@ -143,9 +162,26 @@ def differences(sizhetom, value, in_ascii):
             yield "events of the ASCII form"
 
 
+def prints_archive(folder, objects, events):
+    """Returns whether `keyed` prints these events for an archive of these objects."""
+    file = pathlib.Path(folder) / "archive.plist"
+    file.write_bytes(plistlib.dumps(
+        {"$version": 100_000, "$archiver": "NSKeyedArchiver", "$top": {"root": plistlib.UID(1)}, "$objects": ["$null", *objects]},
+        fmt=plistlib.FMT_BINARY))
+    done = subprocess.run([PROGRAM, "keyed", file, "root"], capture_output=True)
+    wanted = "".join(second.line_of(event) + "\n" for event in events).encode()
+    return (done.returncode, done.stdout, done.stderr) == (0, wanted, b"")
+
+
 def main(words):
     sizhetom, status, count = python_package.build(), 0, 0
     for size in [int(word) for word in words] or SIZES:
+        for name, make in ARCHIVES.items():
+            with tempfile.TemporaryDirectory() as folder:
+                if not prints_archive(folder, *make(size)):
+                    print(f"an archive with {name}, {size:,}: keyed differs")
+                    status = 1
+            count += 1
         for name, (make, in_ascii) in VALUES.items():
             for call in differences(sizhetom, make(size), in_ascii):
                 print(f"{name}, {size:,}: {call} differs")
