@@ -5,7 +5,8 @@ The n-th call of malloc, realloc, aligned_alloc or posix_memalign fails. Then a 
 does with enough memory, or to print a prefix of its lines, report `OutOfMemory` and end with status 1;
 `convert` leaves OUT unchanged, or writes all of it. With wrong arguments nothing is printed, the usage is
 reported, and the status is 2. With enough memory, the program also reads a sparse file of more than 4 GiB,
-and property lists of 0 to 1,000,000 integers, levels and characters.
+property lists of 0 to 1,000,000 integers, levels and characters, and, in less than a second, 10^5 references
+to one string of 64 KiB.
 
 Usage: refused_memory.py      Needs a C compiler. Prints counts at the end, and has status 1 if a run does anything else.
 """
@@ -14,6 +15,7 @@ import itertools
 import os
 import pathlib
 import plistlib
+import resource
 import struct
 import subprocess
 import sys
@@ -174,6 +176,23 @@ def is_read(driver, folder, size):
     return not bad
 
 
+def reads_once(folder):
+    """Returns whether `convert` takes a string that comes again without its content.
+
+    10^5 references to a string of 64 KiB take some 0.01 s, and 2.5 s if each one is read and looked up."""
+    count, size, file = 100_000, 1 << 16, folder / "one text.plist"
+    references = struct.pack(f">BBI{count}I", 0xaf, 0x12, count, *[1] * count)
+    file.write_bytes(file_of([references, struct.pack(">BBI", 0x5f, 0x12, size) + b"a" * size]))
+    before = resource.getrusage(resource.RUSAGE_CHILDREN)
+    status = subprocess.run([PROGRAM, "convert", file, folder / "one text again.plist"]).returncode
+    after = resource.getrusage(resource.RUSAGE_CHILDREN)
+    seconds = after.ru_utime + after.ru_stime - before.ru_utime - before.ru_stime
+    if status == 0 and seconds < 1:
+        return True
+    print(f"10^5 references to a string of 64 KiB: status {status}, {seconds:.2f} s")
+    return False
+
+
 def sweep(driver, name, words, output=None):
     """Lets each allocation of a command fail in turn; `output` is the file that it writes."""
     counts = collections.Counter()
@@ -229,6 +248,7 @@ def main():
                  ["convert", SETTINGS, out, "more"], ["keyed", ARCHIVE, "root", "more"]]
         bad += sum(not is_usage(driver, words, out) for words in wrong)
         bad += not reads_far(driver, folder / "far.plist")
+        bad += not reads_once(folder)
         bad += sum(not is_read(driver, folder, size) for size in SIZES)
     return 1 if bad else 0
 
