@@ -190,8 +190,8 @@ pub trait EventVisitor {
     }
 
     /// Returns a token for the scalar that was just taken, or 0 if there is none. The token is valid
-    /// as long as the visitor takes events and returns `Continue` for each. A source that hands over
-    /// the same scalar many times spares both sides its content by [`EventVisitor::again`].
+    /// as long as the visitor takes events and returns `Continue` for each. By
+    /// [`EventVisitor::again`] a source can hand over the scalar once more without its content.
     #[inline(always)]
     fn token(&self) -> u32
         ensures { NamesLast step names result self.now }

@@ -57,7 +57,7 @@ StoresToken old number token new = (other : ℕ) → 0 < stored_token new other
     → (stored_token new other ≡ stored_token old other)
     ⊎ ((other ≡ number) × (stored_token new other ≡ token))
 
--- the same is true of a token that names the event which the visitor took last
+-- a token that names the event which the visitor took last was stored for this object, or none was
 abbrev pub StoresTokenOf : {V : Type 0} → (names_last : (token : ℕ) → V → Type 0) → (old : Tokens)
     → (number : ℕ) → V → (new : Tokens) → Type 0
 StoresTokenOf names_last old number visitor new =
