@@ -30,7 +30,7 @@ pub fits_walk : (bounds : Bounds) (place : ℕ) (d : Decoded) → FitsBefore bou
 fits_walk bounds place (decoded.Small tag content) h = h
 fits_walk bounds place (decoded.Date content) h = tt
 fits_walk bounds place (decoded.Long kind start count) h = tt
-fits_walk bounds place (decoded.Faulty fault) h = tt
+fits_walk bounds place (decoded.Faulty fault marker) h = tt
 fits_walk bounds place (decoded.Collection kind start count) h =
     let small = bounds.small in (omega (arith, h.0, small), h.1)
 

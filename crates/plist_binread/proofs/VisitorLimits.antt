@@ -1,14 +1,11 @@
 -- Which events a visitor takes within limits, or from a visitor that passes them on.
-use Rattle.std.proofs.Common.{◌≡◌, inl, inr, ℕ, List, [], ◌∷◌, Option, None, Some, Result, Ok, Err, ap, subst, sym, ◌∙◌}
+use Rattle.std.proofs.Common.{◌≡◌, inl, inr, Option, None, Some, Result, Ok, Err, ap, subst, sym, ◌∙◌}
 use Rattle.plist_base.specs.declared.error.Error.{Error}
 use Rattle.plist_base.specs.Events.{PlainEvent}
 use Rattle.plist_base.specs.Faults.{Fault, fault_of}
 use Rattle.plist_base.specs.Limits.{Refuses, RefusesAny}
 use Rattle.plist_base.specs.declared.limits.LimitCounter.{LimitCounter}
-use Rattle.plist_base.specs.Tokens.{TakesNamed}
-use Rattle.plist_base.specs.VisitedItems.{WantsAll}
 use Rattle.plist_base.specs.Visits.{Flow}
-use Rattle.std.proofs.lemmas.Option.{IfSome_then}
 use Rattle.plist_binread.specs.Handovers.{HandsItem, PassesOn, TakesIfAny, TakesWithin}
 use Rattle.plist_decode.specs.declared.step_fault.StepFault.{StepFault}
 use Rattle.plist_binread.specs.declared.visitors.Relay.{Relay}
@@ -63,25 +60,3 @@ passed_on step old new before after (Ok flow) event first last taken =
     rw (sym first, last) taken.taken
 passed_on step old new before after (Err refused) event first last same =
     last ∙ ap (λ relay. relay.visitor.now) same ∙ first
-
-module _ {V : Type 0} (step : V → PlainEvent → Flow → V → Type 0)
-    (names : V → (token : ℕ) → PlainEvent → Type 0) where
-  wants_through : (old new : Relay V) (events : List PlainEvent)
-      → WantsAll (PassesOn step) old events new
-      → WantsAll step old.visitor.now events new.visitor.now
-  wants_through old new [] same = ap (λ (relay : Relay V). relay.visitor.now) same
-  wants_through old new (event ∷ events) (next, passed, others) =
-      (next.visitor.now, passed.taken, wants_through next new events others)
-
-  -- a visitor that passes events on names those that the inner visitor names
-  pub again_through : (old new : Relay V) (token : ℕ) (answer : Option Flow)
-      → new.visitor.ghost_name ≡ old.visitor.ghost_name
-      → TakesNamed step names old.visitor.now token answer new.visitor.now
-      → TakesNamed (PassesOn step) (λ relay. names relay.visitor.now) old token answer new
-  again_through old new token answer same takes event has =
-      IfSome_then answer (takes event (record {
-        past = has.past.visitor.now;
-        events = has.events;
-        named = has.named;
-        since = wants_through has.past old has.events has.since;
-      })) (λ flow (leaf, taken). (leaf, record { same = same; taken = taken }))

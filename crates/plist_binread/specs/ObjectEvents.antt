@@ -20,7 +20,7 @@ use Rattle.plist_decode.specs.declared.head.Bounds.{Bounds}
 
 -- whether the object is faulty, so that it has no event
 abbrev pub is_refused : Decoded → Bool
-is_refused (decoded.Faulty fault) = true
+is_refused (decoded.Faulty fault marker) = true
 is_refused other = false
 
 -- the walk can store what was decoded: a packed scalar, or a collection whose number of children

@@ -16,7 +16,6 @@ ghost use Rattle.plist_decode.specs.StepFaults.{result_with};
 
 use crate::hand::{hand_bytes, hand_decoded};
 use crate::references::Reference;
-use crate::visitors::Relay;
 use crate::walk::Walk;
 use plist_base::{EventVisitor, PackedScalar, Source};
 use plist_decode::counter::DecodeCounter;
@@ -127,7 +126,7 @@ fn cache_or_open(walk: &mut Walk, number: u64, decoded: Decoded) -> bool
         Decoded::Collection(kind, start, count) => open(walk, number, kind, start, count),
         Decoded::Date(_) => true,
         Decoded::Long(..) => true,
-        Decoded::Faulty(_) => true,
+        Decoded::Faulty(..) => true,
     }
 }
 
@@ -165,8 +164,7 @@ pub fn enter_object<S: Source, C: DecodeCounter, V: EventVisitor>(
 {
     let place = match look_up(&mut decoder.details, walk, reference.at, reference.number)? {
         Known::Small(tag, content) => {
-            let mut relay = Relay::new(visitor);
-            return Ok(relay.packed(PackedScalar::from_parts(tag, content)));
+            return Ok(visitor.packed(PackedScalar::from_parts(tag, content)));
         }
         Known::At(place) => place,
     };

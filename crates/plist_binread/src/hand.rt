@@ -237,6 +237,10 @@ pub fn hand_decoded<S: Source, C: DecodeCounter, V: EventVisitor>(
             hand_far(source, decoder, place, content, visitor)
         }
         Decoded::Collection(kind, _, count) => Ok(hand_start(kind, count, visitor)),
-        Decoded::Faulty(fault) => Err(decoder.details.fail_object(fault, place)),
+        Decoded::Faulty(fault, marker) => {
+            decoder.details.fail_at(place);
+            decoder.details.marker = marker;
+            Err(fault)
+        }
     }
 }

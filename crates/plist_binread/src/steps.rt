@@ -80,8 +80,7 @@ pub fn begin<S: Source, C: DecodeCounter, V: EventVisitor>(
         at: trailer,
         number: root,
     };
-    let mut relay = Relay::new(visitor);
-    enter_object(source, decoder, walk, reference, &mut relay)
+    enter_object(source, decoder, walk, reference, &mut Relay::new(visitor))
 }
 
 impl Tokens {

@@ -13,23 +13,17 @@ use std::alloc::Global;
 use std::borrow::{CowSlice, CowStr};
 use std::ops::ControlFlow;
 
-/// Passes all events on to another visitor.
+/// Passes the first event of a file on to another visitor.
 ///
-/// The code that enters an object is compiled once for every type of visitor that it is called
-/// with. A `BinaryReader` hands the first event of a file, and every scalar that is found in the
-/// cache, to a `Relay`. It hands all other events to its visitor directly. So the code for these has
-/// only one caller, and becomes part of the loop over the events. This saves a tenth of the
-/// instructions for every event. Every method passes its event on by the method of the same name.
-/// Without those for starts, ends and dates, a `Reader`, which hands all events of a binary file but
-/// the first to a `Relay`, takes 3 % more instructions for settings. Booleans, numbers and Uids come
-/// packed.
+/// A function that has one caller becomes part of it. So the code that enters an object becomes part of
+/// the loop over the events only if no other code enters objects with the same type of visitor.
 #[derive(Drop)]
 pub struct Relay<'v, V> {
     visitor: &'v mut V,
 }
 
 impl<'v, V: EventVisitor> Relay<'v, V> {
-    /// Creates a visitor that passes events on to `visitor`.
+    /// Creates a visitor that passes an event on to `visitor`.
     pub fn new(visitor: &'v mut V) -> Relay<'v, V>
         ensures visitor { result.visitor.ghost_name ≡ visitor.entry.ghost_name }
         ensures unvisited { result.visitor.now ≡ visitor.old }
@@ -43,63 +37,10 @@ impl<'v, V: EventVisitor> EventVisitor for Relay<'v, V> {
 
     ghost step = { PassesOn V.step };
 
-    ghost names = { λ relay. V.names relay.visitor.now };
-
     fn event(&mut self, event: Event<'_>) -> ControlFlow<()> {
         self.visitor.event(event)
     }
 
-    #[inline(always)]
-    fn again(&mut self, token: u32) -> Option<ControlFlow<()>> {
-        self.visitor.again(token)
-    }
-
-    #[inline(always)]
-    fn start_array(&mut self, length: Option<u64>) -> ControlFlow<()> {
-        self.visitor.start_array(length)
-    }
-
-    #[inline(always)]
-    fn start_dictionary(&mut self, length: Option<u64>) -> ControlFlow<()> {
-        self.visitor.start_dictionary(length)
-    }
-
-    #[inline(always)]
-    fn end_collection(&mut self) -> ControlFlow<()> {
-        self.visitor.end_collection()
-    }
-
-    #[inline(always)]
-    fn ascii_string(&mut self, bytes: &[u8]) -> Option<ControlFlow<()>> {
-        self.visitor.ascii_string(bytes)
-    }
-
-    #[inline(always)]
-    fn data(&mut self, bytes: CowSlice<'_, u8>) -> ControlFlow<()> {
-        self.visitor.data(bytes)
-    }
-
-    #[inline(always)]
-    fn date(&mut self, date: Date) -> ControlFlow<()> {
-        self.visitor.date(date)
-    }
-
-    #[inline(always)]
-    fn packed(&mut self, scalar: PackedScalar) -> ControlFlow<()> {
-        self.visitor.packed(scalar)
-    }
-
-    #[inline(always)]
-    fn string(&mut self, text: CowStr<'_>) -> ControlFlow<()> {
-        self.visitor.string(text)
-    }
-
-    #[inline(always)]
-    fn token(&self) -> u32 {
-        self.visitor.token()
-    }
-
-    #[inline(always)]
     fn utf16_string(&mut self, text: Utf16Str<'_>) -> Option<ControlFlow<()>> {
         self.visitor.utf16_string(text)
     }

@@ -88,8 +88,8 @@ small_counted width bytes object (decoded.Long kind start count) is small =
     absurd (false≢true (sym is.2 ∙ small))
 small_counted width bytes object (decoded.Collection kind start count) is small =
     absurd (false≢true (sym (collection_large object _ _ is.0) ∙ small))
-small_counted width bytes object (decoded.Faulty fault) is small =
-    absurd (false≢true (sym (ap is_small_object is) ∙ small))
+small_counted width bytes object (decoded.Faulty fault marker) is small =
+    absurd (false≢true (sym (ap is_small_object is.0) ∙ small))
 
 -- ---- the bytes that were read
 
@@ -141,7 +141,7 @@ decoded_fits trailer place width all object (decoded.Long kind start count) h is
     omega (arith, h, is.0)
 decoded_fits trailer place width all object (decoded.Collection kind start count) h is =
     (omega (arith, h, is.1), is.2)
-decoded_fits trailer place width all object (decoded.Faulty fault) h is = tt
+decoded_fits trailer place width all object (decoded.Faulty fault marker) h is = is.1
 
 -- some bytes before the trailer decode to this result
 seen_as : (bounds : Bounds) (place : ℕ) (seen : List ℕ) (answer : Decoded)

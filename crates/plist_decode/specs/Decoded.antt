@@ -8,19 +8,12 @@ use Rattle.plist_decode.specs.CountedContent.{content_means, unit_size}
 use Rattle.plist_decode.specs.Decoding.{AreReferencesAt, IsCollection, IsRefusedAs, child_count, children_in, is_small_object, start_event}
 use Rattle.plist_decode.specs.Reading.{bytes_at, object_at}
 use Rattle.plist_decode.specs.FaultOffsets.{ErrWithin}
-use Rattle.plist_decode.specs.StepFaults.{object_error_kind}
+use Rattle.plist_decode.specs.StepFaults.{HasPlace, fault_kind}
 use Rattle.plist_decode.specs.declared.decoded.Content.{Content}
 use Rattle.plist_decode.specs.declared.decoded.Decoded.{Decoded}
 use Rattle.plist_decode.specs.declared.decoded.Decoded.TheVariants as decoded
-use Rattle.plist_decode.specs.declared.decoded.ObjectFault.{ObjectFault}
 use Rattle.plist_decode.specs.declared.after_marker.AfterMarker.{AfterMarker}
 use Rattle.plist_decode.specs.declared.head.Bounds.{Bounds}
-
--- ---- faults of an object
-
--- the object has this fault
-abbrev pub IsObjectFault : Object → ObjectFault → Type 0
-IsObjectFault object fault = object ≡ Faulty (kind_of (object_error_kind fault))
 
 -- ---- what is decoded
 
@@ -41,7 +34,8 @@ IsDecodedAs width bytes object (decoded.Collection kind start count) =
     IsCollection object (start_event kind count) (child_count kind count)
     × (child_count kind count ≤ length bytes) × (start < 16)
     × AreReferencesAt width bytes (children_in object) kind start
-IsDecodedAs width bytes object (decoded.Faulty fault) = IsObjectFault object fault
+IsDecodedAs width bytes object (decoded.Faulty fault marker) =
+    (object ≡ Faulty (kind_of (fault_kind fault marker))) × HasPlace fault
 
 -- the object that begins with these bytes is decoded, whatever follows them before the trailer
 abbrev pub DecodesSeen : (to_trailer width : ℕ) → (seen : List ℕ) → Decoded → Type 0
@@ -107,7 +101,7 @@ FitsBefore trailer place (decoded.Long kind start count) =
     place + start + count * unit_size kind ≤ trailer
 FitsBefore trailer place (decoded.Collection kind start count) =
     (child_count kind count ≤ trailer) × (start < 16)
-FitsBefore trailer place (decoded.Faulty fault) = ⊤
+FitsBefore trailer place (decoded.Faulty fault marker) = HasPlace fault
 
 -- ---- a content that is read
 

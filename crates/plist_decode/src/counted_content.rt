@@ -13,8 +13,9 @@ ghost use Rattle.plist_decode.specs.declared.decoded.ContentKind.TheVariants.{Da
 ghost use Rattle.plist_decode.specs.declared.decoded.Decoded.TheVariants.{Long as LongContent};
 
 use crate::after_marker::AfterMarker;
-use crate::decoded::{CollectionKind, ContentKind, Decoded, ObjectFault};
+use crate::decoded::{CollectionKind, ContentKind, Decoded};
 use crate::numbers::number_from;
+use crate::step_fault::StepFault;
 use crate::utf8::is_short_utf8;
 use crate::utf16::write_utf8;
 use plist_base::marker::LowHalf;
@@ -88,7 +89,7 @@ pub fn decode_data(low: LowHalf, rest: AfterMarker<'_>) -> Decoded
     ensures { DecodesScalar (counted_with KindData low) rest.entry result }
 {
     let Some((count, following)) = split_count(low, rest, 1) else {
-        return Decoded::Faulty(ObjectFault::Overrun);
+        return Decoded::faulty(StepFault::Overrun);
     };
     if count > 8 {
         return long_content(ContentKind::Data, rest.bytes, following, count);
@@ -130,7 +131,7 @@ fn short_text(bytes: &[u8], count: usize) -> Decoded
 {
     let content = short_content(bytes, count);
     if !is_short_utf8(&bytes[..count], content.to_be_bytes()) {
-        return Decoded::Faulty(ObjectFault::NotUtf8);
+        return Decoded::faulty(StepFault::NotUtf8);
     }
     let tag = EMPTY_TEXT + count as u8;
     Decoded::small(PackedScalar::from_parts(tag, content))
@@ -142,7 +143,7 @@ pub fn decode_text(low: LowHalf, rest: AfterMarker<'_>) -> Decoded
     ensures { DecodesScalar (counted_with KindText low) rest.entry result }
 {
     let Some((count, following)) = split_count(low, rest, 1) else {
-        return Decoded::Faulty(ObjectFault::Overrun);
+        return Decoded::faulty(StepFault::Overrun);
     };
     if count > 8 {
         return long_content(ContentKind::Text, rest.bytes, following, count);
@@ -158,7 +159,7 @@ fn short_wide_text(bytes: &[u8]) -> Option<Decoded>
         (MeansDecoded (wide_text bytes.now)) }
 {
     let Some(text) = Utf16Str::new(bytes) else {
-        return Some(Decoded::Faulty(ObjectFault::NotUtf16));
+        return Some(Decoded::faulty(StepFault::NotUtf16));
     };
     let size = text.len_utf8();
     if size > 8 {
@@ -175,7 +176,7 @@ pub fn decode_wide_text(low: LowHalf, rest: AfterMarker<'_>) -> Decoded
     ensures { DecodesScalar (counted_with KindWideText low) rest.entry result }
 {
     let Some((count, following)) = split_count(low, rest, 2) else {
-        return Decoded::Faulty(ObjectFault::Overrun);
+        return Decoded::faulty(StepFault::Overrun);
     };
     let long = long_content(ContentKind::WideText, rest.bytes, following, count);
     if count > 8 {
@@ -203,6 +204,6 @@ pub fn decode_collection(
         Some((count, following)) => {
             Decoded::Collection(kind, 1 + (rest.bytes.len() - following.len()) as u8, count)
         }
-        None => Decoded::Faulty(ObjectFault::Overrun),
+        None => Decoded::faulty(StepFault::Overrun),
     }
 }

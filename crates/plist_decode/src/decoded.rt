@@ -3,6 +3,7 @@
 ghost use Rattle.std.specs.Prelude.{◌≡◌, ◌<◌, ◌≤◌};
 ghost use Rattle.plist_decode.specs.CountedContent.{unit_size};
 
+use crate::step_fault::StepFault;
 use plist_base::PackedScalar;
 
 /// How the content of a string or data is encoded.
@@ -116,14 +117,23 @@ pub enum Decoded {
     /// A collection. The fields are its kind, the number of bytes from the object's offset to the
     /// first reference, and the number of items or pairs.
     Collection(CollectionKind, u8, u64),
-    /// An object that can't be decoded.
-    Faulty(ObjectFault),
+    /// An object that can't be decoded. The fields are the reason and the marker, which is
+    /// unspecified unless the reason is `Unknown`.
+    Faulty(StepFault, u8),
 }
 
 impl Decoded {
     ghost use Rattle.plist_base.specs.Object.{Scalar};
     ghost use Rattle.plist_base.specs.PackedScalars.{scalar_of_packed};
     ghost use Rattle.plist_decode.specs.Decoded.{MeansDecoded};
+
+    /// Returns an object that can't be decoded for this reason.
+    #[inline(always)]
+    pub(crate) fn faulty(fault: StepFault) -> Decoded
+        ensures { result ≡ Decoded.Faulty fault 0 }
+    {
+        Decoded::Faulty(fault, 0)
+    }
 
     /// Returns the scalar as a decoded object.
     #[inline(always)]
@@ -132,25 +142,4 @@ impl Decoded {
     {
         Decoded::Small(scalar.tag(), scalar.content())
     }
-}
-
-/// Why an object can't be decoded.
-#[derive(Clone, Copy)]
-pub enum ObjectFault {
-    /// The object doesn't end before the trailer.
-    Overrun,
-    /// The object is a null object.
-    Null,
-    /// The object is a fill byte.
-    Fill,
-    /// The marker, which no object has.
-    Unknown(u8),
-    /// The integer doesn't fit into a `u64`.
-    OutOfRange,
-    /// The date's real is infinite or a NaN, or its second is outside the range of dates.
-    NoDate,
-    /// The bytes of a string aren't UTF-8.
-    NotUtf8,
-    /// The units of a string aren't UTF-16.
-    NotUtf16,
 }

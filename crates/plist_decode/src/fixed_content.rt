@@ -10,8 +10,9 @@ ghost use Rattle.plist_decode.specs.Front.{IsContent, IsNumber};
 ghost use Rattle.plist_decode.specs.Reading.{short_real, long_real, uid_of_content};
 
 use crate::after_marker::AfterMarker;
-use crate::decoded::{Decoded, ObjectFault};
+use crate::decoded::Decoded;
 use crate::numbers::number_from;
+use crate::step_fault::StepFault;
 use plist_base::marker::UidWidth;
 use plist_base::{PackedScalar, RealBits, Uid};
 
@@ -48,7 +49,7 @@ pub fn decode_unsigned(rest: AfterMarker<'_>, width: usize) -> Decoded
 {
     match front_number(rest.bytes, width) {
         Some(number) => Decoded::small(PackedScalar::of_unsigned(number)),
-        None => Decoded::Faulty(ObjectFault::Overrun),
+        None => Decoded::faulty(StepFault::Overrun),
     }
 }
 
@@ -59,7 +60,7 @@ pub fn decode_signed(rest: AfterMarker<'_>) -> Decoded
 {
     match front_number(rest.bytes, 8) {
         Some(number) => Decoded::small(PackedScalar::of_signed(number.cast_signed())),
-        None => Decoded::Faulty(ObjectFault::Overrun),
+        None => Decoded::faulty(StepFault::Overrun),
     }
 }
 
@@ -71,12 +72,12 @@ pub fn decode_wide_integer(rest: AfterMarker<'_>) -> Decoded
 {
     let bytes = rest.bytes;
     if bytes.len() < 16 {
-        return Decoded::Faulty(ObjectFault::Overrun);
+        return Decoded::faulty(StepFault::Overrun);
     }
     let high = number_from(&bytes[..8]);
     let low = number_from(&bytes[8..16]);
     if high != 0 {
-        return Decoded::Faulty(ObjectFault::OutOfRange);
+        return Decoded::faulty(StepFault::OutOfRange);
     }
     Decoded::small(PackedScalar::of_unsigned(low))
 }
@@ -88,7 +89,7 @@ pub fn decode_uid(rest: AfterMarker<'_>, width: UidWidth) -> Decoded
 {
     match front_number(rest.bytes, width.get()) {
         Some(number) => Decoded::small(PackedScalar::of_uid(Uid::new(number))),
-        None => Decoded::Faulty(ObjectFault::Overrun),
+        None => Decoded::faulty(StepFault::Overrun),
     }
 }
 
@@ -98,7 +99,7 @@ pub fn decode_real(rest: AfterMarker<'_>) -> Decoded
 {
     match front_content(rest.bytes) {
         Some(bytes) => Decoded::small(PackedScalar::of_real(RealBits::Eight(bytes))),
-        None => Decoded::Faulty(ObjectFault::Overrun),
+        None => Decoded::faulty(StepFault::Overrun),
     }
 }
 
@@ -108,7 +109,7 @@ pub fn decode_short_real(rest: AfterMarker<'_>) -> Decoded
 {
     match front_content(rest.bytes) {
         Some(bytes) => Decoded::small(PackedScalar::of_real(RealBits::Four(bytes))),
-        None => Decoded::Faulty(ObjectFault::Overrun),
+        None => Decoded::faulty(StepFault::Overrun),
     }
 }
 
@@ -118,6 +119,6 @@ pub fn decode_date(rest: AfterMarker<'_>) -> Decoded
 {
     match front_content(rest.bytes) {
         Some(bytes) => Decoded::Date(u64::from_be_bytes(bytes)),
-        None => Decoded::Faulty(ObjectFault::Overrun),
+        None => Decoded::faulty(StepFault::Overrun),
     }
 }

@@ -17,7 +17,7 @@ ghost use Rattle.plist_decode.specs.StepFaults.{error_of, result_with};
 use crate::after_marker::AfterMarker;
 use crate::counted_content::{decode_collection, decode_data, decode_text, decode_wide_text};
 use crate::counter::DecodeCounter;
-use crate::decoded::{CollectionKind, Decoded, ObjectFault};
+use crate::decoded::{CollectionKind, Decoded};
 use crate::decoder::Decoder;
 use crate::fixed_content::{
     decode_date, decode_real, decode_short_real, decode_signed, decode_uid, decode_unsigned,
@@ -35,9 +35,9 @@ fn decode_after_marker(marker: u8, rest: AfterMarker<'_>, width: usize) -> Decod
     ensures { DecodesAfter width (object_with width marker) rest.entry result }
 {
     match Marker::decode(marker) {
-        Marker::Null => Decoded::Faulty(ObjectFault::Null),
+        Marker::Null => Decoded::faulty(StepFault::Null),
         Marker::Boolean(value) => Decoded::small(PackedScalar::of_boolean(value)),
-        Marker::Fill => Decoded::Faulty(ObjectFault::Fill),
+        Marker::Fill => Decoded::faulty(StepFault::Fill),
         Marker::Integer1 => decode_unsigned(rest, 1),
         Marker::Integer2 => decode_unsigned(rest, 2),
         Marker::Integer4 => decode_unsigned(rest, 4),
@@ -56,7 +56,7 @@ fn decode_after_marker(marker: u8, rest: AfterMarker<'_>, width: usize) -> Decod
             }
         },
         Marker::Uid(size) => decode_uid(rest, size),
-        Marker::Unknown(byte) => Decoded::Faulty(ObjectFault::Unknown(byte)),
+        Marker::Unknown(byte) => Decoded::Faulty(StepFault::Unknown, byte),
     }
 }
 
@@ -67,7 +67,7 @@ fn is_small(decoded: Decoded) -> bool
 {
     match decoded {
         Decoded::Small(_, _) => true,
-        Decoded::Date(_) | Decoded::Long(..) | Decoded::Collection(..) | Decoded::Faulty(_) =>
+        Decoded::Date(_) | Decoded::Long(..) | Decoded::Collection(..) | Decoded::Faulty(..) =>
             false,
     }
 }

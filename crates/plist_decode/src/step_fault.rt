@@ -1,6 +1,5 @@
 //! Says why a step of a walk failed.
 
-use crate::decoded::ObjectFault;
 use plist_base::{Error, ErrorKind};
 use std::alloc::AllocError;
 
@@ -16,7 +15,7 @@ pub enum StepFault {
     Null,
     /// The object is a fill byte.
     Fill,
-    /// The marker, which no object has.
+    /// No object has the marker.
     Unknown,
     /// The integer doesn't fit into a `u64`.
     OutOfRange,
@@ -50,7 +49,7 @@ pub struct FaultDetails {
 
 impl FaultDetails {
     ghost use Rattle.std.specs.Prelude.{◌≡◌};
-    ghost use Rattle.plist_decode.specs.StepFaults.{error_of, object_error, result_with};
+    ghost use Rattle.plist_decode.specs.StepFaults.{error_of, result_with};
 
     /// Creates the details of a walk in which no step has failed yet.
     pub fn new() -> Self {
@@ -68,28 +67,6 @@ impl FaultDetails {
         ensures { self.new.place ≡ place }
     {
         self.place = place;
-    }
-
-    /// Stores the details of an object that can't be decoded, and returns the fault.
-    #[cold]
-    #[inline(never)]
-    pub fn fail_object(&mut self, fault: ObjectFault, place: u64) -> StepFault
-        ensures { error_of result self.new ≡ object_error fault place }
-    {
-        self.place = place;
-        match fault {
-            ObjectFault::Overrun => StepFault::Overrun,
-            ObjectFault::Null => StepFault::Null,
-            ObjectFault::Fill => StepFault::Fill,
-            ObjectFault::Unknown(marker) => {
-                self.marker = marker;
-                StepFault::Unknown
-            }
-            ObjectFault::OutOfRange => StepFault::OutOfRange,
-            ObjectFault::NoDate => StepFault::NoDate,
-            ObjectFault::NotUtf8 => StepFault::NotUtf8,
-            ObjectFault::NotUtf16 => StepFault::NotUtf16,
-        }
     }
 
     /// Passes on a result, and keeps the error if the result is `Err`.

@@ -1,5 +1,5 @@
 -- Events that the reader of binary files hands to a visitor as the chosen reader.
-use Rattle.std.proofs.Common.{◌≡◌, List, [], ◌∷◌, ◌++◌, None, Some, Result, Ok, Err, ap, refl, subst, sym, ◌∙◌}
+use Rattle.std.proofs.Common.{◌≡◌, List, [], ◌∷◌, ◌++◌, None, Some, Result, Ok, Err, ap, refl, subst, sym}
 use Rattle.std.proofs.lemmas.Option.{none-some}
 use Rattle.std.specs.declared.alloc.Global.{Global}
 use Rattle.std.specs.declared.borrow.CowSlice.TheVariants as slice
@@ -14,11 +14,8 @@ use Rattle.plist_base.specs.declared.event.Event.TheVariants as event
 use Rattle.plist_base.specs.Events.{PlainEvent, EndCollection, ScalarEvent, StartArray, StartDictionary, event_of}
 use Rattle.plist_base.specs.Trees.{Boolean, Data, Date, Integer, Real, String, Uid}
 use Rattle.plist_base.specs.Visits.{Flow, HandsOver, HandsOverAll, PlainItem, TakesTurn, Visits, YieldsPlain, last_turn}
-use Rattle.plist_base.proofs.Visits.{kept_by_visit}
 use Rattle.plist_binread.specs.BinaryReader.{GivesBinary, Steps}
 use Rattle.plist_binread.proofs.ReaderCalls.{gives_binary}
-use Rattle.plist_binread.specs.Handovers.{PassesOn}
-use Rattle.plist_binread.specs.declared.visitors.Relay.{Relay}
 use Rattle.plist_reader.specs.declared.reader.Reader.{Reader}
 use Rattle.plist_reader.specs.declared.reader.State.TheVariants as state
 use Rattle.plist_reader.specs.Reader.{BinaryReaderOf, Gives}
@@ -138,33 +135,29 @@ module _ {R : Type 0} {g : Ghosts R} (alloc : Global) where
   )
 
   module _ {V : Type 0} (step : V → PlainEvent → Flow → V → Type 0) where
-    hands_one : (from to : BinaryReaderOf R g) (v w : Relay V) (event : PlainEvent) (flow : Flow)
-        → HandsOver Steps (PassesOn step) (from, v) event flow (to, w)
-        → HandsOver Yields step (chosen from, v.visitor.now) event flow (chosen to, w.visitor.now)
+    hands_one : (from to : BinaryReaderOf R g) (v w : V) (event : PlainEvent) (flow : Flow)
+        → HandsOver Steps step (from, v) event flow (to, w)
+        → HandsOver Yields step (chosen from, v) event flow (chosen to, w)
     hands_one from to v w event flow one = record {
       given = yields_event from to event (some_event event).0 (some_event event).1 one.given;
-      taken = one.taken.taken;
+      taken = one.taken;
     }
 
-    hands_all : (from to : BinaryReaderOf R g) (v w : Relay V) (events : List PlainEvent)
-        → HandsOverAll Steps (PassesOn step) (from, v) events (to, w)
-        → HandsOverAll Yields step (chosen from, v.visitor.now) events (chosen to, w.visitor.now)
-    hands_all from to v w [] is =
-        ap (λ (p : BinaryReaderOf R g × Relay V). (chosen p.0, p.1.visitor.now)) is
+    hands_all : (from to : BinaryReaderOf R g) (v w : V) (events : List PlainEvent)
+        → HandsOverAll Steps step (from, v) events (to, w)
+        → HandsOverAll Yields step (chosen from, v) events (chosen to, w)
+    hands_all from to v w [] is = ap (λ (p : BinaryReaderOf R g × V). (chosen p.0, p.1)) is
     hands_all from to v w (event ∷ events) (next, one, rest) = (
-      (chosen next.0, next.1.visitor.now),
+      (chosen next.0, next.1),
       hands_one from next.0 v next.1 event (Continue tt) one,
       hands_all next.0 to next.1 w events rest,
     )
 
-    ends_visit : (answer : Result Visited Error) (from to : BinaryReaderOf R g) (v w : Relay V)
-        → TakesTurn Steps (PassesOn step) (from, v) (last_turn answer) (to, w)
-        → TakesTurn Yields step (chosen from, v.visitor.now) (last_turn answer)
-        (chosen to, w.visitor.now)
-    ends_visit (Ok Ended) from to v w (none, same) = (
-      (None, binary-gives from to None (gives_none from to none), refl),
-      ap (λ (r : Relay V). r.visitor.now) same,
-    )
+    ends_visit : (answer : Result Visited Error) (from to : BinaryReaderOf R g) (v w : V)
+        → TakesTurn Steps step (from, v) (last_turn answer) (to, w)
+        → TakesTurn Yields step (chosen from, v) (last_turn answer) (chosen to, w)
+    ends_visit (Ok Ended) from to v w (none, same) =
+        ((None, binary-gives from to None (gives_none from to none), refl), same)
     ends_visit (Ok Stopped) from to v w (event, one) =
         (event, hands_one from to v w event _ one)
     ends_visit (Err error) from to v w (fault, same) = (
@@ -173,25 +166,16 @@ module _ {R : Type 0} {g : Ghosts R} (alloc : Global) where
         binary-gives from to (Some (Err error)) (gives_error from to error fault),
         refl,
       ),
-      ap (λ (r : Relay V). r.visitor.now) same,
+      same,
     )
 
-    -- the relay passes all events on to one visitor
-    pub same_visitor : (answer : Result Visited Error) (old new : BinaryReaderOf R g × Relay V)
-        → Visits Steps (PassesOn step) old answer new
-        → new.1.visitor.ghost_name ≡ old.1.visitor.ghost_name
-    same_visitor answer old new visit = kept_by_visit Steps (PassesOn step)
-        (λ relay. relay.visitor.ghost_name ≡ old.1.visitor.ghost_name)
-        (λ now next event flow before one. one.same ∙ before) answer old new refl visit
-
     -- a visit by the reader of binary files is one by the reader that chose it
-    pub binary_visit : (answer : Result Visited Error) (from to : BinaryReaderOf R g) (v w : Relay V)
-        (before after : V) → v.visitor.now ≡ before → after ≡ w.visitor.now
-        → Visits Steps (PassesOn step) (from, v) answer (to, w)
-        → Visits Yields step (chosen from, before) answer (chosen to, after)
-    binary_visit answer from to v w before after first last visit = rw (← first, last) (record {
+    pub binary_visit : (answer : Result Visited Error) (from to : BinaryReaderOf R g) (v w : V)
+        → Visits Steps step (from, v) answer (to, w)
+        → Visits Yields step (chosen from, v) answer (chosen to, w)
+    binary_visit answer from to v w visit = record {
       events = visit.events;
-      left = (chosen visit.left.0, visit.left.1.visitor.now);
+      left = (chosen visit.left.0, visit.left.1);
       handed = hands_all from visit.left.0 v visit.left.1 visit.events visit.handed;
       ended = ends_visit answer visit.left.0 to visit.left.1 w visit.ended;
-    })
+    }

@@ -13,7 +13,7 @@ use plist_ascii::{AsciiReader, Dialect};
 use plist_base::{
     Error, ErrorKind, EventSource, EventVisitor, LimitedItems, Limits, OwnedEvent, Source, Visited,
 };
-use plist_binread::{BinaryReader, Relay};
+use plist_binread::BinaryReader;
 use plist_decode::format::{Format, format_of};
 use std::alloc::Global;
 use std::mem;
@@ -336,7 +336,7 @@ impl<R: Source> Reader<R> {
     {
         loop {
             if let State::Binary(reader) = &mut self.state {
-                return reader.visit(&mut Relay::new(visitor));
+                return reader.visit(visitor);
             }
             match self.hand_over(visitor) {
                 None => return Ok(Visited::Ended),

@@ -1,11 +1,10 @@
-use Rattle.std.proofs.Common.{◌≡◌, ◌<◌, ℕ, true, arith, get_or, List, Ok, Option, IfSome, refl, rules, subst, sym, ◌∙◌}
+use Rattle.std.proofs.Common.{◌≡◌, ◌<◌, ℕ, true, arith, get_or, List, Option, IfSome, refl, rules, subst, sym, ◌∙◌}
 use Rattle.plist_base.specs.Events.{EndCollection, ScalarEvent}
 use Rattle.plist_decode.proofs.Decoding.{seen_decodes, seen_fits}
 use Rattle.plist_binread.proofs.ObjectEvents.{borrowed_sets, fits_walk, long_sets}
 use Rattle.plist_decode.proofs.FaultOffsets.{err_within, passed}
 use Rattle.plist_binread.proofs.ObjectEntry.{IsDecodedAt, always_known, always_ok, known_cached, known_decoded, known_opens, known_refused, known_set, known_unpacked, long_opens, on_answer}
 use Rattle.plist_decode.proofs.UnknownBytes.{IfSome-all}
-use Rattle.plist_binread.proofs.VisitorLimits.{passed_on}
 use Rattle.plist_binread.proofs.WalkInvariant.{known_full}
 use Rattle.plist_binread.proofs.WalkSteps.{steps_positive}
 use Rattle.plist_decode.specs.Decoded.{DecodesAt, FitsBefore}
@@ -16,7 +15,6 @@ use Rattle.plist_decode.specs.declared.head.Bounds.{Bounds}
 use Rattle.plist_decode.specs.declared.step_fault.FaultDetails.{FaultDetails}
 use Rattle.plist_decode.specs.declared.decoded.Decoded.TheVariants as decoded
 use Rattle.plist_base.specs.Packing.{unpacked}
-use Rattle.plist_binread.specs.Handovers.{PassesOn}
 use Rattle.plist_decode.specs.Packed.{is_small_event, unmarked}
 use Rattle.plist_decode.specs.StepFaults.{error_of, result_with}
 use Rattle.plist_decode.specs.declared.step_fault.StepFault.TheVariants.{Memory}
@@ -43,10 +41,8 @@ returns-in-Small-clause-handed g c =
             c.in_ok-tag.ensures.new found,
         always_known _ _ caches,
       );
-      taken = passed_on g.V.EventVisitor.step c.new-relay.result c.packed.new.self _ _ (Ok _) event
-          (search rules) (search rules)
-          (subst (λ scalar. PassesOn g.V.EventVisitor.step c.new-relay.result (ScalarEvent scalar)
-          c.packed.result c.packed.new.self) c.from_parts.ensures c.packed.ensures);
+      taken = subst (λ scalar. g.V.EventVisitor.step c.args.visitor.now (ScalarEvent scalar)
+          c.packed.result c.packed.new.self) c.from_parts.ensures c.packed.ensures;
     }
 
 pub returns-in_err-decoded-in-None-clause-handed : goal.returns-in_err-decoded-in-None-clause-handed

@@ -9,6 +9,8 @@ returns-in-Some c = λ first more whole.
     c.in-Some.ensures.short c.in-Some.ensures.near c.in-Some.ensures.after
 
 pub returns-in-None : goal.returns-in-None
-returns-in-None c = λ first more whole.
-    collection_refused c.args.kind c.args.width c.args.low c.args.rest.to_trailer c.args.rest.bytes.now more
-    whole (rw c.children.ensures at c.in-None.ensures.refused)
+returns-in-None c = rw c.faulty.ensures (λ first more whole. (
+  collection_refused c.args.kind c.args.width c.args.low c.args.rest.to_trailer c.args.rest.bytes.now
+      more whole (rw c.children.ensures at c.in-None.ensures.refused),
+  tt,
+))

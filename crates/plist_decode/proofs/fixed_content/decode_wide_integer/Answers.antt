@@ -6,11 +6,14 @@ use Rattle.plist_decode.proofs.Decoding.{means_small}
 use Rattle.plist_decode.proofs.fixed_content.decode_wide_integer.Goals as goal
 
 pub returns-then-high-ne0 : goal.returns-then-high-ne0
-returns-then-high-ne0 c = λ width first more whole.
+returns-then-high-ne0 c =
     let some : 0 < c.number_from-high.result = omega arith in
-    wide_front _ _ c.if-bytes-lt16.false
-    ∙ rw (← c.number_from-high.ensures.value, ← c.number_from-low.ensures.value)
-    (wide_high _ _ some (omega arith) (omega arith))
+    rw c.faulty-then-high-ne0.ensures (λ width first more whole. (
+      wide_front _ _ c.if-bytes-lt16.false
+          ∙ rw (← c.number_from-high.ensures.value, ← c.number_from-low.ensures.value)
+          (wide_high _ _ some (omega arith) (omega arith)),
+      tt,
+    ))
 
 pub returns : goal.returns
 returns c = λ width first more whole.

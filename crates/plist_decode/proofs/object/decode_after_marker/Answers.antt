@@ -73,4 +73,4 @@ returns-in-Dictionary c = λ first more whole.
 
 pub returns-in-Unknown : goal.returns-in-Unknown
 returns-in-Unknown c = rw (← c.in-Unknown.ensures.byte, c.in-Unknown.ensures.decoded _)
-    (λ first more whole. refl)
+    (λ first more whole. (refl, tt))

@@ -4,7 +4,7 @@ use Rattle.plist_base.proofs.Visits.{hands_more}
 use Rattle.plist_base.specs.Visits.{HandsOverAll, YieldsPlain}
 use Rattle.plist_reader.specs.Reader.{Gives}
 use Rattle.plist_reader.specs.declared.reader.State.{State}
-use Rattle.plist_reader.proofs.BinaryTurns.{binary_visit, same_visitor, visits_then}
+use Rattle.plist_reader.proofs.BinaryTurns.{binary_visit, visits_then}
 use Rattle.plist_reader.proofs.reader.Reader.visit_all.Goals as goal
 
 pub returns-in-Binary : goal.returns-in-Binary
@@ -15,9 +15,8 @@ returns-in-Binary g c =
     (YieldsPlain (Gives g.R.Source.known g.R.Source.failures)) g.V.EventVisitor.step
     (c.args.self.now, c.args.visitor.now) so_far.0
     (record { alloc = alloc; state = s }, c.loop-self.visitor)) c.in-Binary.is so_far.1 in
-    let same = same_visitor alloc g.V.EventVisitor.step c.visit.result _ _ c.visit.ensures.events in
-    visits_then _ _ _ _ _ _ _ now (binary_visit alloc g.V.EventVisitor.step _ _ _ _ _ _ _
-    (search rules) (search rules) c.visit.ensures.events)
+    visits_then _ _ _ _ _ _ _ now
+    (binary_visit alloc g.V.EventVisitor.step _ _ _ _ _ c.visit.ensures.events)
 
 pub loop-self-preserved : goal.loop-self-preserved
 loop-self-preserved g c =
