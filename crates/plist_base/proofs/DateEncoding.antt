@@ -1,6 +1,7 @@
 -- The bits of a whole second encode that second.
+use Rattle.std.proofs.Common.{rules}
 use Rattle.std.proofs.Common.{◌≡◌, ℕ, zero, suc, ◌+◌, ◌-◌, ◌*◌, ◌/◌, ◌%◌, ◌^◌, ◌<◌, ◌≤◌, Bool, true, false, cond, eqb, ℤ, pos, negsuc, neg_ℤ, add-one, Option, None, Some, List, refl, ap, sym, ◌∙◌, arith, pow-add, inl, inr}
-use Rattle.std.proofs.Math.Nat.{mod-eq_of_lt, pow-le-pow_right, one-le-pow, mul-div_cancel, mul-mod_left, mul-le-mul_right}
+use Rattle.std.proofs.Math.Nat.{pow-le-pow_right, one-le-pow, mul-div_cancel, mul-mod_left, mul-le-mul_right}
 use Rattle.std.proofs.lemmas.Nat.{leading_top, from_be_bytes-to_be_bytes_8}
 use Rattle.std.specs.Int.{to_be_bytes, w64}
 use Rattle.std.specs.Int.Count.{count_leading_zeros}
@@ -79,8 +80,7 @@ module _ (n s : ℕ) (k : Encoded n) (bits : ℕ) (sign : s ≤ 1)
 
   exponent_is : real_exponent bits ≡ 1023 + k.j
   unfolding real_exponent
-  exponent_is =
-      let e = sum in omega arith
+  exponent_is = omega (arith, sum)
 
   mantissa_is : real_mantissa bits ≡ n * 2 ^ (52 - k.j)
   unfolding real_mantissa
@@ -117,18 +117,12 @@ module _ (n s : ℕ) (k : Encoded n) (bits : ℕ) (sign : s ≤ 1)
 
 pub shifted : (n z : ℕ) → Encoded n → z ≡ count_leading_zeros 64 n
     → n * 2 ^ (z - 11) % 18446744073709551616 ≡ n * 2 ^ (z - 11)
-shifted n z k e =
-    let b : z - 11 ≡ 52 - k.j = omega arith in
-    rw b (mod-eq_of_lt (omega arith))
+shifted n z k e = search rules
 
 pub sum_is : (n z : ℕ) → Encoded n → z ≡ count_leading_zeros 64 n
     → ((1085 - z) * 4503599627370496 + n * 2 ^ (z - 11) % 18446744073709551616 ≡ whole_bits n)
     × (whole_bits n < 2 ^ 63)
-sum_is n z k e =
-    let b : z - 11 ≡ 52 - k.j = omega arith in
-    let a : 1085 - z ≡ 1022 + k.j = omega arith in
-    let m = shifted n z k e in
-    (rw (m, a, b) (sym k.is), omega (arith, k.is))
+sum_is n z k e = search rules
 
 whole_small : (n : ℕ) → Encoded n → whole_bits n < 2 ^ 63
 whole_small n k = omega arith

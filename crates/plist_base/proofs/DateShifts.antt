@@ -1,4 +1,5 @@
 -- Shifts of a mantissa, and the seconds that are out of range.
+use Rattle.std.proofs.Common.{rules}
 use Rattle.std.proofs.Common.{◌≡◌, ℕ, zero, suc, ◌+◌, ◌-◌, ◌*◌, ◌/◌, ◌%◌, ◌^◌, ◌<◌, ◌≤◌, max, Bool, true, false, not, cond, eqb, ℤ, pos, neg_ℤ, Option, None, refl, ap, sym, ◌∙◌, arith, pow-add}
 use Rattle.std.proofs.Math.Nat.{pow-le-pow_right, one-le-pow, div-eq_of_lt, mod-eq_of_lt, mul-le-mul_right, div-lt_iff_lt-mul, div-add-mod, mod-lt, le-div_iff_mul-le}
 use Rattle.std.proofs.lemmas.Nat.{div-mul-add, mod-mul-add}
@@ -103,8 +104,7 @@ whole_far m e h big =
 
 mantissa_far : (bits : ℕ) → 1075 ≤ real_exponent bits → 2 ^ 52 ≤ real_mantissa bits
 unfolding real_mantissa
-mantissa_far bits h =
-    let n : eqb (real_exponent bits) 0 ≡ false = grind (arith, nat_tests) in rw n (omega arith)
+mantissa_far bits h = grind (arith, nat_tests)
 
 scale_far : (bits : ℕ) → 1075 ≤ real_exponent bits → 1075 ≤ real_scale bits
 unfolding real_scale
@@ -149,11 +149,7 @@ whole_small m e h lt =
     (div-lt_iff_lt-mul {k = 2 ^ (1075 - e)} {x = m} {y = 2 ^ 52} (omega arith)).1 (omega arith)
 
 pub left_masked : (m k : ℕ) → k < 64 → m % (1 * 2 ^ k % 18446744073709551616) ≡ m % 2 ^ k
-left_masked m k h =
-    let near : k ≤ 63 = omega arith in
-    let p = pow-le-pow_right {n = 2} (omega arith) near in
-    let q : 1 * 2 ^ k ≡ 2 ^ k = omega arith in
-    rw q (rw (mod-eq_of_lt {n = 2 ^ k} {m = 18446744073709551616} (omega arith)) refl)
+left_masked m k h = search rules
 
 pub scale_is : (bits e : ℕ) → e ≡ real_exponent bits → max e 1 ≡ real_scale bits
 unfolding real_scale

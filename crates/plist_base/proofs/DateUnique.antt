@@ -18,9 +18,7 @@ abbrev value : (exponent fraction : ℕ) → ℕ
 value exponent fraction = cond (eqb exponent 0) fraction (2 ^ 52 + fraction) * 2 ^ max 1 exponent
 
 value_suc : (e fraction : ℕ) → value (suc e) fraction ≡ (2 ^ 52 + fraction) * 2 ^ suc e
-value_suc e fraction =
-    let some : eqb (suc e) 0 ≡ false = grind (arith, nat_tests) in let top : max 1 (suc e)
-    ≡ suc e = omega arith in rw (some, top) refl
+value_suc e fraction = grind (arith, nat_tests)
 
 value_low : (e fraction : ℕ) → 2 ^ 53 * 2 ^ e ≤ value (suc e) fraction
 value_low e fraction =
@@ -91,8 +89,7 @@ neg_pos a b same = omega (arith, ints)
 bits_same : (a b : ℕ) → a < 2 ^ 64 → b < 2 ^ 64 → is_negative a ≡ is_negative b
     → real_exponent a ≡ real_exponent b → a % 2 ^ 52 ≡ b % 2 ^ 52 → a ≡ b
 unfolding real_exponent
-bits_same a b sa sb sign exponent fraction =
-    grind (arith, nat_tests)
+bits_same a b sa sb sign exponent fraction = grind (arith, nat_tests)
 
 zero_exponent : 0 ≡ real_exponent (2 ^ 63)
 unfolding real_exponent
@@ -168,8 +165,7 @@ whole_value bits second whole is =
 -- ---- the bytes
 
 bits_small : (bytes : List ℕ) → AreEightBytes bytes → real_bits bytes < 2 ^ 64
-bits_small bytes are =
-    omega (arith, are.1 0, are.1 1, are.1 2, are.1 3, are.1 4, are.1 5, are.1 6, are.1 7)
+bits_small bytes are = omega (arith, are.1)
 
 -- a date isn't the negative zero
 no_signed_zero : (bytes : List ℕ) → IsDate bytes → eqb (real_bits bytes) (2 ^ 63) ≡ false

@@ -1,6 +1,6 @@
 -- Scalars that are packed into a tag and a content.
-use Rattle.std.proofs.Common.{zero, suc, ◌≡◌, ◌+◌, ◌-◌, ◌^◌, ◌<◌, ◌≤◌, ℕ, true, Some, List, length, take, replicate, refl, ap, sym, subst, ◌∙◌, arith}
-use Rattle.std.specs.Int.{w64, from_be_bytes}
+use Rattle.std.proofs.lemmas.Bool.Decides.{nat_tests}
+use Rattle.std.proofs.Common.{◌≡◌, ◌+◌, ◌-◌, ◌^◌, ◌<◌, ◌≤◌, ℕ, true, Some, List, length, take, replicate, refl, ap, sym, subst, ◌∙◌, arith}
 use Rattle.std.specs.Str.{is_utf8}
 use Rattle.std.proofs.Math.Seq.{take-append_seam}
 use Rattle.std.proofs.Common.{inl, inr, rules}
@@ -51,8 +51,7 @@ is_packed_eq a b h =
 -- the content that consists of padded bytes is their number
 pub number_back : (bytes : List ℕ) (content : ℕ) → content < 2 ^ 64
     → content_bytes content ≡ padded bytes → number_of_padded bytes ≡ content
-number_back bytes content small is =
-    ap (from_be_bytes w64) (sym is) ∙ from_be_bytes-to_be_bytes_8 content small
+number_back bytes content small is = cc (from_be_bytes-to_be_bytes_8 content small)
 
 -- the content that consists of padded bytes begins with the bytes
 pub take_padded : (bytes : List ℕ) (content : ℕ) → content_bytes content ≡ padded bytes
@@ -64,24 +63,11 @@ take_padded bytes content is =
 
 -- the tag of a string
 kind_of_text : (size : ℕ) → size ≤ 8 → kind_of_tag (17 + size) ≡ kind.String size
-kind_of_text zero h = refl
-kind_of_text (suc zero) h = refl
-kind_of_text (suc (suc zero)) h = refl
-kind_of_text (suc (suc (suc zero))) h = refl
-kind_of_text (suc (suc (suc (suc zero)))) h = refl
-kind_of_text (suc (suc (suc (suc (suc zero))))) h = refl
-kind_of_text (suc (suc (suc (suc (suc (suc zero)))))) h = refl
-kind_of_text (suc (suc (suc (suc (suc (suc (suc zero))))))) h = refl
-kind_of_text (suc (suc (suc (suc (suc (suc (suc (suc zero)))))))) h = refl
-kind_of_text (suc (suc (suc (suc (suc (suc (suc (suc (suc n))))))))) h = absurd (omega (arith, h))
+kind_of_text size h = grind (arith, nat_tests)
 
 -- eight bytes are the content of a real
 pub packed_eight : (content : ℕ) → content < 2 ^ 64 → IsPacked 5 content
-packed_eight content small = record {
-  packable = tt;
-  tagged = refl;
-  contained = from_be_bytes-to_be_bytes_8 content small;
-}
+packed_eight content small = search rules
 
 -- a content begins with the four bytes of a real
 pub first_four : (bytes : List ℕ) (content : ℕ) → length bytes ≡ 4

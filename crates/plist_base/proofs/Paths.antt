@@ -1,8 +1,8 @@
 -- Which objects are open, and how many: the numbers of a path differ, and are below a count.
-use Rattle.std.proofs.Common.{◌≡◌, ℕ, suc, ◌<◌, ◌≤◌, inl, inr, true, false, nat_eq, List, [], ◌∷◌, length, refl, arith}
+use Rattle.std.proofs.Common.{rules}
+use Rattle.std.proofs.Common.{◌≡◌, ℕ, suc, ◌<◌, ◌≤◌, true, false, nat_eq, List, [], ◌∷◌, length, refl, arith}
 use Rattle.std.specs.List.{list_any, AllByRecursion, IsDistinct}
 use Rattle.std.proofs.lemmas.Map.Steps.{length-le_from_distinct_below}
-use Rattle.std.proofs.lemmas.Bool.Decides.{eqb_tells}
 use Rattle.std.proofs.lemmas.Bool.{or_parts}
 
 -- each index is below the number of objects, and no object is open twice
@@ -24,11 +24,7 @@ any_none i (x ∷ xs) h = rw (h.0, any_none i xs h.1) refl
 pub below_cons : (i n q : ℕ) (xs : List ℕ) → i < n
     → ((p : ℕ) → list_any (nat_eq p) xs ≡ true → p < n) → list_any (nat_eq q) (i ∷ xs) ≡ true
     → q < n
-below_cons i n q xs h all any =
-    elim (eqb_tells q i) [
-      | inl e ↦ rw e.1 h
-      | inr e ↦ all q (rw e.0 at any)
-    ]
+below_cons i n q xs h all any = search rules
 
 -- at first no object is open
 pub path_none : (count : ℕ) → IsPath count []

@@ -1,9 +1,8 @@
 -- Putting bytes into a sink, one part after the other.
-use Rattle.std.proofs.Common.{◌≡◌, ℕ, ◌+◌, List, [], ◌++◌, length, arith, length-append, subst, Option, None, Some, true, false, inl, inr, refl, sym, ap, ◌∙◌, append_assoc, append-nil}
+use Rattle.std.proofs.Common.{◌≡◌, ℕ, ◌+◌, List, [], ◌++◌, length, arith, length-append, subst, Option, true, false, inl, inr, refl, sym, ap, ◌∙◌, append_assoc, append-nil}
 use Rattle.std.proofs.lemmas.Bool.{cases_Bool, true≢false}
 use Rattle.std.specs.Io.KnownBytes.{Appends}
 use Rattle.std.proofs.KnownBytes.{Appends-trans, Appends-nil}
-use Rattle.plist_base.specs.declared.sink.Progress.{Progress}
 use Rattle.plist_base.specs.declared.sink.Sink.{Sink}
 use Rattle.plist_base.specs.Prefixes.{AppendsPrefix}
 use Rattle.plist_base.specs.Sinks.{Advances, HasPut, IsSameSink, Puts, is_open, pending}

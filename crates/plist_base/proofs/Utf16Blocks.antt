@@ -1,28 +1,18 @@
 -- Characters of a string in UTF-16 that are ASCII, eight at a time.
-use Rattle.std.proofs.Common.{◌≡◌, ℕ, ◌+◌, ◌-◌, ◌*◌, ◌<◌, ◌≤◌, inl, zero, suc, false, not, List, [], ◌∷◌, ◌++◌, length, get_or, drop, take, map, Option, Some, refl, sym, subst, ap, ◌∙◌, arith, drop-cons, zero-add, is_some}
-use Rattle.std.specs.List.{list_any, range_with_len}
+use Rattle.std.proofs.lemmas.Bool.Decides.{nat_tests}
+use Rattle.std.proofs.Common.{◌≡◌, ℕ, ◌+◌, ◌-◌, ◌*◌, ◌/◌, ◌<◌, ◌≤◌, inl, zero, suc, false, not, List, [], ◌∷◌, ◌++◌, length, get_or, drop, take, map, Option, Some, refl, sym, subst, ap, ◌∙◌, arith, drop-cons, is_some}
+use Rattle.std.specs.List.{list_any}
 use Rattle.std.specs.Option.{unwrap_or}
 use Rattle.std.specs.Char.Utf16.{has_unpaired_surrogate, utf16_chars, utf16_lossy_chars}
-use Rattle.std.proofs.lemmas.List.FromFn.{get_or-map-range_with_len}
-use Rattle.std.proofs.lemmas.List.{get_or-drop, get_or-take, length-take-le}
-use Rattle.std.proofs.lemmas.Simd.{pick_l_left}
+use Rattle.std.proofs.lemmas.List.{get_or-drop, get_or-take}
+use Rattle.std.proofs.str.Utf16.{utf16_chars-drop_all}
 use lib.Lanes.{pick_l}
 use Rattle.plist_base.specs.ByteTests.{EachByte}
 use Rattle.plist_base.specs.Container.{number_of, numbers_spelled}
-use Rattle.plist_base.specs.Utf16.{IsAsciiBlock, unit_at}
+use Rattle.plist_base.specs.Utf16.{ArePaired, IsAsciiBlock, unit_at}
 use Rattle.plist_base.specs.inner.PairedUnits.{IsAfterPaired}
 use Rattle.plist_base.proofs.Utf16Forms.{IsBytes}
-use Rattle.plist_base.proofs.Utf16Units.{next_lone}
-
--- every second byte of eight units
-module _ (units : List ℕ) (long : 16 ≤ length units) (from : ℕ) (less : from < 2) where
-  every_second : (half : List ℕ)
-      → half ≡ map (λ i. get_or (take 16 units) (2 * i + from) 0) (range_with_len 0 8)
-      → (k : ℕ) → k < 8 → get_or half k 0 ≡ get_or units (2 * k + from) 0
-  every_second half is k below =
-      ap (λ l. get_or l k 0) is
-      ∙ get_or-map-range_with_len (λ i. get_or (take 16 units) (2 * i + from) 0) 0 8 k k 0 below (zero-add k)
-      ∙ get_or-take 16 units (2 * k + from) 0 (omega (arith, below, less))
+use Rattle.plist_base.proofs.Utf16Units.{next_lone, units_length}
 
 -- the indices of the first bytes of eight units
 abbrev evens : List ℕ
@@ -39,11 +29,12 @@ first_bytes units = pick_l 0 (take 16 units ++ take 16 units) evens
 -- they lie at the even indices
 pub at_evens : (units : List ℕ) → 16 ≤ length units → (k : ℕ) → k < 8
     → get_or (first_bytes units) k 0 ≡ get_or units (2 * k) 0
-at_evens units long k below =
-    let all = take 16 units in
-    every_second units long 0 (omega arith) (first_bytes units)
-    (pick_l_left 0 all all 16 evens (length-take-le 16 units long) tt) k below
-    ∙ ap (λ i. get_or units i 0) {x = 2 * k + 0} {y = 2 * k} (omega arith)
+at_evens units long k below = grind (arith, nat_tests)
+
+-- the second bytes lie at the odd indices
+at_odds : (units : List ℕ) → 16 ≤ length units → (k : ℕ) → k < 8
+    → get_or (pick_l 0 (take 16 units ++ take 16 units) odds) k 0 ≡ get_or units (2 * k + 1) 0
+at_odds units long k below = grind (arith, nat_tests)
 
 -- eight units whose first bytes are zero, and whose second bytes are ASCII
 pub block_of : (units first second : List ℕ) → 16 ≤ length units
@@ -51,20 +42,17 @@ pub block_of : (units first second : List ℕ) → 16 ≤ length units
     → second ≡ pick_l 0 (take 16 units ++ take 16 units) odds
     → EachByte (λ byte. byte < 1) first → EachByte (λ byte. byte < 128) second
     → IsAsciiBlock units second
-block_of units first second long p q zeros ascii =
-    let all = take 16 units in
-    let sixteen = length-take-le 16 units long in
-    let one = every_second units long 0 (omega arith) first (p ∙ pick_l_left 0 all all 16 evens sixteen tt) in
-    let two = every_second units long 1 (omega arith) second (q ∙ pick_l_left 0 all all 16 odds sixteen tt) in
-    record {
-      long = ap length q;
-      first = λ k below.
-          let here : get_or units (2 * k) 0 ≡ get_or first k 0 =
-          ap (λ i. get_or units i 0) {x = 2 * k} {y = 2 * k + 0} (omega arith) ∙ sym (one k below) in
-          omega (arith, here, zeros k (omega (arith, below, ap length p)));
-      second = λ k below. sym (two k below);
-      ascii = ascii;
-    }
+block_of units first second long p q zeros ascii = record {
+  long = ap length q;
+  first = λ k below. omega (
+    arith,
+    at_evens units long k below,
+    ap (λ l. get_or l k 0) p,
+    zeros k (omega (arith, below, ap length p)),
+  );
+  second = λ k below. sym (ap (λ l. get_or l k 0) q ∙ at_odds units long k below);
+  ascii = ascii;
+}
 
 -- the bytes of a unit
 pub unit_is : (bytes : List ℕ) (at : ℕ) → at * 2 + 2 ≤ length bytes
@@ -76,11 +64,6 @@ unit_is bytes at le =
     ∙ omega arith
 
 module _ (bytes : List ℕ) where
-  -- a unit whose first byte is zero
-  small_unit : (at : ℕ) → at * 2 + 2 ≤ length bytes → get_or bytes (at * 2) 0 ≡ 0
-      → unit_at bytes at ≡ get_or bytes (suc (at * 2)) 0
-  small_unit at le first = omega (arith, unit_is bytes at le, first)
-
   -- units whose first bytes are zero, and whose second bytes are these, which are ASCII
   ascii_chars : (at : ℕ) (block : List ℕ) → (at + length block) * 2 ≤ length bytes
       → ((k : ℕ) → k < length block → get_or bytes ((at + k) * 2) 0 ≡ 0)
@@ -93,9 +76,14 @@ module _ (bytes : List ℕ) where
   ascii_chars at (b ∷ block) le first second ascii =
       let same : (k : ℕ) → at + 1 + k ≡ at + suc k = λ k. omega arith in
       let none : at + 0 ≡ at = omega arith in
-      let unit : unit_at bytes at ≡ b = small_unit at (omega (arith, le))
-      (ap (λ k. get_or bytes (k * 2) 0) (sym none) ∙ first 0 (omega arith))
-      ∙ ap (λ k. get_or bytes (suc (k * 2)) 0) (sym none) ∙ second 0 (omega arith) in
+      let unit : unit_at bytes at ≡ b = omega (
+        arith,
+        unit_is bytes at (omega (arith, le)),
+        ap (λ k. get_or bytes (k * 2) 0) none,
+        ap (λ k. get_or bytes (suc (k * 2)) 0) none,
+        first 0 (omega arith),
+        second 0 (omega arith),
+      ) in
       let next = next_lone bytes at (omega (arith, le)) (omega (arith, unit, ascii 0 (omega arith)))
       (inl (omega (arith, unit, ascii 0 (omega arith)))) in
       next.chars
@@ -177,6 +165,12 @@ module _ (bytes : List ℕ) (small : IsBytes bytes) where
       (λ k below. subst (λ i. get_or bytes (i * 2) 0 < 0xd8) (sym (same k))
       (first (suc k) (omega (arith, below))))
       ∙ ap (λ k. has_unpaired_surrogate (drop k (numbers_spelled 2 bytes))) (same n)
+
+  -- bytes below those of surrogates have no surrogates
+  pub no_surrogates : EachByte (λ byte. byte < 0xd8) bytes → ArePaired bytes
+  no_surrogates each =
+      low_units (length bytes / 2) 0 (omega arith) (λ k below. each ((0 + k) * 2) (omega (arith, below)))
+      ∙ rw (utf16_chars-drop_all (numbers_spelled 2 bytes) (0 + length bytes / 2) (omega (arith, units_length bytes))) refl
 
   -- the index after eight units whose first bytes are below those of surrogates
   pub after_block : (at : ℕ) → at * 2 + 16 ≤ length bytes

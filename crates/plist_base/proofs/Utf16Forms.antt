@@ -1,5 +1,5 @@
 -- A string in UTF-16 has one form, and is read back from it.
-use Rattle.std.proofs.Common.{◌≡◌, ℕ, zero, suc, ◌+◌, ◌-◌, ◌*◌, ◌/◌, ◌%◌, ◌<◌, ◌≤◌, ◌⊎◌, inl, inr, true, false, List, [], ◌∷◌, ◌++◌, length, get_or, drop, map, take, flat_map, Some, ap, sym, refl, subst, ◌∙◌, arith, cond, zero-add, not, is_some, chars, IsUtf8}
+use Rattle.std.proofs.Common.{◌≡◌, ℕ, zero, suc, ◌+◌, ◌-◌, ◌*◌, ◌/◌, ◌%◌, ◌<◌, ◌≤◌, ◌⊎◌, inl, inr, true, false, List, [], ◌∷◌, ◌++◌, length, get_or, map, take, flat_map, Some, ap, sym, refl, subst, ◌∙◌, arith, zero-add, not, is_some, chars, IsUtf8}
 use Rattle.std.specs.Char.Escape.{encode_utf16}
 use Rattle.std.specs.Char.Utf16.{has_unpaired_surrogate, lone_unit_char, surrogate_pair_char, utf16_chars, utf16_lossy_chars}
 use Rattle.std.specs.Int.{byte_at, bytes_high_first}
@@ -12,17 +12,15 @@ use Rattle.plist_base.specs.inner.UnitShares.{utf8_share}
 use Rattle.std.specs.Option.{unwrap_or}
 use Rattle.std.specs.Str.{encode_utf8_all}
 use Rattle.std.proofs.Math.Utf8.{scalar, scalar_cases, scalars}
-use Rattle.std.proofs.lemmas.Bool.{cases_lt, lt-ltb, le-ltb, le-leb, lt-leb, and_parts}
+use Rattle.std.proofs.lemmas.Bool.{cases_lt, false≢true, lt-ltb, le-ltb, and_parts}
 use Rattle.std.proofs.lemmas.List.FromFn.{fill_by_all, get_or-map-range_with_len}
 use Rattle.std.proofs.lemmas.Str.{chars-encodes, len_utf8_bounds, utf16_chars-nil, utf16_chars_lone, utf16_chars_pair}
-use Rattle.std.proofs.str.Utf16.{IsPair, lone_unit_char_high, lone_unit_char_low, lone_unit_char_surrogate, one_unit, pair_units, two_units, utf16_chars-drop_all}
-use Rattle.plist_base.specs.ByteTests.{EachByte}
+use Rattle.std.proofs.str.Utf16.{IsPair, lone_unit_char_surrogate, one_unit, pair_units, two_units}
 use Rattle.plist_base.specs.Container.{number_at, number_of, numbers_spelled}
 use Rattle.plist_base.specs.Object.{Scalar, text_of_units}
 use Rattle.plist_base.specs.Trees.{String}
-use Rattle.plist_base.specs.Utf16.{ArePaired, IsUtf16, chars_of_utf16, units_of, utf16_form, utf8_of_utf16}
-use Rattle.plist_base.specs.Utf16.{unit_at}
-use Rattle.plist_base.proofs.Utf16Units.{next_lone, nth_unit, scalar_of, units_length}
+use Rattle.plist_base.specs.Utf16.{ArePaired, IsUtf16, chars_of_utf16, units_of, unit_at, utf16_form, utf8_of_utf16}
+use Rattle.plist_base.proofs.Utf16Units.{lone_char, nth_unit, scalar_of, units_length}
 
 -- ---- the bytes of units
 
@@ -120,33 +118,22 @@ data FirstUnit (u : ℕ) (us : List ℕ) : Type 0 where
 
 lone : (u : ℕ) (us : List ℕ) → (u < 55296) ⊎ (57344 ≤ u)
     → utf16_chars (u ∷ us) ≡ Some u ∷ utf16_chars us
-lone u us (inl low) = utf16_chars_lone u us (λ pair. omega (arith, pair.0, low))
-    ∙ ap (λ o. o ∷ utf16_chars us) (lone_unit_char_low u low)
-lone u us (inr high) = utf16_chars_lone u us (λ pair. omega (arith, pair.1, high))
-    ∙ ap (λ o. o ∷ utf16_chars us) (lone_unit_char_high u high)
+lone u us outside =
+    utf16_chars_lone u us (λ pair. grind arith)
+    ∙ ap (λ o. o ∷ utf16_chars us) (lone_char u outside)
 
-unpaired_first : (u : ℕ) (us : List ℕ) → 55296 ≤ u → u < 57344
-    → (IsPair u (get_or us 0 0) → ⊥) → has_unpaired_surrogate (u ∷ us) ≡ true
-unpaired_first u us from below apart =
-    rw (utf16_chars_lone u us apart, lone_unit_char_surrogate u from below) refl
-
-false-true : false ≡ true → ⊥
-false-true e = subst (λ b. cond b ⊥ (Unit {0})) e tt
+pair_or_not : (u v : ℕ) → IsPair u v ⊎ (IsPair u v → ⊥)
+pair_or_not u v = grind arith
 
 first_unit : (u : ℕ) (us : List ℕ) → has_unpaired_surrogate (u ∷ us) ≡ false → FirstUnit u us
 first_unit u us paired = elim (cases_lt u 55296) [
   | inl low ↦ Lone (inl low)
   | inr from ↦ elim (cases_lt u 57344) [
     | inr high ↦ Lone (inr high)
-    | inl below ↦ elim (cases_lt u 56320) [
-      | inr second ↦ absurd (false-true (sym paired ∙ unpaired_first u us from below (λ pair. omega (arith, pair.1, second))))
-      | inl first ↦ elim (cases_lt (get_or us 0 0) 56320) [
-        | inl low ↦ absurd (false-true (sym paired ∙ unpaired_first u us from below (λ pair. omega (arith, pair.2, low))))
-        | inr low ↦ elim (cases_lt (get_or us 0 0) 57344) [
-          | inr high ↦ absurd (false-true (sym paired ∙ unpaired_first u us from below (λ pair. omega (arith, pair.3, high))))
-          | inl high ↦ Paired (from, first, low, high)
-        ]
-      ]
+    | inl below ↦ elim (pair_or_not u (get_or us 0 0)) [
+      | inl pair ↦ Paired pair
+      | inr apart ↦ absurd (false≢true (sym paired
+          ∙ rw (utf16_chars_lone u us apart, lone_unit_char_surrogate u from below) refl))
     ]
   ]
 ]
@@ -156,54 +143,14 @@ AreSmall us = (i : ℕ) → get_or us i 0 < 65536
 
 share_lone : (u : ℕ) → u < 65536 → (u < 55296) ⊎ (57344 ≤ u)
     → sum_by utf8_share (u ∷ []) ≡ length (encode_utf8 u)
-share_lone u small outside = elim (cases_lt u 0x80) [
-  | inl one ↦ rw (length-encode u, lt-ltb u 0x80 one) refl
-  | inr two ↦ elim (cases_lt u 0x800) [
-    | inl low ↦ rw (length-encode u, le-ltb u 0x80 two, lt-ltb u 0x800 low) refl
-    | inr three ↦ elim outside [
-      | inl below ↦ rw (
-        length-encode u,
-        le-ltb u 0x80 two,
-        le-ltb u 0x800 three,
-        lt-ltb u 0x1_0000 small,
-        lt-leb 0xd800 u below,
-      ) refl
-      | inr above ↦ rw (
-        length-encode u,
-        le-ltb u 0x80 two,
-        le-ltb u 0x800 three,
-        lt-ltb u 0x1_0000 small,
-        le-leb 0xd800 u (omega (arith, above)),
-        le-ltb u 0xe000 above,
-      ) refl
-    ]
-  ]
-]
-
-share_surrogate : (u : ℕ) → 55296 ≤ u → u < 57344 → utf8_share u ≡ 2
-share_surrogate u from below = rw (
-  le-ltb u 0x80 (omega (arith, from)),
-  le-ltb u 0x800 (omega (arith, from)),
-  le-leb 0xd800 u from,
-  lt-ltb u 0xe000 below,
-) refl
+share_lone u small outside = rw (length-encode u) (grind (arith, outside))
 
 len_pair : (c : ℕ) → 0x1_0000 ≤ c → length (encode_utf8 c) ≡ 4
-len_pair c high = rw (
-  length-encode c,
-  le-ltb c 0x80 (omega (arith, high)),
-  le-ltb c 0x800 (omega (arith, high)),
-  le-ltb c 0x1_0000 high,
-) refl
+len_pair c high = rw (length-encode c) (grind arith)
 
 share_pair : (u v : ℕ) → IsPair u v
     → sum_by utf8_share (u ∷ v ∷ []) ≡ length (encode_utf8 (surrogate_pair_char u v))
-share_pair u v pair = omega (
-  arith,
-  share_surrogate u pair.0 (omega (arith, pair.1)),
-  share_surrogate v (omega (arith, pair.2)) pair.3,
-  len_pair (surrogate_pair_char u v) (omega arith),
-)
+share_pair u v pair = rw (len_pair (surrogate_pair_char u v) (omega arith)) (grind (arith, pair))
 
 again_lone : (u : ℕ) (us : List ℕ) → u < 65536 → (u < 55296) ⊎ (57344 ≤ u) → Again us
     → Again (u ∷ us)
@@ -249,39 +196,10 @@ is_utf16 bytes whole small paired = record {
       (again (numbers_spelled 2 bytes) (units_small bytes small) paired);
 }
 
--- ---- a quick test
-
-unit_low : (bytes : List ℕ) (i : ℕ) → EachByte (λ byte. byte < 0xd8) bytes
-    → i < length bytes / 2 → unit_at bytes i < 55296
-unit_low [] i each below = absurd (omega (arith, below))
-unit_low (a ∷ []) i each below = absurd (omega (arith, below))
-unit_low (a ∷ b ∷ rest) zero each below =
-    let none : 0 * 2 ≡ 0 = omega arith in
-    rw none (omega (arith, each 0 (omega arith), each 1 (omega arith)))
-unit_low (a ∷ b ∷ rest) (suc i) each below =
-    let more : suc i * 2 ≡ suc (suc (i * 2)) = omega arith in
-    rw more (unit_low rest i (λ k within. each (suc (suc k)) (omega (arith, within))) (omega (arith, below)))
-
--- bytes below those of surrogates have no surrogates
-pub no_surrogates : (bytes : List ℕ) → EachByte (λ byte. byte < 0xd8) bytes → ArePaired bytes
-no_surrogates bytes each = go (length bytes / 2) 0 (zero-add _)
-  where
-    go : (k at : ℕ) → at + k ≡ length bytes / 2
-        → has_unpaired_surrogate (drop at (numbers_spelled 2 bytes)) ≡ false
-    go zero at all = rw (utf16_chars-drop_all (numbers_spelled 2 bytes) at (omega (arith, all, units_length bytes))) refl
-    go (suc k) at all =
-        let low = unit_low bytes at each (omega (arith, all)) in
-        let next = next_lone bytes at (omega (arith, all)) (omega (arith, low)) (inl low) in
-        rw next.chars (go k (at + 1) (omega (arith, all)))
-
 -- ---- a string is read back from its form
 
 lone_is : (c : ℕ) → scalar c ≡ true → lone_unit_char c ≡ Some c
-lone_is c s =
-    elim (scalar_cases c s) [
-      | inl a ↦ rw (lt-leb _ c a) refl
-      | inr a ↦ rw (le-leb 0xD800 c (omega (arith, a.0)), le-ltb c _ a.0) refl
-    ]
+lone_is c s = elim (scalar_cases c s) [ inl a ↦ lone_char c (inl a) | inr a ↦ lone_char c (inr a.0) ]
 
 pair_is : (c : ℕ) → 0x1_0000 ≤ c → surrogate_pair_char (0xD800 + (c - 0x1_0000) / 0x400)
     (0xDC00 + (c - 0x1_0000) % 0x400) ≡ c
@@ -367,13 +285,6 @@ form_valid text (cs, (s, is)) =
       form = ap utf16_form (sym (form_back text (cs, (s, is))));
     }
 
--- the string that whole units without unpaired surrogates encode is in UTF-8
-pub utf8_valid : (bytes : List ℕ) → length bytes % 2 ≡ 0 → IsBytes bytes → ArePaired bytes
-    → IsUtf8 (utf8_of_utf16 bytes)
-utf8_valid bytes whole small paired =
-    let of = again (numbers_spelled 2 bytes) (units_small bytes small) paired in
-    (chars_of_utf16 bytes, (of.chars, refl))
-
 -- ---- the length in UTF-8
 
 -- one more unit is counted
@@ -396,19 +307,21 @@ form_bytes (u ∷ us) zero = omega arith
 form_bytes (u ∷ us) (suc zero) = omega arith
 form_bytes (u ∷ us) (suc (suc i)) = form_bytes us i
 
+again_valid : (bytes : List ℕ) → IsUtf16 bytes → Again (numbers_spelled 2 bytes)
+again_valid bytes valid = again (numbers_spelled 2 bytes)
+    (units_small bytes (subst IsBytes (sym valid.form) (form_bytes (units_of (utf8_of_utf16 bytes)))))
+    valid.paired
+
 -- a string in UTF-16 is one in UTF-8
 pub utf8_of_valid : (bytes : List ℕ) → IsUtf16 bytes → IsUtf8 (utf8_of_utf16 bytes)
-utf8_of_valid bytes valid =
-    utf8_valid bytes valid.whole
-    (subst IsBytes (sym valid.form) (form_bytes (units_of (utf8_of_utf16 bytes)))) valid.paired
+utf8_of_valid bytes valid = (chars_of_utf16 bytes, ((again_valid bytes valid).chars, refl))
 
 -- the units count the bytes of their string in UTF-8
 pub shares_all : (bytes : List ℕ) (at : ℕ) → IsUtf16 bytes → length bytes / 2 ≤ at
     → sum_by utf8_share (take at (numbers_spelled 2 bytes)) ≡ length (utf8_of_utf16 bytes)
 shares_all bytes at valid all =
-    let small = subst IsBytes (sym valid.form) (form_bytes (units_of (utf8_of_utf16 bytes))) in
     rw (take_all at (numbers_spelled 2 bytes) (omega (arith, all, units_length bytes)))
-    (again (numbers_spelled 2 bytes) (units_small bytes small) valid.paired).size
+    (again_valid bytes valid).size
 
 -- a character with its units before others
 bytes_more : (c : ℕ) (own us : List ℕ) → utf16_chars (own ++ us) ≡ Some c ∷ utf16_chars us

@@ -31,7 +31,7 @@ pub len_of_unit : (c : ℕ) → c < 65536 → len_utf8 c ≤ 3
 len_of_unit c below = rw (lt-ltb c 65536 below) (at_most_three (nat_lt c 128) (nat_lt c 2048))
 
 -- a unit that isn't a surrogate encodes a character by itself
-lone_char : (u : ℕ) → (u < 55296) ⊎ (57344 ≤ u) → lone_unit_char u ≡ Some u
+pub lone_char : (u : ℕ) → (u < 55296) ⊎ (57344 ≤ u) → lone_unit_char u ≡ Some u
 lone_char u (inl low) = lone_unit_char_low u low
 lone_char u (inr high) = lone_unit_char_high u high
 

@@ -14,14 +14,7 @@ iterator_of limited = limited.inner
 abbrev pub HasEndedLimited : {I A : Type 0} → LimitedItems I A → Type 0
 HasEndedLimited limited = limited.ended ≡ true
 
--- `lets` maps a list of items to those that are yielded under an allowance, and `may_reach` says
--- which faults may replace an event
-module _ {A : Type 0} (lets : A → List Item → List Item) (may_reach : Fault → Type 0) where
-  -- this fault, which is one that `may_reach` allows, replaces the event, and no item follows
-  abbrev pub RefusesEvent : A → PlainEvent → Fault → Type 0
-  RefusesEvent allowance event fault =
-      may_reach fault × ((items : List Item) → lets allowance (Ok event ∷ items) ≡ Err fault ∷ [])
-
+-- `lets` maps a list of items to those that are yielded under an allowance
 module _ {A : Type 0} (lets : A → List Item → List Item) where
   -- the event is admitted, and the new allowance decides on what follows it
   abbrev pub AdmitsEvent : (old : A) → PlainEvent → (new : A) → Type 0
@@ -32,13 +25,19 @@ module _ {A : Type 0} (lets : A → List Item → List Item) where
   abbrev pub items_allowed : {I : Type 0} → LimitedItems I A → List Item → List Item
   items_allowed limited items = if limited.ended then [] else lets limited.limiter items
 
+-- `may_reach` says which faults may replace an event
 module _ {A : Type 0} (lets : A → List Item → List Item) (may_reach : Fault → Type 0) where
+  -- this fault, which is one that `may_reach` allows, replaces the event, and no item follows
+  abbrev pub RefusesEvent : A → PlainEvent → Fault → Type 0
+  RefusesEvent allowance event fault =
+      may_reach fault × ((items : List Item) → lets allowance (Ok event ∷ items) ≡ Err fault ∷ [])
+
   -- `given` is yielded for the inner item `asked`, and `left` is a pair of the new allowance and
   -- whether the items have ended; a fault may replace an event, and any error ends the items
   abbrev pub Passes : (old : A) → (asked given : Result Event Error) → (left : A × Bool) → Type 0
   Passes old (Ok event) given left = MatchResult given
       (λ passed. (passed ≡ event) × AdmitsEvent lets old (event_of event) left.0 × (left.1 ≡ false))
-      (λ error. RefusesEvent lets may_reach old (event_of event) (fault_of error) × (left.1 ≡ true))
+      (λ error. RefusesEvent old (event_of event) (fault_of error) × (left.1 ≡ true))
   Passes old (Err error) given left = (given ≡ Err error) × (left.1 ≡ true)
 
   -- `given` is yielded when the inner iterator yields `asked`; `None` ends this iterator, too

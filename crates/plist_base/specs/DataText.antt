@@ -1,6 +1,5 @@
 -- The text form of data: lines of base64 (RFC 4648, section 4).
-use Rattle.std.specs.Prelude.{◌≡◌, ◌↔◌, ℕ, ◌*◌, not, List, length, map, take, drop, ◌++◌, Option, None, Some, Err, String, string_bytes, codes, ⊤}
-use Rattle.std.specs.declared.alloc.Global.{Global}
+use Rattle.std.specs.Prelude.{◌≡◌, ◌↔◌, ℕ, ◌*◌, not, List, length, map, take, drop, ◌++◌, Option, None, Some, Err, codes, ⊤}
 use Rattle.std.specs.List.{filter, join_with_byte, range_with_len}
 use Rattle.std.specs.Char.{is_ascii_whitespace}
 use Rattle.std.specs.Int.{div_ceil}
@@ -59,10 +58,6 @@ data_of_text text = decoded_of standard (without_white text)
 abbrev pub IsReadWhereSpelled : (text bytes : List ℕ) → Type 0
 IsReadWhereSpelled text bytes =
     (data_of_text text ≡ Some bytes) ↔ (without_white text ≡ encode_of standard bytes)
-
--- these bytes are appended to the string
-abbrev pub GrowsByBytes : List ℕ → (old new : String Global) → Type 0
-GrowsByBytes bytes old new = string_bytes new ≡ string_bytes old ++ bytes
 
 -- unless it is `OutOfMemory`, the error is the decoder's for the text without white space
 abbrev pub IsFaultOfText : List ℕ → InvalidXmlData → Type 0

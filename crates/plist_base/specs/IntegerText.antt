@@ -1,5 +1,5 @@
 -- The integer that a text spells: hexadecimal after `0x`, or decimal.
-use Rattle.std.specs.Prelude.{◌≡◌, ℕ, ◌^◌, Bool, false, if◌then◌else◌, ◌&&◌, ◌==◌, nat_lt, List, [], ◌∷◌, length, ℤ, pos, negsuc, Option, None, Some, Result, MatchResult}
+use Rattle.std.specs.Prelude.{◌≡◌, ℕ, ◌^◌, Bool, false, if◌then◌else◌, ◌&&◌, ◌==◌, nat_lt, List, ◌∷◌, length, ℤ, pos, negsuc, Option, None, Some, Result, MatchResult}
 use Rattle.std.specs.List.{list_all}
 use Rattle.std.specs.Char.{is_digit}
 use Rattle.std.specs.Str.Parse.{digits_value, signed_digits_value, without_leading_plus, without_leading_sign}
@@ -11,10 +11,9 @@ has_prefix _ = false
 
 -- the text after every leading `0x`
 abbrev pub without_prefixes : List ℕ → List ℕ
-without_prefixes [] = []
-without_prefixes (a ∷ []) = a ∷ []
 without_prefixes (a ∷ b ∷ rest) =
     if (a == 48) && (b == 120) then without_prefixes rest else a ∷ b ∷ rest
+without_prefixes text = text
 
 -- has the text at least one digit, and nothing else?
 abbrev pub is_numeral : (radix : ℕ) → List ℕ → Bool

@@ -33,13 +33,8 @@ IsPackable scalar = ⊤
 
 -- this fact has at most one proof
 pub packable_prop : (scalar : Scalar) → IsProp (IsPackable scalar)
-packable_prop (Boolean value) = hlevel props
 packable_prop (Data bytes) = hlevel props
-packable_prop (Date bytes) = hlevel props
-packable_prop (Integer number) = hlevel props
-packable_prop (Real bits) = hlevel props
-packable_prop (String text) = hlevel props
-packable_prop (Uid number) = hlevel props
+packable_prop scalar = hlevel props
 
 -- this fact has a code
 pub packable_coded : (scalar : Scalar) → Coded (IsPackable scalar)

@@ -49,46 +49,28 @@ bytes_is k l h = (bytes_eq-Decides k l).0 h
 pub bytes_refl : (k : List ℕ) → bytes_eq k k ≡ true
 bytes_refl k = (bytes_eq-Decides k k).1 refl
 
--- reals that pass the test are equal
-real_is : (a b : RealBits) → real_eq a b ≡ true → a ≡ b
-real_is (Four a) (Four b) h = ap Four (bytes_is a b h)
-real_is (Eight a) (Eight b) h = ap Eight (bytes_is a b h)
-real_is a b h = absurd (cc)
-
--- a real passes the test with itself
-real_refl : (a : RealBits) → real_eq a a ≡ true
-real_refl (Four a) = bytes_refl a
-real_refl (Eight a) = bytes_refl a
-
--- two Booleans that pass the test are equal
-boolean_is : (a b : Bool) → (if a then b else not b) ≡ true → a ≡ b
-boolean_is true true h = refl
-boolean_is false false h = refl
-boolean_is a b h = absurd (cc)
-
--- a Boolean passes the test with itself
-boolean_refl : (a : Bool) → (if a then a else not a) ≡ true
-boolean_refl true = refl
-boolean_refl false = refl
-
 -- scalars that pass the test are equal
 pub scalar_is : (x y : Scalar) → scalar_eq x y ≡ true → x ≡ y
-scalar_is (Boolean a) (Boolean b) h = ap Boolean (boolean_is a b h)
+scalar_is (Boolean true) (Boolean true) h = refl
+scalar_is (Boolean false) (Boolean false) h = refl
 scalar_is (Data a) (Data b) h = ap Data (bytes_is a b h)
 scalar_is (Date a) (Date b) h = ap Date (bytes_is a b h)
 scalar_is (Integer a) (Integer b) h = ap Integer ((Decides-int_eq a b).0 h)
-scalar_is (Real a) (Real b) h = ap Real (real_is a b h)
+scalar_is (Real (Four a)) (Real (Four b)) h = ap (λ l. Real (Four l)) (bytes_is a b h)
+scalar_is (Real (Eight a)) (Real (Eight b)) h = ap (λ l. Real (Eight l)) (bytes_is a b h)
 scalar_is (String a) (String b) h = ap String (bytes_is a b h)
 scalar_is (Uid a) (Uid b) h = ap Uid ((Decides-eqb a b).0 h)
 scalar_is x y h = absurd (cc)
 
 -- a scalar passes the test with itself
 pub scalar_refl : (x : Scalar) → scalar_eq x x ≡ true
-scalar_refl (Boolean a) = boolean_refl a
+scalar_refl (Boolean true) = refl
+scalar_refl (Boolean false) = refl
 scalar_refl (Data a) = bytes_refl a
 scalar_refl (Date a) = bytes_refl a
 scalar_refl (Integer a) = (Decides-int_eq a a).1 refl
-scalar_refl (Real a) = real_refl a
+scalar_refl (Real (Four a)) = bytes_refl a
+scalar_refl (Real (Eight a)) = bytes_refl a
 scalar_refl (String a) = bytes_refl a
 scalar_refl (Uid a) = (Decides-eqb a a).1 refl
 

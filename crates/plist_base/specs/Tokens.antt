@@ -1,5 +1,5 @@
 -- The tokens by which a visitor names scalars that it has taken.
-use Rattle.std.specs.Prelude.{◌≡◌, ℕ, ◌<◌, List, Option, IfSome}
+use Rattle.std.specs.Prelude.{ℕ, ◌<◌, List, Option, IfSome}
 use Rattle.std.specs.declared.ops.ControlFlow.TheVariants.{Continue}
 use Rattle.plist_base.specs.Events.{IsScalarEvent, PlainEvent}
 use Rattle.plist_base.specs.VisitedItems.{WantsAll}

@@ -19,8 +19,7 @@ two_digits_at text place = two_digits (slice_index text place) (slice_index text
 -- `make` applied to two numbers, if both exist
 abbrev pub of_both : {A : Type 0} → Option ℕ → Option ℕ → (ℕ → ℕ → Option A) → Option A
 of_both (Some a) (Some b) make = make a b
-of_both None b make = None
-of_both (Some a) None make = None
+of_both a b make = None
 
 -- `make` applied to three numbers, if all exist
 abbrev pub of_three : {A : Type 0} → Option ℕ → Option ℕ → Option ℕ → (ℕ → ℕ → ℕ → Option A)
@@ -83,9 +82,7 @@ zone_in text =
 -- the Unix second of a day, a second of the day and a zone, if all exist
 abbrev pub second_of_parts : Option ℤ → Option ℕ → Option ℤ → Option ℤ
 second_of_parts (Some day) (Some time) (Some offset) = Some ((day *ℤ pos 86400 +ℤ pos time) -ℤ offset)
-second_of_parts (Some day) (Some time) None = None
-second_of_parts (Some day) None offset = None
-second_of_parts None time offset = None
+second_of_parts day time offset = None
 
 -- the Unix second that a text spells, or `None` if it spells no date
 unfoldable pub unix_second_of_text : List ℕ → Option ℤ

@@ -3,7 +3,7 @@
 ghost use Rattle.std.specs.Prelude.{◌≡◌, OnErr, OnOk};
 ghost use Rattle.plist_base.specs.Events.{event_of};
 ghost use Rattle.plist_base.specs.Outcomes.{IfFault};
-ghost use Rattle.plist_base.specs.Budgets.{AdmitsWithin, RefusesWithin, within_budget, within_bytes};
+ghost use Rattle.plist_base.specs.Budgets.{AdmitsWithin, RefusesWithin, within_budget, within_bytes, IsBudgetUsedUp};
 
 use crate::{Allowance, Error, ErrorKind, Event};
 
@@ -26,8 +26,6 @@ impl ByteBudget {
 }
 
 impl Allowance for ByteBudget {
-    ghost use Rattle.plist_base.specs.Budgets.{within_budget, IsBudgetUsedUp};
-
     ghost lets = { within_budget };
 
     ghost may_reach = { IsBudgetUsedUp };

@@ -1,6 +1,6 @@
 //! Tests that can be made for many bytes together.
 
-ghost use Rattle.std.specs.Prelude.{◌≡◌, ◌+◌, ◌≤◌, length, true};
+ghost use Rattle.std.specs.Prelude.{◌≡◌, ◌+◌, ◌≤◌, length, true, ℕ, ◌<◌};
 ghost use Rattle.plist_base.specs.ByteTests.{CopiesPassing, EachByte};
 
 use std::simd::prelude::*;
@@ -9,9 +9,6 @@ use std::simd::prelude::*;
 ///
 /// A test may reject any byte, but it accepts only those with the property that it tests.
 pub trait ByteTest {
-    ghost use Rattle.std.specs.Prelude.{◌≡◌, ℕ, true};
-    ghost use Rattle.plist_base.specs.ByteTests.{EachByte};
-
     /// The property of a byte that is tested.
     ghost passes: { ℕ → Type 0 };
 
@@ -32,8 +29,6 @@ pub trait ByteTest {
 pub struct Ascii;
 
 impl ByteTest for Ascii {
-    ghost use Rattle.std.specs.Prelude.{◌<◌};
-
     ghost passes = { λ byte. byte < 128 };
 
     #[inline(always)]

@@ -1,6 +1,6 @@
 //! Lists of values that are stored in a smaller form, until one of them has none.
 
-ghost use Rattle.std.specs.Prelude.{◌≡◌, ◌++◌, ◌∷◌, ◌<◌, ◌-◌, ◌^◌, [], IfSome, IfOk, OnOk, OnErr, None, length, map, replicate, set, slice_index, take};
+ghost use Rattle.std.specs.Prelude.{◌≡◌, ◌++◌, ◌∷◌, ◌<◌, ◌-◌, ◌^◌, [], IfSome, IfOk, OnOk, OnErr, None, length, map, replicate, set, slice_index, take, List};
 
 use std::alloc::{AllocError, Global};
 use std::marker::Model;
@@ -30,10 +30,7 @@ impl Compact for usize {
 
     #[inline(always)]
     fn narrowed(self) -> Option<u32> {
-        if self <= u32::MAX as usize {
-            return Some(self as u32);
-        }
-        None
+        u32::try_from(self).ok()
     }
 
     #[inline(always)]
@@ -50,8 +47,6 @@ pub struct CompactList<T: Compact> {
 }
 
 impl<T: Compact> Model for CompactList<T> {
-    ghost use Rattle.std.specs.Prelude.{List, ◌++◌, map};
-
     ghost Value = { List T };
 
     ghost view = { λ list. map T.widened list.narrow.items ++ list.wide.items };
@@ -157,10 +152,8 @@ impl CompactList<usize> {
         ensures { IfOk result (λ r. r ≡ []) }
     {
         let narrow = Vec::with_capacity(alloc, count)?;
-        Ok(CompactList {
-            narrow,
-            wide: Vec::new(alloc),
-        })
+        let wide = Vec::new(alloc);
+        Ok(CompactList { narrow, wide })
     }
 
     /// Creates a list of `count` zeros, or fails if the allocation fails.
@@ -168,10 +161,8 @@ impl CompactList<usize> {
         ensures zeros { IfOk result (λ r. r ≡ replicate count 0) }
     {
         let narrow = vec![in alloc; 0u32; count]?;
-        Ok(CompactList {
-            narrow,
-            wide: Vec::new(alloc),
-        })
+        let wide = Vec::new(alloc);
+        Ok(CompactList { narrow, wide })
     }
 
     /// Returns the number at an index, which must be less than the length.
@@ -193,11 +184,8 @@ impl CompactList<usize> {
             (λ number. self.now ≡ take (length self.now - 1) self.now ++ number ∷ []) }
         ensures none { result ≡ None → self.now ≡ [] }
     {
-        let count = self.len();
-        if count == 0 {
-            return None;
-        }
-        Some(self.get(count - 1))
+        let last = self.len().checked_sub(1)?;
+        Some(self.get(last))
     }
 
     /// Replaces the number at an index, which must be less than the length. If an allocation fails,

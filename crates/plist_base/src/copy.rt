@@ -1,6 +1,6 @@
 //! Copies the events of a source to a writer.
 
-ghost use Rattle.plist_base.specs.Copying.{Copies};
+ghost use Rattle.plist_base.specs.Copying.{Copies, WritesEvent};
 
 use crate::{Error, Event, EventSource, EventVisitor, Writer};
 use std::ops::ControlFlow;
@@ -14,8 +14,6 @@ struct EventCopier<'w, W> {
 }
 
 impl<'w, W: Writer> EventVisitor for EventCopier<'w, W> {
-    ghost use Rattle.plist_base.specs.Copying.{WritesEvent};
-
     ghost step = { WritesEvent W.Step };
 
     #[inline(always)]

@@ -1,12 +1,16 @@
 //! Data, and its text form: lines of base64.
 
-ghost use Rattle.std.specs.Prelude.{◌≡◌, List, ℕ, length, Some, Ok, IfOk, IfErr, OnOk, string_bytes};
+ghost use Rattle.std.specs.Prelude.{◌≡◌, List, ℕ, length, Some, Ok, IfOk, IfErr, OnOk, string_bytes, nat_eq};
 ghost use Rattle.std.specs.Borrow.{sem};
 ghost use Rattle.base64.specs.Engines.{standard};
 ghost use Rattle.base64.specs.GeneralPurpose.{IsBytes, IsDecodeFailure, decode_of, encode_of};
 ghost use Rattle.plist_base.specs.Faults.{OutOfMemory};
 ghost use Rattle.plist_base.specs.Outcomes.{OnlyMemory};
-ghost use Rattle.plist_base.specs.DataText.{IsFaultOfText, IsNoData, data_of_text, data_text, without_white, IsReadWhereSpelled, IsAllNew, GrowsByBytes, LendsBytes};
+ghost use Rattle.plist_base.specs.DataText.{IsFaultOfText, IsNoData, data_of_text, data_text, without_white, IsReadWhereSpelled, IsAllNew, LendsBytes, refusal_text, refusal_of_decoding};
+ghost use Rattle.std.specs.Cmp.Lexicographic.{pointwise};
+ghost use Rattle.std.proofs.Common.{rules};
+ghost use Rattle.std.specs.Cmp.Rules.{comparing};
+ghost use Rattle.base64.specs.declared.decode.DecodeAllocError.TheVariants.{OutOfMemory as NoMemory};
 
 use crate::Error;
 use base64::engine::general_purpose::STANDARD;
@@ -74,7 +78,7 @@ impl Data {
         ensures spelled { (bytes : List ℕ) → IsBytes bytes → IsReadWhereSpelled text.now bytes }
     {
         let symbols = without_white_space(alloc, text)?;
-        let bytes = decoded(alloc, &symbols)?;
+        let bytes = STANDARD.decode(alloc, &symbols)?;
         Ok(Data::new(bytes))
     }
 
@@ -98,7 +102,17 @@ impl Data {
         ensures back { IfOk result (λ text. data_of_text (string_bytes text) ≡ Some self.now) }
         ensures memory { OnlyMemory result }
     {
-        text_of(alloc, self.bytes.as_slice())
+        let bytes = self.bytes.as_slice();
+        let mut text = String::new(alloc);
+        for line in 0..bytes.len().div_ceil(BYTES_A_LINE) {
+            if line > 0 {
+                text.push('\n')?;
+            }
+            let start = line * BYTES_A_LINE;
+            let end = bytes.len().min(start + BYTES_A_LINE);
+            STANDARD.encode_string(&bytes[start..end], &mut text)?;
+        }
+        Ok(text)
     }
 
     /// Returns the bytes.
@@ -151,39 +165,6 @@ fn without_white_space(alloc: Global, text: &str) -> Result<Vec<u8>, AllocError>
     Ok(bytes)
 }
 
-// Decodes base64.
-fn decoded(alloc: Global, symbols: &[u8]) -> Result<Vec<u8>, DecodeAllocError>
-    ensures bytes { IfOk result (λ bytes. decode_of standard symbols.now ≡ Ok bytes.items) }
-    ensures refused { IfErr result (λ error. IsDecodeFailure standard symbols.now error) }
-{
-    STANDARD.decode(alloc, symbols)
-}
-
-// Appends the base64 of some bytes to a string.
-fn push_base64(text: &mut String, bytes: &[u8]) -> Result<(), AllocError>
-    ensures { OnOk result (GrowsByBytes (encode_of standard bytes.now) text.old text.new) }
-{
-    STANDARD.encode_string(bytes, text)
-}
-
-// Formats bytes as lines of base64.
-fn text_of(alloc: Global, bytes: &[u8]) -> Result<String, Error>
-    ensures text { IfOk result (λ text. string_bytes text ≡ data_text bytes.now) }
-    ensures back { IfOk result (λ text. data_of_text (string_bytes text) ≡ Some bytes.now) }
-    ensures memory { OnlyMemory result }
-{
-    let mut text = String::new(alloc);
-    for line in 0..bytes.len().div_ceil(BYTES_A_LINE) {
-        if line > 0 {
-            text.push('\n')?;
-        }
-        let start = line * BYTES_A_LINE;
-        let end = bytes.len().min(start + BYTES_A_LINE);
-        push_base64(&mut text, &bytes[start..end])?;
-    }
-    Ok(text)
-}
-
 /// Makes data from bytes.
 impl From<Vec<u8>> for Data {
     ghost from_gives = { λ bytes made. made ≡ bytes.items };
@@ -204,11 +185,6 @@ impl From<Data> for Vec<u8> {
 
 /// Two values are equal if their bytes are.
 impl PartialEq for Data {
-    ghost use Rattle.std.specs.Prelude.{nat_eq};
-    ghost use Rattle.std.specs.Cmp.Lexicographic.{pointwise};
-    ghost use Rattle.std.proofs.Common.{rules};
-    ghost use Rattle.std.specs.Cmp.Rules.{comparing};
-
     ghost eq = { pointwise nat_eq };
 
     ghost laws = { Prim.search (comparing, rules) };
@@ -219,9 +195,6 @@ impl PartialEq for Data {
 }
 
 impl Eq for Data {
-    ghost use Rattle.std.proofs.Common.{rules};
-    ghost use Rattle.std.specs.Cmp.Rules.{comparing};
-
     ghost laws = { Prim.search (comparing, rules) };
 }
 
@@ -233,8 +206,6 @@ impl fmt::Debug for Data {
 }
 
 impl fmt::Display for InvalidXmlData {
-    ghost use Rattle.plist_base.specs.DataText.{refusal_text};
-
     ghost output = { λ refusal. Some (refusal_text refusal) };
 
     fn fmt<W: fmt::Write>(&self, f: &mut fmt::Formatter<W>) -> fmt::Result {
@@ -248,9 +219,6 @@ impl fmt::Display for InvalidXmlData {
 impl std::error::Error for InvalidXmlData {}
 
 impl From<AllocError> for InvalidXmlData {
-    ghost use Rattle.base64.specs.declared.decode.DecodeAllocError.TheVariants.{OutOfMemory as NoMemory};
-    ghost use Rattle.plist_base.specs.DataText.{refusal_of_decoding};
-
     ghost from_gives = { λ _ refusal. refusal ≡ refusal_of_decoding NoMemory };
 
     fn from(_error: AllocError) -> InvalidXmlData {
@@ -259,8 +227,6 @@ impl From<AllocError> for InvalidXmlData {
 }
 
 impl From<DecodeAllocError> for InvalidXmlData {
-    ghost use Rattle.plist_base.specs.DataText.{refusal_of_decoding};
-
     ghost from_gives = { λ error refusal. refusal ≡ refusal_of_decoding error };
 
     fn from(error: DecodeAllocError) -> InvalidXmlData {

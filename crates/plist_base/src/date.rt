@@ -21,9 +21,6 @@ pub struct Date {
 }
 
 impl Model for Date {
-    ghost use Rattle.std.specs.Prelude.{ℕ, List};
-    ghost use Rattle.plist_base.specs.Date.{IsDate};
-
     ghost Value = { List ℕ };
 
     ghost view = { λ a. a.bytes };

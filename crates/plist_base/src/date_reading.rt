@@ -43,10 +43,8 @@ fn day_number(year: u16, month: u8, day: u8) -> Option<i32>
     if month > 12 || day > 31 {
         return None;
     }
-    match Date::new(year as i16, month as i8, day as i8) {
-        Ok(date) => Some(date.to_unix_epoch_day()),
-        Err(_) => None,
-    }
+    let date = Date::new(year as i16, month as i8, day as i8).ok()?;
+    Some(date.to_unix_epoch_day())
 }
 
 // Parses the `YYYY-MM-DD` at offset 0, and returns the number of days from 1970-01-01 to it.
@@ -55,14 +53,10 @@ fn day_in(text: &[u8]) -> Option<i32>
     ensures is { result ≡ spec.day_in text.now }
     ensures bound { IfSome result (λ n. IsEpochDay n) }
 {
-    match (
-        four_digits_at(text, 0),
-        two_digits_at(text, 5),
-        two_digits_at(text, 8),
-    ) {
-        (Some(year), Some(month), Some(day)) => day_number(year, month, day),
-        _ => None,
-    }
+    let year = four_digits_at(text, 0)?;
+    let month = two_digits_at(text, 5)?;
+    let day = two_digits_at(text, 8)?;
+    day_number(year, month, day)
 }
 
 // Returns the second of the day at this time, or `None` if a part is out of range.
@@ -84,14 +78,10 @@ fn time_in(text: &[u8]) -> Option<u32>
     ensures is { result ≡ spec.time_in text.now }
     ensures bound { IfSome result (λ n. n < 86400) }
 {
-    match (
-        two_digits_at(text, 11),
-        two_digits_at(text, 14),
-        two_digits_at(text, 17),
-    ) {
-        (Some(hour), Some(minute), Some(second)) => second_of_day(hour, minute, second),
-        _ => None,
-    }
+    let hour = two_digits_at(text, 11)?;
+    let minute = two_digits_at(text, 14)?;
+    let second = two_digits_at(text, 17)?;
+    second_of_day(hour, minute, second)
 }
 
 // Returns whether the text is long enough and has the separators at their offsets.
@@ -107,20 +97,6 @@ fn has_separators(text: &[u8]) -> bool
         && text[16] == b':'
 }
 
-// Returns the number of seconds with this sign, or `None` if the sign isn't `+` or `-`.
-fn signed(sign: u8, seconds: u32) -> Option<i32>
-    requires { seconds < 86400 }
-    ensures is { result ≡ (if sign == 43 then Some (pos seconds)
-        else (if sign == 45 then Some (neg_ℤ (pos seconds)) else None)) }
-    ensures bound { IfSome result (λ n. IsWithin 86399 n) }
-{
-    match sign {
-        b'+' => Some(seconds as i32),
-        b'-' => Some(-(seconds as i32)),
-        _ => None,
-    }
-}
-
 // Returns how many seconds the zone with this sign, hours and minutes is ahead of UTC, or `None` if
 // a part is out of range.
 fn offset(sign: u8, hours: u8, minutes: u8) -> Option<i32>
@@ -130,7 +106,12 @@ fn offset(sign: u8, hours: u8, minutes: u8) -> Option<i32>
     if hours >= 24 || minutes >= 60 {
         return None;
     }
-    signed(sign, u32::from(hours) * 3600 + u32::from(minutes) * 60)
+    let seconds = i32::from(hours) * 3600 + i32::from(minutes) * 60;
+    match sign {
+        b'+' => Some(seconds),
+        b'-' => Some(-seconds),
+        _ => None,
+    }
 }
 
 // Parses the zone at offset 19, which is `Z`, `z`, or a sign with `HH:MM`, and returns how many
@@ -141,11 +122,7 @@ fn zone_in(text: &[u8]) -> Option<i32>
     ensures bound { IfSome result (λ n. IsWithin 86399 n) }
 {
     if text.len() == 20 {
-        return if text[19] == b'Z' || text[19] == b'z' {
-            Some(0)
-        } else {
-            None
-        };
+        return (text[19] == b'Z' || text[19] == b'z').then_some(0);
     }
     if text.len() != 25 || text[22] != b':' {
         return None;

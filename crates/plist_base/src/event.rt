@@ -107,13 +107,7 @@ impl<'a> Event<'a> {
             Event::StartArray(_) => EventShape::StartArray,
             Event::StartDictionary(_) => EventShape::StartDictionary,
             Event::EndCollection => EventShape::EndCollection,
-            Event::Boolean(_)
-            | Event::Data(_)
-            | Event::Date(_)
-            | Event::Integer(_)
-            | Event::Real(_)
-            | Event::String(_)
-            | Event::Uid(_) => EventShape::Scalar,
+            _ => EventShape::Scalar,
         }
     }
 
@@ -125,14 +119,7 @@ impl<'a> Event<'a> {
         match self {
             Event::String(text) => text.as_str().as_bytes(),
             Event::Data(bytes) => bytes.as_slice(),
-            Event::StartArray(_)
-            | Event::StartDictionary(_)
-            | Event::EndCollection
-            | Event::Boolean(_)
-            | Event::Date(_)
-            | Event::Integer(_)
-            | Event::Real(_)
-            | Event::Uid(_) => &[],
+            _ => &[],
         }
     }
 

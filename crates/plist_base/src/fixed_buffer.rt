@@ -1,6 +1,6 @@
 //! A buffer of fixed size.
 
-ghost use Rattle.std.specs.Prelude.{◌≡◌, ◌+◌, ◌++◌, ◌≤◌, length, true};
+ghost use Rattle.std.specs.Prelude.{◌≡◌, ◌+◌, ◌++◌, ◌≤◌, length, true, ℕ, ◌^◌, List, take, [], false, IfOk};
 ghost use Rattle.plist_base.specs.ByteTests.{EachByte};
 ghost use Rattle.std.specs.Fmt.{decimal};
 
@@ -25,8 +25,6 @@ pub struct FixedBuffer {
 }
 
 impl Model for FixedBuffer {
-    ghost use Rattle.std.specs.Prelude.{◌≡◌, ℕ, ◌≤◌, ◌^◌, List, length, take};
-
     ghost Value = { List ℕ };
 
     ghost view = { λ buffer. take buffer.used buffer.bytes.items };
@@ -98,8 +96,6 @@ fn copy_enclosed<T: ByteTest, const BEFORE: usize, const AFTER: usize>(
 }
 
 impl FixedBuffer {
-    ghost use Rattle.std.specs.Prelude.{◌≡◌, ◌≤◌, ◌+◌, ◌++◌, [], length, take, true, false, IfOk};
-    ghost use Rattle.plist_base.specs.ByteTests.{EachByte};
     ghost use Rattle.plist_base.specs.FixedBuffers.{room, buffer_capacity};
     ghost use Rattle.plist_base.specs.Outcomes.{OnlyMemory};
 

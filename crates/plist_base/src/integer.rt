@@ -1,8 +1,13 @@
 //! Integers from `i64::MIN` to `u64::MAX`.
 
-ghost use Rattle.std.specs.Prelude.{◌≡◌, pos, negsuc, codes, ◌-◌, ◌^◌, ◌≤◌, ◌≤ℤ◌, ◌<ℤ◌, ◌↔◌, IsSome, IfSome, Some};
+ghost use Rattle.std.specs.Prelude.{◌≡◌, pos, negsuc, codes, ◌-◌, ◌^◌, ◌≤◌, ◌≤ℤ◌, ◌<ℤ◌, ◌↔◌, IsSome, IfSome, Some, ℤ, refl};
 ghost use Rattle.std.specs.Fmt.{signed_decimal, styled_signed_decimal};
 ghost use Rattle.plist_base.specs.IntegerText.{SpellsInteger, integer_of_text, signed_of_text, unsigned_of_text, without_prefixes};
+ghost use Rattle.std.proofs.Common.{ap};
+ghost use Rattle.plist_base.specs.Integer.{IsNumberOf, number_for, whole, IsOrderOf};
+ghost use Rattle.std.specs.Cmp.{partial_equiv_from_equiv, int_cmp_total, signed_po};
+ghost use Rattle.std.specs.Ordering.{int_eq, int_cmp};
+ghost use Rattle.std.proofs.lemmas.Cmp.{int_eq_equiv};
 
 use std::cmp::Ordering;
 use std::fmt;
@@ -26,10 +31,6 @@ pub struct Integer {
 }
 
 impl Model for Integer {
-    ghost use Rattle.std.specs.Prelude.{ℤ};
-    ghost use Rattle.std.proofs.Common.{ap};
-    ghost use Rattle.plist_base.specs.Integer.{IsNumberOf, number_for, whole};
-
     ghost Value = { ℤ };
 
     ghost view = { λ a. whole a.number };
@@ -108,10 +109,6 @@ impl Integer {
 }
 
 impl PartialEq for Integer {
-    ghost use Rattle.std.specs.Cmp.{partial_equiv_from_equiv};
-    ghost use Rattle.std.specs.Ordering.{int_eq};
-    ghost use Rattle.std.proofs.lemmas.Cmp.{int_eq_equiv};
-
     ghost eq = { int_eq };
 
     ghost laws = { partial_equiv_from_equiv int_eq_equiv };
@@ -123,11 +120,6 @@ impl PartialEq for Integer {
 
 /// Orders integers by their values.
 impl Ord for Integer {
-    ghost use Rattle.std.specs.Prelude.{refl};
-    ghost use Rattle.std.specs.Cmp.{int_cmp_total};
-    ghost use Rattle.std.specs.Ordering.{int_cmp};
-    ghost use Rattle.plist_base.specs.Integer.{IsOrderOf};
-
     ghost cmp = { int_cmp };
 
     ghost total = { int_cmp_total };
@@ -146,9 +138,6 @@ impl Ord for Integer {
 
 /// Orders integers by their values.
 impl PartialOrd for Integer {
-    ghost use Rattle.std.specs.Cmp.{signed_po};
-    ghost use Rattle.std.specs.Ordering.{int_cmp};
-
     ghost partial_cmp = { λ a b. Some (int_cmp a b) };
 
     ghost laws = { signed_po };

@@ -1,11 +1,12 @@
 //! An iterator that yields the items of another iterator up to the first that isn't allowed.
 
-ghost use Rattle.std.specs.Prelude.{◌≡◌, false, OnOk};
-ghost use Rattle.plist_base.specs.Allowances.{AdmitsEvent, Passes, RefusesEvent, iterator_of};
+ghost use Rattle.std.specs.Prelude.{◌≡◌, false, OnOk, List};
+ghost use Rattle.plist_base.specs.Allowances.{AdmitsEvent, Passes, RefusesEvent, iterator_of, GivesAllowed};
 ghost use Rattle.plist_base.specs.Budgets.{items_within_budget, within_bytes};
-ghost use Rattle.plist_base.specs.Events.{event_of};
+ghost use Rattle.plist_base.specs.Events.{event_of, Item};
 ghost use Rattle.plist_base.specs.Limits.{items_admitted, limited_items};
 ghost use Rattle.plist_base.specs.Outcomes.{IfFault};
+ghost use Rattle.plist_base.specs.Faults.{Fault};
 
 use crate::{ByteBudget, Error, Event, LimitCounter, Limits, OwnedEvent};
 
@@ -14,10 +15,6 @@ use crate::{ByteBudget, Error, Event, LimitCounter, Limits, OwnedEvent};
 /// A [`LimitCounter`] counts events and open collections, a [`ByteBudget`] the bytes of strings and
 /// data.
 pub trait Allowance: Drop {
-    ghost use Rattle.std.specs.Prelude.{List};
-    ghost use Rattle.plist_base.specs.Events.{Item};
-    ghost use Rattle.plist_base.specs.Faults.{Fault};
-
     // Maps a list of items to those that are yielded under this allowance.
     ghost lets: { Self → List Item → List Item };
 
@@ -115,8 +112,6 @@ impl<I, A: Allowance> LimitedItems<I, A> {
 
 impl<I: Iterator<Item = Result<OwnedEvent, Error>>, A: Allowance> Iterator for LimitedItems<I, A> {
     type Item = Result<OwnedEvent, Error>;
-
-    ghost use Rattle.plist_base.specs.Allowances.{GivesAllowed};
 
     ghost can_next = { λ s. I.can_next s.inner };
 

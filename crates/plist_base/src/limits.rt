@@ -4,7 +4,7 @@ ghost use Rattle.std.specs.Prelude.{◌≡◌, IfOk, IfErr, OnErr, OnOk};
 ghost use Rattle.plist_base.specs.Events.{event_of};
 ghost use Rattle.plist_base.specs.Outcomes.{IfFault};
 ghost use Rattle.plist_base.specs.Faults.{limit_name};
-ghost use Rattle.plist_base.specs.Limits.{Admits, Refuses, RefusesBy, level_after, limited_items, limited_by, IsLevelAfter, IsTooDeep};
+ghost use Rattle.plist_base.specs.Limits.{Admits, Refuses, RefusesBy, level_after, limited_items, limited_by, IsLevelAfter, IsTooDeep, IsLimitReached};
 
 use crate::{Allowance, Error, ErrorKind, Event, EventShape};
 
@@ -99,8 +99,6 @@ impl LimitCounter {
 }
 
 impl Allowance for LimitCounter {
-    ghost use Rattle.plist_base.specs.Limits.{limited_by, IsLimitReached};
-
     ghost lets = { limited_by };
 
     ghost may_reach = { IsLimitReached };
@@ -116,9 +114,7 @@ impl Allowance for LimitCounter {
         ensures refused { IfFault result (Refuses self.old (event_of event.now)) }
         ensures unchanged { OnErr result (self.new ≡ self.old) }
     {
-        match self.count(event) {
-            Ok(()) => Ok(()),
-            Err(limit) => Err(ErrorKind::LimitReached(limit).without_position()),
-        }
+        self.count(event)
+            .map_err(|limit| ErrorKind::LimitReached(limit).without_position())
     }
 }

@@ -1,7 +1,7 @@
 //! Scalars that have at most eight bytes of content, in a form that is fast to copy and to compare.
 
-ghost use Rattle.std.specs.Prelude.{◌≡◌, ◌≤◌, length, pos};
-ghost use Rattle.plist_base.specs.Packing.{IsPacked, content_bytes, kind_of_tag, packable_prop, padded};
+ghost use Rattle.std.specs.Prelude.{◌≡◌, ◌≤◌, length, pos, ◌<◌, None, IfSome, take};
+ghost use Rattle.plist_base.specs.Packing.{IsPacked, content_bytes, kind_of_tag, packable_prop, padded, unpacked};
 ghost use Rattle.std.proofs.Props.{props};
 
 use crate::{Date, Event, Integer, RealBits, Uid};
@@ -85,10 +85,8 @@ fn padded_number(bytes: &[u8]) -> u64
 }
 
 impl PackedScalar {
-    ghost use Rattle.std.specs.Prelude.{◌≡◌, ◌<◌, None, IfSome, length, take};
     ghost use Rattle.plist_base.specs.Events.{ScalarEvent, event_of};
     ghost use Rattle.plist_base.specs.PackedScalars.{IsUnpackable, scalar_of_packed};
-    ghost use Rattle.plist_base.specs.Packing.{IsPacked, content_bytes, kind_of_tag, unpacked};
     ghost use Rattle.plist_base.specs.Trees.{Boolean as BooleanScalar, Data as DataScalar, Date as DateScalar, Integer as IntegerScalar, Real as RealScalar, String as StringScalar, Uid as UidScalar};
 
     /// Packs a Boolean.

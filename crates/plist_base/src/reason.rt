@@ -1,5 +1,8 @@
 //! Prints an error with the reason that the system reported.
 
+ghost use Rattle.std.specs.Prelude.{◌≡◌};
+ghost use Rattle.plist_base.specs.Reasons.{error_of_reason, reason_text};
+
 use crate::{Error, ErrorKind};
 use std::fmt;
 
@@ -10,9 +13,6 @@ pub struct Reason<'a> {
 }
 
 impl Error {
-    ghost use Rattle.std.specs.Prelude.{◌≡◌};
-    ghost use Rattle.plist_base.specs.Reasons.{error_of_reason};
-
     /// Returns a value that prints the error's kind and offset and, for an I/O error, the system's
     /// reason after a colon. The error's own `Display` omits the reason.
     ///
@@ -35,8 +35,6 @@ impl Error {
 
 /// Formats the error and, if it is an I/O error, the system's error after `: `.
 impl<'a> fmt::Display for Reason<'a> {
-    ghost use Rattle.plist_base.specs.Reasons.{reason_text};
-
     ghost output = { reason_text };
 
     fn fmt<W: fmt::Write>(&self, f: &mut fmt::Formatter<W>) -> fmt::Result {

@@ -1,6 +1,6 @@
 //! A source over a reader that can seek.
 
-ghost use Rattle.std.specs.Prelude.{◌≡◌, ◌≤◌, length, IfOk};
+ghost use Rattle.std.specs.Prelude.{◌≡◌, ◌≤◌, length, IfOk, None};
 ghost use Rattle.plist_base.specs.Sources.{CountsFailure};
 ghost use Rattle.plist_base.specs.Seeking.{failures_of, seekable_of};
 
@@ -77,11 +77,7 @@ impl<R: Read + Seek> Seeking<R> {
     pub fn into_inner(self) -> R
         ensures { result ≡ seekable_of self }
     {
-        let Seeking {
-            inner,
-            failed: _,
-            windows: _,
-        } = self;
+        let Seeking { inner, .. } = self;
         inner
     }
 
@@ -96,28 +92,8 @@ impl<R: Read + Seek> Seeking<R> {
         answer
     }
 
-    // Copies bytes out of a window, from this offset on. If the window has no such byte, it is
-    // filled first.
-    fn copy_from_window(&mut self, place: u64, buf: &mut [u8]) -> Result<usize, io::Error>
-        ensures bound { IfOk result (λ count. count ≤ length buf.new) }
-        ensures failures { failures_of self.new ≡ failures_of self.old }
-    {
-        if self.windows.buffered(place).is_empty() {
-            self.windows.fill(place, &mut self.inner)?;
-        }
-        Ok(copy_at(self.windows.buffered(place), 0, buf))
-    }
-
-    // Reads from this offset on with one seek and one read, without a window.
-    fn read_past_windows(&mut self, place: u64, buf: &mut [u8]) -> Result<usize, io::Error>
-        ensures bound { IfOk result (λ count. count ≤ length buf.new) }
-        ensures failures { failures_of self.new ≡ failures_of self.old }
-    {
-        self.inner.seek(SeekFrom::Start(place))?;
-        self.inner.read(buf)
-    }
-
-    // Reads through a window if the buffer is shorter than one, and otherwise directly.
+    // Reads through a window if the buffer is shorter than one, and otherwise directly. If the window
+    // has no byte at this offset, it is filled first.
     fn read_there(&mut self, place: u64, buf: &mut [u8]) -> Result<usize, io::Error>
         ensures bound { IfOk result (λ count. count ≤ length buf.new) }
         ensures failures { failures_of self.new ≡ failures_of self.old }
@@ -126,14 +102,18 @@ impl<R: Read + Seek> Seeking<R> {
             return Ok(0);
         }
         if buf.len() < self.windows.size() {
-            let copied = self.copy_from_window(place, buf)?;
+            if self.windows.buffered(place).is_empty() {
+                self.windows.fill(place, &mut self.inner)?;
+            }
+            let copied = copy_at(self.windows.buffered(place), 0, buf);
             if copied > 0 {
                 return Ok(copied);
             }
         }
         // The read isn't shorter than a window, or a short read of the window didn't reach this
         // offset.
-        self.read_past_windows(place, buf)
+        self.inner.seek(SeekFrom::Start(place))?;
+        self.inner.read(buf)
     }
 
     // Reads bytes that aren't buffered. It is a function of its own to keep `read_at` small.
@@ -149,9 +129,6 @@ impl<R: Read + Seek> Seeking<R> {
 }
 
 impl<R: Read + Seek + Drop> Source for Seeking<R> {
-    ghost use Rattle.std.specs.Prelude.{None};
-    ghost use Rattle.plist_base.specs.Seeking.{failures_of};
-
     ghost known = { λ _. None };
 
     ghost failures = { failures_of };

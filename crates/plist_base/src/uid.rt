@@ -1,6 +1,6 @@
 //! Identifiers of objects in a keyed archive.
 
-ghost use Rattle.std.specs.Prelude.{◌≡◌, Some, decimal};
+ghost use Rattle.std.specs.Prelude.{◌≡◌, Some, decimal, ℕ, ◌^◌, ◌<◌};
 
 use std::fmt;
 use std::marker::Model;
@@ -14,8 +14,6 @@ pub struct Uid {
 }
 
 impl Model for Uid {
-    ghost use Rattle.std.specs.Prelude.{ℕ, ◌^◌, ◌<◌};
-
     ghost Value = { ℕ };
 
     ghost view = { λ a. a.number };

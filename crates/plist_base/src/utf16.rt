@@ -1,6 +1,6 @@
 //! Strings in UTF-16.
 
-ghost use Rattle.std.specs.Prelude.{◌≡◌, ℕ, ◌+◌, ◌*◌, ◌/◌, ◌<◌, ◌≤◌, nat_le, false, true, drop, length, slice_index, take, None, IfSome, MatchOption};
+ghost use Rattle.std.specs.Prelude.{◌≡◌, ℕ, ◌+◌, ◌*◌, ◌/◌, ◌<◌, ◌≤◌, nat_le, false, true, drop, length, slice_index, take, None, IfSome, MatchOption, ◌%◌, ◌++◌};
 ghost use Rattle.std.specs.List.{count_by, sum_by};
 ghost use Rattle.std.proofs.Props.{props};
 ghost use Rattle.std.specs.Char.Utf16.{has_unpaired_surrogate};
@@ -9,7 +9,7 @@ ghost use Rattle.plist_base.specs.Container.{numbers_spelled};
 ghost use Rattle.plist_base.specs.Faults.{InvalidUtf16String};
 ghost use Rattle.plist_base.specs.Object.{Faulty, Scalar, wide_text};
 ghost use Rattle.plist_base.specs.Trees.{String};
-ghost use Rattle.plist_base.specs.Utf16.{ArePaired, IsAsciiBlock, IsNextChar, IsUnpaired, IsUtf16, unit_at};
+ghost use Rattle.plist_base.specs.Utf16.{ArePaired, IsAsciiBlock, IsNextChar, IsUnpaired, IsUtf16, unit_at, chars_of_utf16, utf8_of_utf16};
 ghost use Rattle.plist_base.specs.inner.PairedUnits.{IsAfterPaired};
 ghost use Rattle.plist_base.specs.inner.UnitShares.{utf8_share};
 
@@ -20,8 +20,6 @@ use std::simd::prelude::*;
 struct BelowSurrogates;
 
 impl ByteTest for BelowSurrogates {
-    ghost use Rattle.std.specs.Prelude.{◌<◌};
-
     ghost passes = { λ byte. byte < 0xd8 };
 
     #[inline(always)]
@@ -194,8 +192,6 @@ pub struct Utf16Str<'a> {
 }
 
 impl<'a> Utf16Str<'a> {
-    ghost use Rattle.std.specs.Prelude.{◌%◌};
-    ghost use Rattle.plist_base.specs.Utf16.{chars_of_utf16, utf8_of_utf16};
     ghost use Rattle.plist_base.specs.Utf16Strings.{chars_left, string_of_utf16};
 
     /// Returns the string with the given bytes as its units, or `None` if a surrogate is unpaired.
@@ -288,7 +284,6 @@ pub struct Utf16Chars<'a> {
 }
 
 impl<'a> Utf16Chars<'a> {
-    ghost use Rattle.std.specs.Prelude.{◌++◌};
     ghost use Rattle.plist_base.specs.Utf16Strings.{chars_left};
 
     /// Yields the next eight characters if all of them are ASCII. Otherwise yields none of them.

@@ -1,7 +1,7 @@
 use Rattle.std.proofs.Common.{arith, refl}
 use Rattle.plist_base.specs.Utf16.{utf8_of_utf16}
 use Rattle.plist_base.specs.declared.marker.CountedKind.TheVariants as kind
-use Rattle.plist_base.proofs.Utf16Forms.{utf8_valid}
+use Rattle.plist_base.proofs.Utf16Forms.{utf8_of_valid}
 use Rattle.plist_binwrite.proofs.WideObjects.{text_bound, wide_size}
 use Rattle.plist_binwrite.proofs.forms.length_of_wide.Goals as goal
 
@@ -20,6 +20,5 @@ pub returns-clause-writable : goal.returns-clause-writable
 returns-clause-writable c =
     let units = c.args.units.now in
     let valid = c.requires.valid in
-    let utf8
-    = utf8_valid units valid.whole (λ i. let fits = c.type_inv.units i in omega arith) valid.paired in
+    let utf8 = utf8_of_valid units valid in
     (utf8, omega (arith, text_bound units (utf8_of_utf16 units) valid refl utf8))

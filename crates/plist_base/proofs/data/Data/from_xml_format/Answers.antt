@@ -15,15 +15,15 @@ pub returns-in_err-bytes-clause-fault : goal.returns-in_err-bytes-clause-fault
 returns-in_err-bytes-clause-fault c =
     let left = c.deref.ensures.value ∙ c.in_ok-symbols.ensures.bytes in
     refused_as (IsFaultOfText c.args.text.now) _ _ c.from_residual-in_err-bytes.ensures.1
-    (fault_of_text c.args.text.now _ _ left c.in_err-bytes.ensures.refused)
+    (fault_of_text c.args.text.now _ _ left c.in_err-bytes.ensures.err)
 
 pub returns-in_err-bytes-clause-no_data : goal.returns-in_err-bytes-clause-no_data
 returns-in_err-bytes-clause-no_data c =
     let left = c.deref.ensures.value ∙ c.in_ok-symbols.ensures.bytes in
     refused_as (IsNoData c.args.text.now) _ _ c.from_residual-in_err-bytes.ensures.1
-    (no_data c.args.text.now _ _ left c.in_err-bytes.ensures.refused)
+    (no_data c.args.text.now _ _ left c.in_err-bytes.ensures.err)
 
 pub returns-clause-data : goal.returns-clause-data
 returns-clause-data c =
     let left = c.deref.ensures.value ∙ c.in_ok-symbols.ensures.bytes in
-    data_decoded c.args.text.now _ _ left c.in_ok-bytes.ensures.bytes ∙ ap Some (sym c.new.ensures)
+    data_decoded c.args.text.now _ _ left c.in_ok-bytes.ensures.ok ∙ ap Some (sym c.new.ensures)

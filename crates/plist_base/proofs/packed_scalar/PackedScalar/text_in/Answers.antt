@@ -1,7 +1,6 @@
-use Rattle.std.proofs.Common.{subst, take}
-use Rattle.std.specs.Str.{IsUtf8}
+use Rattle.std.proofs.Common.{subst}
 use Rattle.std.proofs.lemmas.Str.{IsUtf8-from_is_utf8}
-use Rattle.plist_base.specs.Packing.{IsPackable, content_bytes, scalar_of_kind}
+use Rattle.plist_base.specs.Packing.{IsPackable, scalar_of_kind}
 use Rattle.plist_base.proofs.packed_scalar.PackedScalar.text_in.Goals as goal
 
 pub from_utf8_unchecked-requires : goal.from_utf8_unchecked-requires

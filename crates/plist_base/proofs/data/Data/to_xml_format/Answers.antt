@@ -1,17 +1,18 @@
-use Rattle.std.proofs.Common.{◌∙◌, ◌++◌, ◌*◌, ap, arith, string_bytes}
+use Rattle.std.proofs.Common.{◌≡◌, Some, subst, ◌∙◌, ◌++◌, ◌*◌, ap, arith, string_bytes, rules}
 use Rattle.base64.specs.Engines.{standard}
+use Rattle.plist_base.specs.DataText.{data_of_text, data_text}
 use Rattle.base64.specs.GeneralPurpose.{encode_of}
 use Rattle.plist_base.proofs.DataLines.{line-slice, lines-first, lines-next, text_of_lines, written-reads}
-use Rattle.plist_base.proofs.data.text_of.Goals as goal
-use Rattle.plist_base.proofs.data.text_of.Goals.{then-line-gt0+in_ok-push, else-line-gt0}
+use Rattle.plist_base.proofs.data.Data.to_xml_format.Goals as goal
+use Rattle.plist_base.proofs.data.Data.to_xml_format.Goals.{then-line-gt0+in_ok-push, else-line-gt0}
 
 pub loop-line-preserved : goal.loop-line-preserved
 loop-line-preserved c =
-    let bytes = c.args.bytes.now in
+    let bytes = c.as_slice-bytes.result.now in
     let line = c.loop-line.line in
     let test = c.loop-line-test.true in
     let slice = line-slice bytes (line * 51) c.min-end.result c.min-end.ensures (omega arith) in
-    let pushed = c.in_ok-push_base64.ensures
+    let pushed = c.in_ok-encode_string.ensures.ok
     ∙ ap (λ part. string_bytes c.if-line-gt0.text ++ encode_of standard part) slice in
     elim c.if-line-gt0.branch [
       | then-line-gt0+in_ok-push w ↦ lines-next bytes line pushed
@@ -23,10 +24,10 @@ loop-line-preserved c =
 
 pub returns-clause-text : goal.returns-clause-text
 returns-clause-text c =
-    text_of_lines c.args.bytes.now c.loop-line.line (string_bytes c.loop-line.text)
-    c.loop-line.invariant (omega arith)
+    text_of_lines c.as_slice-bytes.result.now c.loop-line.line (string_bytes c.loop-line.text)
+    c.loop-line.invariant (omega arith) ∙ ap data_text (c.as_slice-bytes.ensures.value ∙ c.self.view_is)
 
 pub returns-clause-back : goal.returns-clause-back
-returns-clause-back c =
-    rw (returns-clause-text c) (written-reads c.args.bytes.now
-    (λ i. let fits = c.type_inv.bytes i in omega arith))
+returns-clause-back c = rw (returns-clause-text c)
+    (subst (λ bytes. data_of_text (data_text bytes) ≡ Some bytes)
+    (c.as_slice-bytes.ensures.value ∙ c.self.view_is) (written-reads _ (λ i. search rules)))
