@@ -35,11 +35,7 @@ scaled_low n j q lo e = let p = mul-le-mul_right q lo in omega arith
 
 scaled_high : (n j q : ℕ) → n < 2 ^ suc j → 1 ≤ q → 2 ^ j * q ≡ 2 ^ 52 → n * q < 2 ^ 53
 scaled_high n j q hi one e =
-    let up : suc n ≤ 2 * 2 ^ j = omega arith in
-    let p = mul-le-mul_right q up in
-    let l : suc n * q ≡ n * q + q = omega arith in
-    let r : 2 * 2 ^ j * q ≡ 2 * (2 ^ j * q) = omega arith in
-    omega arith
+    let p : suc n * q ≤ 2 * 2 ^ j * q = mul-le-mul_right q (omega arith) in grind arith
 
 pub encoded : (n : ℕ) → 0 < n → n < 2 ^ 53 → Encoded n
 unfolding whole_bits
@@ -177,8 +173,7 @@ written_neg n h =
     }
 
 tested : (b : Bool) (z y : ℤ) → ◌≡◌ {A = Option ℤ} (Some y) (cond b (Some z) None) → b ≡ true
-tested true z y e = refl
-tested false z y e = absurd (cc)
+tested b z y e = search rules
 
 -- the bits that are computed for a second are its bits, whether it is negative or not
 pub below_zero : (z x y : ℤ) (b n : ℕ) → x ≡ z → Some y ≡ if_second_of_date x
@@ -193,25 +188,17 @@ from_zero z (pos n) y b m same h le is e =
     rw (← same, e, is) (written_pos n (tested _ _ y h))
 from_zero z (negsuc n) y b m same h le is e = absurd (cc)
 
-plain_low : (b : ℕ) → b < 2 ^ 63 → eqb b (2 ^ 63) ≡ false
-plain_low b h = grind (arith, nat_tests)
-
 -- no second is written as the negative zero
 pub plain_bits : (z : ℤ) → is_second_of_date z ≡ true → eqb (second_bits z) (2 ^ 63) ≡ false
 unfolding second_bits whole_bits
 plain_bits (pos zero) h = refl
 plain_bits (pos (suc n)) h =
-    let small : suc n < 2 ^ 53 = grind (arith, nat_tests) in
-    let low = whole_small (suc n) (encoded (suc n) (omega arith) small) in
-    plain_low (whole_bits (suc n)) low
+    let k = encoded (suc n) (omega arith) (grind (arith, nat_tests)) in
+    let low = whole_small (suc n) k in grind (arith, nat_tests)
 plain_bits (negsuc n) h =
-    let small : suc n < 2 ^ 53 = grind (arith, nat_tests) in
-    let k = encoded (suc n) (omega arith) small in
-    let is = k.is in let lo = k.low in
-    rw add-one (plain_high (whole_bits (suc n)) (omega arith))
-  where
-    plain_high : (b : ℕ) → 0 < b → eqb (2 ^ 63 + b) (2 ^ 63) ≡ false
-    plain_high b h = grind (arith, nat_tests)
+    let k = encoded (suc n) (omega arith) (grind (arith, nat_tests)) in
+    let some : 0 < whole_bits (suc n) = omega (arith, k.is, k.low) in
+    rw add-one (grind (arith, nat_tests))
 
 pub bytes_are : (bs : List ℕ) (b : ℕ) → bs ≡ to_be_bytes w64 b → b < 2 ^ 64 → real_bits bs ≡ b
 bytes_are bs b e h = cc (from_be_bytes-to_be_bytes_8 b h)

@@ -1,6 +1,6 @@
 -- What is printed for a second in UTC is parsed as that second. A second is in the years 0 to 9999
 -- if its day is.
-use Rattle.std.proofs.Common.{◌≡◌, ℕ, ℤ, pos, ◌+ℤ◌, ◌*ℤ◌, ◌<ℤ◌, ◌≤ℤ◌, ◌<◌, inl, inr, refl, arith, ◌+◌, ◌*◌, ◌/◌, ◌%◌, ◌≤◌, true, false, List, [], ◌∷◌, ◌++◌, ◌-ℤ◌, Some, slice_index, sym, ap, subst, ◌∙◌}
+use Rattle.std.proofs.Common.{◌≡◌, ℕ, ℤ, pos, ◌+ℤ◌, ◌*ℤ◌, ◌<ℤ◌, ◌≤ℤ◌, ◌<◌, inl, inr, refl, arith, ◌+◌, ◌*◌, ◌/◌, ◌%◌, ◌≤◌, true, false, List, [], ◌∷◌, ◌++◌, ◌-ℤ◌, Some, sym, ap, subst, ◌∙◌}
 use Rattle.std.specs.Int.{int_div_euclid, IsInRange}
 use Rattle.jiff_core.specs.Calendar.{days_from_civil, IsEpochDay, days_in_month}
 use Rattle.jiff_core.specs.Date.{epoch_day}
@@ -185,29 +185,20 @@ printed date year second is small in_day =
     let time_is : second_of_day (second / 3600) (second / 60 % 60) (second % 60)
     ≡ Some second = time_is (second / 3600) (second / 60 % 60) (second % 60) (omega arith)
     (omega arith) (omega arith) ∙ ap Some time in
-    let text = text_from (two_text (year / 100)) (two_text (year % 100)) (two_text date.month)
-    (two_text date.day) (two_text (second / 3600)) (two_text (second / 60 % 60))
-    (two_text (second % 60)) in
-    let shown : text_from (two_digit_text (year / 100)) (two_digit_text (year % 100))
-    (two_digit_text date.month) (two_digit_text date.day) (two_digit_text (second / 3600))
-    (two_digit_text (second / 60 % 60)) (two_digit_text (second % 60)) ≡ text =
-    λ k.
-    text_from (places_are_digits (year / 100) (omega arith) k)
-    (places_are_digits (year % 100) (omega arith) k) (places_are_digits date.month month k)
-    (places_are_digits date.day day k)
-    (places_are_digits (second / 3600) (omega arith) k)
-    (places_are_digits (second / 60 % 60) (omega arith) k)
-    (places_are_digits (second % 60) (omega arith) k) in
-    let read = reads (year / 100) (year % 100) date.month date.day (second / 3600)
-    (second / 60 % 60) (second % 60) (epoch_day date) second
-    (omega arith) (omega arith) month day (omega arith) (omega arith) (omega arith) day_is time_is
-    in
-    record {
-      spells = ap unix_second_of_text shown ∙ read
-          ∙ ap Some (omega (arith, signed_arith));
-      letter = ap (λ t. slice_index t 10) shown;
-      utc = ap (λ t. slice_index t 19) shown;
-    }
+    rw (
+      places_are_digits (year / 100) (omega arith),
+      places_are_digits (year % 100) (omega arith),
+      places_are_digits date.month month,
+      places_are_digits date.day day,
+      places_are_digits (second / 3600) (omega arith),
+      places_are_digits (second / 60 % 60) (omega arith),
+      places_are_digits (second % 60) (omega arith),
+    ) (record {
+      spells = reads _ _ _ _ _ _ _ _ _ (omega arith) (omega arith) month day (omega arith) (omega arith)
+          (omega arith) day_is time_is ∙ ap Some (omega (arith, signed_arith));
+      letter = refl;
+      utc = refl;
+    })
 
 -- a text spells the second of its day, time and zone
 pub spelled : (text : List ℕ) (day zone : ℤ) (time : ℕ) → has_separators text ≡ true

@@ -1,9 +1,10 @@
 -- Shifts of a mantissa, and the seconds that are out of range.
 use Rattle.std.proofs.Common.{rules}
-use Rattle.std.proofs.Common.{◌≡◌, ℕ, zero, suc, ◌+◌, ◌-◌, ◌*◌, ◌/◌, ◌%◌, ◌^◌, ◌<◌, ◌≤◌, max, Bool, true, false, not, cond, eqb, ℤ, pos, neg_ℤ, Option, None, refl, ap, sym, ◌∙◌, arith, pow-add}
+use Rattle.std.proofs.Common.{◌≡◌, ℕ, zero, suc, ◌+◌, ◌-◌, ◌*◌, ◌/◌, ◌%◌, ◌^◌, ◌<◌, ◌≤◌, Bool, true, false, not, cond, eqb, ℤ, Option, None, refl, ap, sym, ◌∙◌, arith, pow-add}
 use Rattle.std.proofs.Math.Nat.{pow-le-pow_right, one-le-pow, div-eq_of_lt, mod-eq_of_lt, mul-le-mul_right, div-lt_iff_lt-mul, div-add-mod, mod-lt, le-div_iff_mul-le}
 use Rattle.std.proofs.lemmas.Nat.{div-mul-add, mod-mul-add}
 use Rattle.std.proofs.lemmas.Bool.Decides.{nat_tests}
+use Rattle.std.proofs.lemmas.Int.{ints}
 use Rattle.plist_base.specs.Date.{real_exponent, real_mantissa, real_scale, parts_in_second, parts_of, whole_seconds, parts_left, has_fraction, real_second, rounded_down, is_second_of_date, if_second_of_date, is_negative, second_of_bits}
 
 -- the number of parts in a second is the product of two powers
@@ -39,10 +40,7 @@ left_scaled m e h =
 
 zero_scaled : (a c : ℕ) → 0 < c → eqb (a * c) 0 ≡ eqb a 0
 zero_scaled zero c h = let z : 0 * c ≡ 0 = omega arith in rw z refl
-zero_scaled (suc a) c h =
-    let p : 1 * c ≤ suc a * c = mul-le-mul_right c (omega arith) in let q : eqb (suc a * c) 0
-    ≡ false = grind (arith, nat_tests) in let r : eqb (suc a) 0
-    ≡ false = grind (arith, nat_tests) in cc
+zero_scaled (suc a) c h = grind (arith, nat_tests)
 
 -- parts are left if and only if the mantissa has bits below the whole seconds
 pub left_shifted : (m e : ℕ) → e < 1075 → eqb (parts_left m e) 0 ≡ eqb (m % 2 ^ (1075 - e)) 0
@@ -72,22 +70,10 @@ pub left_all : (m e : ℕ) → m < 2 ^ 53 → e < 1075 → 64 ≤ 1075 - e → e
 left_all m e h lt far =
     left_shifted m e lt ∙ ap (λ k. eqb k 0) (mod-eq_of_lt (above m _ h (omega arith)))
 
-far_pos : (w : ℕ) → 2 ^ 52 ≤ w → is_second_of_date (pos w) ≡ false
-far_pos w h = grind (arith, nat_tests)
-
-far_neg : (w : ℕ) → 2 ^ 52 ≤ w → is_second_of_date (neg_ℤ (pos w)) ≡ false
-far_neg zero h = absurd (omega arith)
-far_neg (suc w) h = grind (arith, nat_tests)
-
 far_second : (negative : Bool) (w left : ℕ) → 2 ^ 52 ≤ w
     → is_second_of_date (rounded_down negative w left) ≡ false
-far_second false w left h = far_pos w h
-far_second true w left h = far_up _ w h
-  where
-    far_up : (b : Bool) (w : ℕ) → 2 ^ 52 ≤ w
-        → is_second_of_date (neg_ℤ (pos (cond b w (w + 1)))) ≡ false
-    far_up true w h = far_neg w h
-    far_up false w h = far_neg (w + 1) (omega arith)
+far_second false w left h = grind (arith, nat_tests)
+far_second true w left h = grind (arith, nat_tests, ints)
 
 -- with a scale of 1075 or more, there are 2 ^ 52 or more whole seconds
 whole_far : (m e : ℕ) → 2 ^ 52 ≤ m → 1075 ≤ e → 2 ^ 52 ≤ whole_seconds m e
@@ -150,10 +136,6 @@ whole_small m e h lt =
 
 pub left_masked : (m k : ℕ) → k < 64 → m % (1 * 2 ^ k % 18446744073709551616) ≡ m % 2 ^ k
 left_masked m k h = search rules
-
-pub scale_is : (bits e : ℕ) → e ≡ real_exponent bits → max e 1 ≡ real_scale bits
-unfolding real_scale
-scale_is bits e is = omega arith
 
 pub second_is : (bits m e w : ℕ) → m ≡ real_mantissa bits → e ≡ real_scale bits
     → w ≡ whole_seconds m e → real_exponent bits < 1075

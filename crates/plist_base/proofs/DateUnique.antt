@@ -76,32 +76,19 @@ parts_value : (bits : ℕ) → parts_of (real_mantissa bits) (real_scale bits)
 unfolding parts_of real_mantissa real_scale
 parts_value bits = refl
 
-neg_once : (a b : ℕ) → neg_ℤ (pos a) ≡ neg_ℤ (pos b) → a ≡ b
-neg_once a b same = omega (arith, ints)
-
-pos_once : (a b : ℕ) → pos a ≡ pos b → a ≡ b
-pos_once a b same = omega (arith, ints)
-
-neg_pos : (a b : ℕ) → neg_ℤ (pos a) ≡ pos b → a ≡ 0
-neg_pos a b same = omega (arith, ints)
-
 -- bits with the same sign, exponent and fraction are equal
 bits_same : (a b : ℕ) → a < 2 ^ 64 → b < 2 ^ 64 → is_negative a ≡ is_negative b
     → real_exponent a ≡ real_exponent b → a % 2 ^ 52 ≡ b % 2 ^ 52 → a ≡ b
 unfolding real_exponent
 bits_same a b sa sb sign exponent fraction = grind (arith, nat_tests)
 
-zero_exponent : 0 ≡ real_exponent (2 ^ 63)
-unfolding real_exponent
-zero_exponent = refl
-
 -- bits with a sign whose value is zero are those of the negative zero
 negative_zero : (a : ℕ) → a < 2 ^ 64 → is_negative a ≡ true
     → value (real_exponent a) (a % 2 ^ 52) ≡ 0 → eqb a (2 ^ 63) ≡ true
+unfolding real_exponent
 negative_zero a small negative none =
     let once = value_once (real_exponent a) 0 (a % 2 ^ 52) 0 (omega arith) (omega arith) none in
-    let is : a ≡ 2 ^ 63 = bits_same a _ small (omega arith) negative (once.0 ∙ zero_exponent)
-    (once.1) in
+    let is : a ≡ 2 ^ 63 = bits_same a _ small (omega arith) negative once.0 once.1 in
     rw is refl
 
 abbrev signed : Bool → ℕ → ℤ
@@ -121,12 +108,10 @@ module _ (a b : ℕ) (small_a : a < 2 ^ 64) (small_b : b < 2 ^ 64) (plain_a : eq
 
   same_both : (c d : Bool) → is_negative a ≡ c → is_negative b ≡ d
       → signed c (parts a) ≡ signed d (parts b) → (c ≡ d) × (parts a ≡ parts b)
-  same_both true true is_c is_d same = (refl, neg_once _ _ same)
-  same_both false false is_c is_d same = (refl, pos_once _ _ same)
-  same_both true false is_c is_d same =
-      absurd (not_zero a small_a plain_a is_c (neg_pos _ (parts b) same))
-  same_both false true is_c is_d same =
-      absurd (not_zero b small_b plain_b is_d (neg_pos _ (parts a) (sym same)))
+  same_both true true is_c is_d same = (refl, omega (arith, ints))
+  same_both false false is_c is_d same = (refl, omega (arith, ints))
+  same_both true false is_c is_d same = absurd (not_zero a small_a plain_a is_c (omega (arith, ints)))
+  same_both false true is_c is_d same = absurd (not_zero b small_b plain_b is_d (omega (arith, ints)))
 
   one_real : signed (is_negative a) (parts a) ≡ signed (is_negative b) (parts b) → a ≡ b
   one_real same =

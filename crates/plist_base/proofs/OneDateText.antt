@@ -20,38 +20,19 @@ by_test : {A : Type 0} (b : Bool) (option : Option A) (value : A)
     → IsSome (cond b option None) value → (b ≡ true) × IsSome option value
 by_test b option value is = search rules
 
-record Both {A : Type 0} (a b : Option ℕ) (make : ℕ → ℕ → Option A) (value : A) : Type 0 where
-  x : ℕ
-  y : ℕ
-  is_x : IsSome a x
-  is_y : IsSome b y
-  made : IsSome (make x y) value
-
 both : {A : Type 0} (a b : Option ℕ) (make : ℕ → ℕ → Option A) (value : A)
-    → IsSome (of_both a b make) value → Both a b make value
+    → IsSome (of_both a b make) value
+    → (x : ℕ) × (y : ℕ) × IsSome a x × IsSome b y × IsSome (make x y) value
 both a b make value is = search rules
 
-record Three {A : Type 0} (a b c : Option ℕ) (make : ℕ → ℕ → ℕ → Option A) (value : A) : Type 0
-  where
-    x : ℕ
-    is_x : IsSome a x
-    rest : Both b c (make x) value
-
 three : {A : Type 0} (a b c : Option ℕ) (make : ℕ → ℕ → ℕ → Option A) (value : A)
-    → IsSome (of_three a b c make) value → Three a b c make value
+    → IsSome (of_three a b c make) value → (x : ℕ) × (y : ℕ) × (z : ℕ) × IsSome a x × IsSome b y
+    × IsSome c z × IsSome (make x y z) value
 three a b c make value is = search rules
 
-record HasParts (day : Option ℤ) (time : Option ℕ) (zone : Option ℤ) (second : ℤ) : Type 0 where
-  d : ℤ
-  t : ℕ
-  z : ℤ
-  is_d : IsSome day d
-  is_t : IsSome time t
-  is_z : IsSome zone z
-  is : ((d *ℤ pos 86400 +ℤ pos t) -ℤ z) ≡ second
-
 has_parts : (day : Option ℤ) (time : Option ℕ) (zone : Option ℤ) (second : ℤ)
-    → IsSome (second_of_parts day time zone) second → HasParts day time zone second
+    → IsSome (second_of_parts day time zone) second → (d : ℤ) × (t : ℕ) × (z : ℤ) × IsSome day d
+    × IsSome time t × IsSome zone z × (((d *ℤ pos 86400 +ℤ pos t) -ℤ z) ≡ second)
 has_parts day time zone second is = search rules
 
 -- ---- the digits
@@ -167,43 +148,41 @@ unfolding unix_second_of_text
 numbers second text is =
     let test = by_test _ _ second is.spells in
     let m = marks text test.0 in
-    let parts = has_parts _ _ _ _ test.1 in
-    let z = zone_made _ _ is.utc parts.is_z in
-    let d = three _ _ _ _ _ parts.is_d in
-    let y = both (two_digits_at text 0) (two_digits_at text 2) (λ high low. Some (high * 100 + low)) d.x d.is_x in
-    let t = three _ _ _ _ _
-    parts.is_t in
-    let year_is : y.x * 100 + y.y ≡ d.x = cc in
-    let made : IsSome (day_number (y.x * 100 + y.y) d.rest.x d.rest.y) parts.d = rw year_is
-    d.rest.made in
+    let (days, of_day, zone, is_days, is_time, is_zone, sum) = has_parts _ _ _ _ test.1 in
+    let z = zone_made _ _ is.utc is_zone in
+    let (whole, month, day, is_year, is_month, is_day, date_is) = three _ _ _ _ _ is_days in
+    let (century, year, is_high, is_low, year_is) = both (two_digits_at text 0) (two_digits_at text 2)
+    (λ high low. Some (high * 100 + low)) whole is_year in
+    let (hour, minute, seconds, is_hour, is_minute, is_second, time_is) = three _ _ _ _ _ is_time in
+    let same : century * 100 + year ≡ whole = cc in
+    let made : IsSome (day_number (century * 100 + year) month day) days = rw same date_is in
     let date = day_made _ _ _ _ made in
-    let time = time_made _ _ _ _ t.rest.made in
-    let c0 = digits _ _ _ y.is_x in
-    let c1 = digits _ _ _ y.is_y in
-    let c2 = digits _ _ _ d.rest.is_x in
-    let c3 = digits _ _ _ d.rest.is_y in
-    let c4 = digits _ _ _ t.is_x in
-    let c5 = digits _ _ _ t.rest.is_x in
-    let c6 = digits _ _ _ t.rest.is_y in
-    let written : front 20 0 text ≡ text_of y.x y.y d.rest.x d.rest.y t.x t.rest.x t.rest.y =
-    λ k.
+    let time = time_made _ _ _ _ time_is in
+    let c0 = digits _ _ _ is_high in
+    let c1 = digits _ _ _ is_low in
+    let c2 = digits _ _ _ is_month in
+    let c3 = digits _ _ _ is_day in
+    let c4 = digits _ _ _ is_hour in
+    let c5 = digits _ _ _ is_minute in
+    let c6 = digits _ _ _ is_second in
+    let written : front 20 0 text ≡ text_of century year month day hour minute seconds = λ k.
     c0.high k ∷ c0.low k ∷ c1.high k ∷ c1.low k ∷ m.year k ∷ c2.high k ∷ c2.low k ∷ m.month k
     ∷ c3.high k ∷ c3.low k
     ∷ is.letter k ∷ c4.high k ∷ c4.low k ∷ m.hour k ∷ c5.high k ∷ c5.low k ∷ m.minute k ∷ c6.high k
     ∷ c6.low k ∷ is.utc k ∷ [] in
     record {
-      century = y.x;
-      year = y.y;
-      month = d.rest.x;
-      day = d.rest.y;
-      hour = t.x;
-      minute = t.rest.x;
-      seconds = t.rest.y;
+      century = century;
+      year = year;
+      month = month;
+      day = day;
+      hour = hour;
+      minute = minute;
+      seconds = seconds;
       century_small = c0.small;
       year_small = c1.small;
       date = date.0;
       time = time.0;
-      is = omega (arith, signed_arith, date.1, time.1, z.1, parts.is);
+      is = omega (arith, signed_arith, date.1, time.1, z.1, sum);
       text_is = elements 20 _ z.0 ∙ written;
     }
 

@@ -91,9 +91,8 @@ impl Date {
         ensures only { IfSome result (IsOnlyAt second) }
     {
         let bits = bits_of_second(second)?;
-        Some(Date {
-            bytes: bits.to_be_bytes(),
-        })
+        let bytes = bits.to_be_bytes();
+        Some(Date { bytes })
     }
 
     /// Converts a Unix second to a date without a fraction. Returns `None` if the second is outside
@@ -159,32 +158,15 @@ impl Date {
     }
 
     /// Returns `true` if this date lies between two seconds.
+    #[tactic(auto, using(crate::proofs::DateShifts::fraction_parts))]
     pub fn has_fraction(&self) -> bool
         ensures { result ≡ has_fraction (real_bits self.now) }
     {
-        is_fractional(u64::from_be_bytes(self.bytes))
-    }
-}
-
-#[tactic(auto, unfolding(crate::specs::Date::real_exponent))]
-fn exponent_of(bits: u64) -> u64
-    ensures is { result ≡ real_exponent bits }
-    ensures small { result < 2048 }
-{
-    (bits >> 52) & 0x7ff
-}
-
-#[tactic(auto, unfolding(crate::specs::Date::real_mantissa))]
-fn mantissa_of(bits: u64, exponent: u64) -> u64
-    requires { exponent ≡ real_exponent bits }
-    ensures is { result ≡ real_mantissa bits }
-    ensures small { result < 2 ^ 53 }
-{
-    let fraction = bits & 0x000f_ffff_ffff_ffff;
-    if exponent == 0 {
-        fraction
-    } else {
-        (1 << 52) + fraction
+        // An absolute value of 2^52 or more has no fraction.
+        match RealParts::from_bits(u64::from_be_bytes(self.bytes)) {
+            None => false,
+            Some(parts) => parts.has_fraction(),
+        }
     }
 }
 
@@ -201,18 +183,23 @@ struct RealParts {
 impl RealParts {
     // Returns the parts of a real, or `None` if its absolute value is 2^52 or more, or if it is
     // infinite or a NaN.
-    #[tactic(auto, using(crate::proofs::DateShifts::scale_is))]
+    #[tactic(auto, unfolding(crate::specs::Date::real_exponent, crate::specs::Date::real_mantissa, crate::specs::Date::real_scale))]
     fn from_bits(bits: u64) -> Option<RealParts>
         ensures range { IsNoneFrom 1075 (real_exponent bits) result }
         ensures mantissa { IfSome result (λ parts. parts.mantissa ≡ real_mantissa bits) }
         ensures scale { IfSome result (λ parts. parts.scale ≡ real_scale bits) }
     {
-        let exponent = exponent_of(bits);
+        let exponent = (bits >> 52) & 0x7ff;
         if exponent >= 1075 {
             return None;
         }
+        let fraction = bits & 0x000f_ffff_ffff_ffff;
         Some(RealParts {
-            mantissa: mantissa_of(bits, exponent),
+            mantissa: if exponent == 0 {
+                fraction
+            } else {
+                (1 << 52) + fraction
+            },
             scale: exponent.max(1),
         })
     }
@@ -245,18 +232,6 @@ impl RealParts {
     }
 }
 
-// Returns whether the value lies between two seconds. An absolute value of 2^52 or more has no
-// fraction.
-#[tactic(auto, using(crate::proofs::DateShifts::fraction_parts))]
-fn is_fractional(bits: u64) -> bool
-    ensures { result ≡ has_fraction bits }
-{
-    match RealParts::from_bits(bits) {
-        None => false,
-        Some(parts) => parts.has_fraction(),
-    }
-}
-
 // Rounds a value down, given its sign, its whole seconds, and whether it has a fraction as well.
 fn round_down(negative: bool, whole: u64, has_fraction: bool) -> i64
     requires { whole < 2 ^ 52 }
@@ -274,11 +249,9 @@ fn round_down(negative: bool, whole: u64, has_fraction: bool) -> i64
 fn checked_second(second: i64) -> Option<i64>
     ensures { result ≡ if_second_of_date second }
 {
-    if (-378_683_424_000..=252_423_993_599).contains(&second) {
-        Some(second)
-    } else {
-        None
-    }
+    (-378_683_424_000..=252_423_993_599)
+        .contains(&second)
+        .then_some(second)
 }
 
 // Returns the value rounded down to a second, or `None` if that isn't in the range of dates.

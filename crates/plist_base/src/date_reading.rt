@@ -65,11 +65,9 @@ fn second_of_day(hour: u8, minute: u8, second: u8) -> Option<u32>
     ensures is { result ≡ spec.second_of_day hour minute second }
     ensures bound { IfSome result (λ n. n < 86400) }
 {
-    if hour < 24 && minute < 60 && second < 60 {
-        Some(u32::from(hour) * 3600 + u32::from(minute) * 60 + u32::from(second))
-    } else {
-        None
-    }
+    (hour < 24 && minute < 60 && second < 60).then_some(
+        u32::from(hour) * 3600 + u32::from(minute) * 60 + u32::from(second),
+    )
 }
 
 // Parses the `HH:MM:SS` at offset 11, and returns the second of the day.

@@ -66,11 +66,7 @@ impl LowHalf {
         ensures short { IfSome result (λ length. (length ≡ self) × (self < 15)) }
         ensures follows { IfNone result (self ≡ 15) }
     {
-        if self.value < 15 {
-            Some(u64::from(self.value))
-        } else {
-            None
-        }
+        (self.value < 15).then_some(u64::from(self.value))
     }
 }
 

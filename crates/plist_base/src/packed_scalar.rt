@@ -94,10 +94,7 @@ impl PackedScalar {
     pub fn of_boolean(value: bool) -> PackedScalar
         ensures { scalar_of_packed result ≡ BooleanScalar value }
     {
-        PackedScalar {
-            tag: if value { 2 } else { 1 },
-            content: 0,
-        }
+        PackedScalar::from_parts(if value { 2 } else { 1 }, 0)
     }
 
     /// Packs an integer that isn't negative.
@@ -105,10 +102,7 @@ impl PackedScalar {
     pub fn of_unsigned(number: u64) -> PackedScalar
         ensures { scalar_of_packed result ≡ IntegerScalar (pos number) }
     {
-        PackedScalar {
-            tag: 3,
-            content: number,
-        }
+        PackedScalar::from_parts(3, number)
     }
 
     /// Packs an integer of 64 bits with a sign.
@@ -118,7 +112,7 @@ impl PackedScalar {
     {
         let content = number.cast_unsigned();
         if number < 0 {
-            return PackedScalar { tag: 4, content };
+            return PackedScalar::from_parts(4, content);
         }
         PackedScalar::of_unsigned(content)
     }
@@ -150,10 +144,7 @@ impl PackedScalar {
     pub fn of_uid(uid: Uid) -> PackedScalar
         ensures { scalar_of_packed result ≡ UidScalar uid }
     {
-        PackedScalar {
-            tag: 7,
-            content: uid.get(),
-        }
+        PackedScalar::from_parts(7, uid.get())
     }
 
     /// Packs a date.
@@ -161,10 +152,7 @@ impl PackedScalar {
     pub fn of_date(date: Date) -> PackedScalar
         ensures { scalar_of_packed result ≡ DateScalar date }
     {
-        PackedScalar {
-            tag: 26,
-            content: content_from(date.to_plist_real()),
-        }
+        PackedScalar::from_parts(26, content_from(date.to_plist_real()))
     }
 
     /// Packs data, or returns `None` if it has more than eight bytes.

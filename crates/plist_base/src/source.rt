@@ -72,12 +72,7 @@ pub(crate) fn copy_at(bytes: &[u8], place: u64, buf: &mut [u8]) -> usize
     ensures bound { result ≤ length buf.new }
     ensures bytes { GivesAt bytes.now place result buf.new }
 {
-    let size = bytes.len();
-    if place >= size as u64 {
-        return 0;
-    }
-    let start = place as usize;
-    let rest = &bytes[start..];
+    let rest = rest_from(bytes, place);
     let count = rest.len().min(buf.len());
     let part = &mut buf[..count];
     part.copy_from_slice(&rest[..count]);

@@ -241,10 +241,8 @@ impl<'a> Utf16Str<'a> {
     pub fn chars(self) -> Utf16Chars<'a>
         ensures { chars_left result ≡ chars_of_utf16 self.entry.bytes.now }
     {
-        Utf16Chars {
-            bytes: self.bytes,
-            at: 0,
-        }
+        let bytes = self.bytes;
+        Utf16Chars { bytes, at: 0 }
     }
 }
 

@@ -55,11 +55,7 @@ pub(crate) fn window_at(headers: &[Header], size: usize, place: u64) -> Option<u
     let first = first_window(headers.len(), place / size as u64);
     // Which of the two windows it is can't be predicted, so no branch depends on it.
     let i = first + usize::from(headers[first].start != start);
-    if headers[i].start == start {
-        Some(i)
-    } else {
-        None
-    }
+    (headers[i].start == start).then_some(i)
 }
 
 // Returns `size` bytes from this index on, or fewer if the slice ends earlier.

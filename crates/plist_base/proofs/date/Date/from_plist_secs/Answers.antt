@@ -9,11 +9,11 @@ use Rattle.plist_base.proofs.date.Date.from_plist_secs.Goals as goal
 pub invariant_of-result : goal.invariant_of-result
 invariant_of-result c =
     let f : FitsSigned w64 c.args.second = search rules in
-    let b = bytes_are c.to_be_bytes.result c.in_ok-bits.bits c.to_be_bytes.ensures (omega arith) in
+    let b = bytes_are c.to_be_bytes-bytes.result c.in_ok-bits.bits c.to_be_bytes-bytes.ensures (omega arith) in
     let is = simp to_z-of_z at c.in_ok-bits.ensures.is in
     let back = simp to_z-of_z at c.in_ok-bits.ensures.back in (
       (search rules, λ place. search rules),
-      date_of_second (second_of_bytes c.to_be_bytes.result) c.to_be_bytes.result
+      date_of_second (second_of_bytes c.to_be_bytes-bytes.result) c.to_be_bytes-bytes.result
           (ap is_none (ap second_of_bits b ∙ back.0))
           (ap (λ n. eqb n (2 ^ 63)) (b ∙ is.1) ∙ plain_bits c.args.second is.0),
     )
@@ -21,10 +21,10 @@ invariant_of-result c =
 pub returns-clause-only : goal.returns-clause-only
 returns-clause-only c =
     let f : FitsSigned w64 c.args.second = search rules in
-    let b = bytes_are c.to_be_bytes.result c.in_ok-bits.bits c.to_be_bytes.ensures (omega arith) in
+    let b = bytes_are c.to_be_bytes-bytes.result c.in_ok-bits.bits c.to_be_bytes-bytes.ensures (omega arith) in
     let back = simp to_z-of_z at c.in_ok-bits.ensures.back in
     λ other is whole second.
-    one_date c.args.second c.to_be_bytes.result other (invariant_of-result c) is
+    one_date c.args.second c.to_be_bytes-bytes.result other (invariant_of-result c) is
     (ap has_fraction b ∙ back.1) whole (ap second_of_bits b ∙ back.0) second
 
 pub returns-clause-date : goal.returns-clause-date
