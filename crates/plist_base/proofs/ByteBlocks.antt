@@ -1,8 +1,8 @@
 -- Bytes that are tested in blocks.
 use Rattle.std.proofs.Common.{◌≡◌, ℕ, ◌+◌, ◌-◌, ◌%◌, ◌^◌, ◌<◌, ◌≤◌, inl, inr, zero, suc, Bool, true, false, cond, eqb, List, [], ◌∷◌, ◌++◌, map, length, get_or, take, drop, replicate, refl, sym, ap, subst, ◌∙◌, arith, eqb-true, take-add, w8, bit_or}
 use Rattle.std.specs.Str.{IsAscii}
-use Rattle.std.proofs.lemmas.Bool.{cases_lt}
-use Rattle.std.proofs.lemmas.List.{get_or-take, get_or-drop, get_or_past, length-take, length-take-le, length-drop, take-take}
+use Rattle.std.proofs.lemmas.Bool.{cases_lt, false_from_ne_true}
+use Rattle.std.proofs.lemmas.List.{get_or-take, get_or-drop, get_or_past, length-take, length-take-le, length-drop, take-take, take_all}
 use Rattle.std.proofs.lemmas.Nat.{and_le_l, and_le_r}
 use Rattle.std.proofs.lemmas.Simd.{bitmask_splat, length-chunk, take_more_put_chunk}
 use lib.Bits.{or_add_and}
@@ -12,11 +12,7 @@ use Rattle.plist_base.specs.ByteTests.{CopiesPassing, EachByte}
 none_marked : (p : ℕ → Bool) (bytes : List ℕ) → mask_l (map p bytes) ≡ 0
     → (i : ℕ) → i < length bytes → p (get_or bytes i 0) ≡ false
 none_marked p [] e i within = absurd (omega arith)
-none_marked p (byte ∷ bytes) e zero within = go (p byte) refl (omega arith)
-  where
-    go : (t : Bool) → p byte ≡ t → ◌≡◌ {A = ℕ} (cond t 1 0) 0 → p byte ≡ false
-    go true is q = absurd (omega arith)
-    go false is q = is
+none_marked p (byte ∷ bytes) e zero within = false_from_ne_true _ (λ is. absurd (omega (arith, rw is at e)))
 none_marked p (byte ∷ bytes) e (suc i) within = none_marked p bytes (omega arith) i (omega arith)
 
 -- the mask of a comparison with one number: the bytes are its left sides
@@ -43,10 +39,9 @@ none_of_two a b none = (
 pub turned : (f : ℕ → ℕ → ℕ) (n number : ℕ) (bytes : List ℕ) → length bytes ≡ n
     → zip2 f (replicate n number) bytes ≡ zip2 (λ a b. f b a) bytes (replicate n number)
 turned f zero number [] long = refl
-turned f zero number (byte ∷ bytes) long = absurd (omega arith)
-turned f (suc n) number [] long = absurd (omega arith)
 turned f (suc n) number (byte ∷ bytes) long =
     ap (λ rest. f number byte ∷ rest) (turned f n number bytes (omega arith))
+turned f n number bytes long = absurd (omega arith)
 
 -- like `mask_left`, with the bytes as the right sides
 abbrev pub mask_right : (ℕ → ℕ → Bool) → List ℕ → (number : ℕ) → (n : ℕ) → ℕ
@@ -62,25 +57,13 @@ none_right t n number bytes few long e =
     (ap (λ lanes. eqb (mask_l (map (top 7) lanes) % 2 ^ 64) 0)
     (sym (turned (λ a b. cond (t a b) 255 0) n number bytes long)) ∙ e)
 
--- all bytes have a property if those up to one index have it, and those of the last block, which
--- begins at that index or before
-pub each_covered : (P : ℕ → Type 0) (bytes : List ℕ) (first size n : ℕ) → first ≤ n
-    → length bytes ≡ first + size → EachByte P (take n bytes)
-    → EachByte P (take size (drop first bytes)) → EachByte P bytes
-each_covered P bytes first size n le long front back i within = elim (cases_lt i n) [
-  | inl below ↦ subst P (get_or-take n bytes i 0 below) (front i (shorter below))
-  | inr past ↦
-      subst P (get_or-take size (drop first bytes) (i - first) 0 (omega arith)
-      ∙ get_or-drop first bytes (i - first) 0 ∙ ap (λ k. get_or bytes k 0) (omega arith))
-      (back (i - first) (omega (
-        arith,
-        length-take size (drop first bytes),
-        length-drop first bytes,
-      )))
-]
-  where
-    shorter : i < n → i < length (take n bytes)
-    shorter below = omega (arith, length-take n bytes)
+-- if some bytes have a property, so have fewer
+each_fewer : (P : ℕ → Type 0) (bytes : List ℕ) (m n : ℕ) → m ≤ n → EachByte P (take n bytes)
+    → EachByte P (take m bytes)
+each_fewer P bytes m n le all i within =
+    let below : i < m = omega (arith, length-take m bytes) in
+    subst P (get_or-take n bytes i 0 (omega (arith, below, le)) ∙ sym (get_or-take m bytes i 0 below))
+    (all i (omega (arith, length-take m bytes, length-take n bytes, le)))
 
 -- if the bytes before a block and those of the block have a property, so have all bytes up to its
 -- end
@@ -99,6 +82,15 @@ each_more P bytes at size le before next i within =
           ∙ sym (get_or-take (at + size) bytes i 0 (omega arith)))
           (next (i - at) (omega (arith, length-take-le size (drop at bytes) (omega (arith, length-drop at bytes)))))
     ]
+
+-- all bytes have a property if those up to one index have it, and those of the last block, which
+-- begins at that index or before
+pub each_covered : (P : ℕ → Type 0) (bytes : List ℕ) (first size n : ℕ) → first ≤ n
+    → length bytes ≡ first + size → EachByte P (take n bytes)
+    → EachByte P (take size (drop first bytes)) → EachByte P bytes
+each_covered P bytes first size n le long front back =
+    subst (EachByte P) (take_all (first + size) bytes (omega (arith, long)))
+    (each_more P bytes first size (omega (arith, long)) (each_fewer P bytes first n le front) back)
 
 -- if the bytes before a block were copied, and the block that has the property is copied, so are all
 -- bytes up to its end
@@ -120,10 +112,7 @@ pub copies_fewer : (P : ℕ → Type 0) (bytes target : List ℕ) (m n : ℕ) �
     → CopiesPassing P n bytes target → CopiesPassing P m bytes target
 copies_fewer P bytes target m n le all = record {
   copied = sym (take-take m n target le) ∙ ap (take m) all.copied ∙ take-take m n bytes le;
-  passed = λ i within.
-      let below : i < m = omega (arith, length-take m bytes) in
-      subst P (get_or-take n bytes i 0 (omega (arith, below, le)) ∙ sym (get_or-take m bytes i 0 below))
-      (all.passed i (omega (arith, length-take m bytes, length-take n bytes, le)));
+  passed = each_fewer P bytes m n le all.passed;
 }
 
 -- bytes that are each ASCII are ASCII together

@@ -1,6 +1,5 @@
 -- The bits of a whole second encode that second.
-use Rattle.std.proofs.Common.{rules}
-use Rattle.std.proofs.Common.{◌≡◌, ℕ, zero, suc, ◌+◌, ◌-◌, ◌*◌, ◌/◌, ◌%◌, ◌^◌, ◌<◌, ◌≤◌, Bool, true, false, cond, eqb, ℤ, pos, negsuc, neg_ℤ, add-one, Option, None, Some, List, refl, ap, sym, ◌∙◌, arith, pow-add, inl, inr}
+use Rattle.std.proofs.Common.{rules, ◌≡◌, ℕ, zero, suc, ◌+◌, ◌-◌, ◌*◌, ◌/◌, ◌%◌, ◌^◌, ◌<◌, ◌≤◌, Bool, true, false, cond, eqb, ℤ, pos, negsuc, neg_ℤ, add-one, Option, None, Some, List, refl, ap, sym, ◌∙◌, arith, pow-add, inl, inr}
 use Rattle.std.proofs.Math.Nat.{pow-le-pow_right, one-le-pow, mul-div_cancel, mul-mod_left, mul-le-mul_right}
 use Rattle.std.proofs.lemmas.Nat.{leading_top, from_be_bytes-to_be_bytes_8}
 use Rattle.std.specs.Int.{to_be_bytes, w64}
@@ -11,6 +10,7 @@ use Rattle.std.specs.Int.Signed.{lt_z}
 use Rattle.std.proofs.lemmas.Int.{ints}
 use Rattle.plist_base.specs.Date.{real_exponent, real_mantissa, real_scale, parts_in_second, parts_of, whole_seconds, parts_left, real_second, rounded_down, is_second_of_date, if_second_of_date, is_negative, second_of_bits, has_fraction, real_bits, real_parts, date_if, IsWholeAt}
 use Rattle.plist_base.specs.inner.DateBits.{whole_bits, second_bits, AreBitsAt}
+use Rattle.plist_base.proofs.DateShifts.{second_pos}
 
 pub record Encoded (n : ℕ) : Type 0 where
   pub j : ℕ
@@ -64,10 +64,6 @@ whole_parts n j near =
     ∙ ap (λ k. 2 ^ k) s in
     let a : n * 2 ^ (52 - j) * 2 ^ (1023 + j) ≡ n * (2 ^ (52 - j) * 2 ^ (1023 + j)) = omega arith in
     cc
-
-second_pos : 0 < parts_in_second
-unfolding parts_in_second
-second_pos = let p = one-le-pow 1075 2 (omega arith) in omega arith
 
 module _ (n s : ℕ) (k : Encoded n) (bits : ℕ) (sign : s ≤ 1)
     (are : bits ≡ s * 2 ^ 63 + whole_bits n) where

@@ -2,13 +2,14 @@
 -- one that the date's text spells.
 use Rattle.std.proofs.Common.{rules, ◌≡◌, ℕ, zero, suc, ◌+◌, ◌*◌, ◌<◌, ◌≤◌, Bool, true, false, cond, eqb, ℤ, pos, negsuc, neg_ℤ, ◌<ℤ◌, ◌≤ℤ◌, Option, None, Some, List, slice_index, replicate, subst, refl, ap, sym, ◌∙◌, arith, ◌⊎◌, inl, inr, ◌+ℤ◌, ◌-ℤ◌, to_z, of_z, w64}
 use Rattle.std.specs.Prelude.{◌*ℤ◌, is_some, not}
-use Rattle.std.proofs.Math.Nat.{div-add-mod, mod-lt, one-le-pow, mul-le-mul_right}
+use Rattle.std.proofs.Math.Nat.{div-add-mod, mod-lt, mul-le-mul_right}
 use Rattle.std.proofs.lemmas.Bool.{false_from_ne_true}
 use Rattle.std.proofs.lemmas.Bool.Decides.{nat_tests}
 use Rattle.std.proofs.lemmas.Int.{ints}
-use Rattle.plist_base.specs.Date.{IsSecondOf, real_parts, parts_in_second, parts_of, whole_seconds, parts_left, real_second, rounded_down, is_second_of_date, if_second_of_date, IsSecondOfDate, second_of_bits, date_if, is_not_finite, IsDate, IsWhole, plist_epoch, real_bits, second_of_bytes}
+use Rattle.plist_base.specs.Date.{IsSecondOf, real_parts, parts_of, whole_seconds, parts_left, real_second, rounded_down, is_second_of_date, if_second_of_date, IsSecondOfDate, second_of_bits, date_if, is_not_finite, IsDate, IsWhole, plist_epoch, real_bits, second_of_bytes}
 use Rattle.plist_base.specs.DateTexts.{HasTextYear, IsDateText, IsInUtc}
 use Rattle.plist_base.specs.UnixSeconds.{HasFourDigitYear, IsTextOfSecond, unix_second_of_text}
+use Rattle.plist_base.proofs.DateShifts.{second_pos}
 
 -- if `d` parts make a second, this second isn't above the value, and the next one is
 abbrev Bounds : ℤ → ℤ → ℕ → Type 0
@@ -37,10 +38,6 @@ bounds true w (suc l) d v e h =
     let some : eqb (suc l) 0 ≡ false = grind (arith, nat_tests) in
     rw (some, next, neg_times (suc w) d, neg_next w, neg_times w d)
     (omega (arith, ints), omega (arith, ints))
-
-second_pos : 0 < parts_in_second
-unfolding parts_in_second
-second_pos = let p = one-le-pow 1075 2 (omega arith) in omega arith
 
 pub second_is_greatest : (bits : ℕ) → IsSecondOf (real_second bits) bits
 unfolding real_second real_parts whole_seconds parts_left

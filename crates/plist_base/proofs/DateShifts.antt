@@ -1,6 +1,5 @@
 -- Shifts of a mantissa, and the seconds that are out of range.
-use Rattle.std.proofs.Common.{rules}
-use Rattle.std.proofs.Common.{◌≡◌, ℕ, zero, suc, ◌+◌, ◌-◌, ◌*◌, ◌/◌, ◌%◌, ◌^◌, ◌<◌, ◌≤◌, Bool, true, false, not, cond, eqb, ℤ, Option, None, refl, ap, sym, ◌∙◌, arith, pow-add}
+use Rattle.std.proofs.Common.{rules, ◌≡◌, ℕ, zero, suc, ◌+◌, ◌-◌, ◌*◌, ◌/◌, ◌%◌, ◌^◌, ◌<◌, ◌≤◌, Bool, true, false, not, cond, eqb, ℤ, Option, None, refl, ap, sym, ◌∙◌, arith, pow-add}
 use Rattle.std.proofs.Math.Nat.{pow-le-pow_right, one-le-pow, div-eq_of_lt, mod-eq_of_lt, mul-le-mul_right, div-lt_iff_lt-mul, div-add-mod, mod-lt, le-div_iff_mul-le}
 use Rattle.std.proofs.lemmas.Nat.{div-mul-add, mod-mul-add}
 use Rattle.std.proofs.lemmas.Bool.Decides.{nat_tests}
@@ -27,6 +26,10 @@ factored m q c hq hc =
 
 pub power_pos : (k : ℕ) → 0 < 2 ^ k
 power_pos k = let p = one-le-pow k 2 (omega arith) in omega arith
+
+pub second_pos : 0 < parts_in_second
+unfolding parts_in_second
+second_pos = power_pos 1075
 
 pub whole_shifted : (m e : ℕ) → e < 1075 → whole_seconds m e ≡ m / 2 ^ (1075 - e)
 unfolding whole_seconds parts_of

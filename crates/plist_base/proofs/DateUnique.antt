@@ -60,13 +60,12 @@ value_once : (e d fraction other : ℕ) → fraction < 2 ^ 52 → other < 2 ^ 52
     → value e fraction ≡ value d other → (e ≡ d) × (fraction ≡ other)
 value_once e d fraction other f o same =
     elim (cases_lt e d) [
-      | inl less ↦ (let grows = value_grows e d fraction other f less in absurd (omega arith))
-      | inr more ↦
-          elim (cases_lt d e) [
-            | inl less ↦ (let grows = value_grows d e other fraction o less in absurd (omega arith))
-            | inr least ↦ (let is : e ≡ d = omega arith in
-                (is, value_fraction d _ _ (ap (λ k. value k fraction) (sym is) ∙ same)))
-          ]
+      | inl less ↦ absurd (let grows = value_grows e d fraction other f less in omega arith)
+      | inr more ↦ elim (cases_lt d e) [
+        | inl less ↦ absurd (let grows = value_grows d e other fraction o less in omega arith)
+        | inr least ↦ let is : e ≡ d = omega arith in
+            (is, value_fraction d _ _ (ap (λ k. value k fraction) (sym is) ∙ same))
+      ]
     ]
 
 -- ---- with the sign

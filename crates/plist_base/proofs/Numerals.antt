@@ -1,6 +1,6 @@
 -- What the parsers of integers return, as Boolean tests.
 use Rattle.std.proofs.Common.{◌≡◌, ℕ, ◌^◌, ◌<◌, Bool, true, false, cond, List, [], ◌∷◌, drop, Option, None, Some, refl, ap, ◌∙◌, arith}
-use Rattle.std.specs.Prelude.{◌==◌, ◌&&◌, ℤ, pos, negsuc, FitsSigned, MatchOption}
+use Rattle.std.specs.Prelude.{◌&&◌, ℤ, pos, negsuc, FitsSigned, MatchOption}
 use Rattle.std.proofs.lemmas.Bool.Decides.{nat_tests}
 use Rattle.std.proofs.lemmas.Int.{ints, to_z-of_z}
 use mir.Val.{of_z, to_z}
@@ -58,8 +58,8 @@ fits_true (pos n) h = grind (arith, ints, nat_tests)
 fits_true (negsuc n) h = grind (arith, ints, nat_tests)
 
 fits_from : (z : ℤ) → fits_signed z ≡ true → FitsSigned w64 z
-fits_from (pos n) h = let l : n < 2 ^ 63 = ltb-true _ _ h in grind (arith, ints)
-fits_from (negsuc n) h = let l : n < 2 ^ 63 = ltb-true _ _ h in grind (arith, ints)
+fits_from (pos n) h = grind (arith, ints, nat_tests)
+fits_from (negsuc n) h = grind (arith, ints, nat_tests)
 
 pub signed_ok : (z : ℤ) (text : List ℕ)
     → (IsNumeral 10 (without_leading_sign text) × FitsSigned w64 (signed_digits_value 10 text))
@@ -86,10 +86,7 @@ unprefixed : (text : List ℕ) → ((rest : List ℕ) → text ≡ 48 ∷ 120 �
     → has_prefix text ≡ false
 unprefixed [] h = refl
 unprefixed (a ∷ []) h = refl
-unprefixed (a ∷ b ∷ rest) h = false_from_ne_true _ (λ t.
-    let s = and_parts (a == 48) _ t in
-    let first : a ≡ 48 = grind (arith, nat_tests) in
-    let second : b ≡ 120 = grind (arith, nat_tests) in h rest (cc))
+unprefixed (a ∷ b ∷ rest) h = grind (arith, nat_tests, h rest)
 
 pub integer_plain : (text : List ℕ) → ((rest : List ℕ) → text ≡ 48 ∷ 120 ∷ rest → ⊥)
     → integer_of_text text ≡ or_else (signed_of_text text) (unsigned_of_text 10 text)

@@ -1,11 +1,9 @@
 -- Scalars that are packed into a tag and a content.
-use Rattle.std.proofs.lemmas.Bool.Decides.{nat_tests}
-use Rattle.std.proofs.Common.{◌≡◌, ◌+◌, ◌-◌, ◌^◌, ◌<◌, ◌≤◌, ℕ, true, Some, List, length, take, replicate, refl, ap, sym, subst, ◌∙◌, arith}
+use Rattle.std.proofs.lemmas.Bool.Decides.{nat_tests, eqb_tells}
+use Rattle.std.proofs.Common.{◌≡◌, ◌+◌, ◌-◌, ◌^◌, ◌<◌, ◌≤◌, ℕ, true, Some, List, length, take, replicate, refl, ap, sym, subst, ◌∙◌, arith, inl, inr, rules}
 use Rattle.std.specs.Str.{is_utf8}
 use Rattle.std.proofs.Math.Seq.{take-append_seam}
-use Rattle.std.proofs.Common.{inl, inr, rules}
 use Rattle.std.proofs.lemmas.Bool.{false≢true}
-use Rattle.std.proofs.lemmas.Bool.Decides.{eqb_tells}
 use Rattle.std.specs.Cmp.Rules.{comparing}
 use Rattle.plist_base.specs.PackedScalars.{packed_eq, scalar_of_packed}
 use Rattle.plist_base.specs.declared.packed_scalar.PackedScalar.{PackedScalar}

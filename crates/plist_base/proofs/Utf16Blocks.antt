@@ -10,7 +10,7 @@ use lib.Lanes.{pick_l}
 use Rattle.plist_base.specs.ByteTests.{EachByte}
 use Rattle.plist_base.specs.Container.{number_of, numbers_spelled}
 use Rattle.plist_base.specs.Utf16.{ArePaired, IsAsciiBlock, unit_at}
-use Rattle.plist_base.specs.inner.PairedUnits.{IsAfterPaired}
+use Rattle.plist_base.specs.inner.Units.{IsAfterPaired}
 use Rattle.plist_base.proofs.Utf16Forms.{IsBytes}
 use Rattle.plist_base.proofs.Utf16Units.{next_lone, units_length}
 

@@ -7,14 +7,13 @@ use Rattle.std.specs.Char.{encode_utf8}
 use Rattle.std.specs.List.{list_any, range_with_len, sum_by}
 use Rattle.std.proofs.lemmas.List.{length-append, take_all, take_more}
 use Rattle.std.proofs.lemmas.List.Sums.{sum_by-append, sum_by_push}
-use Rattle.std.proofs.lemmas.Str.{length-encode}
-use Rattle.plist_base.specs.inner.UnitShares.{utf8_share}
+use Rattle.std.proofs.lemmas.Str.{length-encode, chars-encodes, len_utf8_bounds, utf16_chars-nil, utf16_chars_lone, utf16_chars_pair}
+use Rattle.plist_base.specs.inner.Units.{utf8_share}
 use Rattle.std.specs.Option.{unwrap_or}
 use Rattle.std.specs.Str.{encode_utf8_all}
 use Rattle.std.proofs.Math.Utf8.{scalar, scalar_cases, scalars}
 use Rattle.std.proofs.lemmas.Bool.{cases_lt, false≢true, lt-ltb, le-ltb, and_parts}
 use Rattle.std.proofs.lemmas.List.FromFn.{fill_by_all, get_or-map-range_with_len}
-use Rattle.std.proofs.lemmas.Str.{chars-encodes, len_utf8_bounds, utf16_chars-nil, utf16_chars_lone, utf16_chars_pair}
 use Rattle.std.proofs.str.Utf16.{IsPair, lone_unit_char_surrogate, one_unit, pair_units, two_units}
 use Rattle.plist_base.specs.Container.{number_at, number_of, numbers_spelled}
 use Rattle.plist_base.specs.Object.{Scalar, text_of_units}

@@ -27,16 +27,6 @@ level_after shape.StartDictionary level = level + 1
 level_after shape.EndCollection level = level - 1
 level_after shape.Scalar level = level
 
--- the event doesn't exceed the depth, and `after` collections are open after it
-abbrev pub IsLevelAfter : (depth level : ℕ) → EventShape → (after : ℕ) → Type 0
-IsLevelAfter depth level shape after =
-    (after ≡ level_after shape level) × ((opens shape && nat_le depth level) ≡ false)
-
--- the event would exceed the depth, so `reached` is the limit of the depth
-abbrev pub IsTooDeep : (depth level : ℕ) → EventShape → Limit → Type 0
-IsTooDeep depth level shape reached =
-    (reached ≡ limit.Depth) × ((opens shape && nat_le depth level) ≡ true)
-
 -- the limit that an event exceeds after `admitted` events, while `level` collections are open
 abbrev pub limit_at : Limits → (admitted level : ℕ) → PlainEvent → Option Limit
 limit_at limits admitted level event =
@@ -82,10 +72,6 @@ Admits = AdmitsEvent limited_by
 -- the event is replaced by a limit's fault, and no item follows it
 abbrev pub Refuses : LimitCounter → PlainEvent → Fault → Type 0
 Refuses = RefusesEvent limited_by IsLimitReached
-
--- the event is replaced by the fault of this limit, and no item follows it
-abbrev pub RefusesBy : LimitCounter → PlainEvent → Limit → Type 0
-RefusesBy limiter event limit = Refuses limiter event (fault_without_offset (LimitReached limit))
 
 -- the fact, if the fault is that of a limit
 abbrev pub IfLimitReached : FaultKind → Type 0 → Type 0

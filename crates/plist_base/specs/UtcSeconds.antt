@@ -1,5 +1,5 @@
 -- The printed form of a second in UTC.
-use Rattle.std.specs.Prelude.{◌≡◌, ℕ, ◌-◌, ◌^◌, List, [], ◌∷◌, ◌++◌, Option, MatchOption}
+use Rattle.std.specs.Prelude.{ℕ, ◌-◌, ◌^◌, List, [], ◌∷◌, ◌++◌}
 use Rattle.std.specs.Fmt.{format_spec, styled_decimal}
 use Rattle.plist_base.specs.declared.utc_second.UtcSecond.{UtcSecond}
 
@@ -14,7 +14,3 @@ utc_text utc =
     ∷ (two_digit_text utc.month ++ 45 ∷ (two_digit_text utc.day
     ++ 84 ∷ (two_digit_text utc.hour ++ 58
     ∷ (two_digit_text utc.minute ++ 58 ∷ (two_digit_text utc.second ++ 90 ∷ []))))))
-
--- the second exists, and this is its text
-abbrev pub Prints : Option UtcSecond → List ℕ → Type 0
-Prints utc text = MatchOption utc ⊥ (λ second. text ≡ utc_text second)

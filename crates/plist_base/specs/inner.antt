@@ -1,7 +1,5 @@
 -- Definitions that are used by bodies and proofs. Of these, public clauses rely only on `Hashing`.
 pub mod DateBits
 pub mod Hashing
-pub mod Names
 pub mod Windows
-pub mod UnitShares
-pub mod PairedUnits
+pub mod Units

@@ -1,10 +1,10 @@
 //! Limits on how much of a property list is read.
 
-ghost use Rattle.std.specs.Prelude.{◌≡◌, IfOk, IfErr, OnErr, OnOk};
+ghost use Rattle.std.specs.Prelude.{◌≡◌, ◌&&◌, nat_le, true, false, IfOk, IfErr, OnErr, OnOk};
 ghost use Rattle.plist_base.specs.Events.{event_of};
 ghost use Rattle.plist_base.specs.Outcomes.{IfFault};
-ghost use Rattle.plist_base.specs.Faults.{limit_name};
-ghost use Rattle.plist_base.specs.Limits.{Admits, Refuses, RefusesBy, level_after, limited_items, limited_by, IsLevelAfter, IsTooDeep, IsLimitReached};
+ghost use Rattle.plist_base.specs.Faults.{LimitReached, fault_without_offset, limit_name};
+ghost use Rattle.plist_base.specs.Limits.{Admits, Refuses, level_after, limited_items, limited_by, opens, IsLimitReached};
 
 use crate::{Allowance, Error, ErrorKind, Event, EventShape};
 
@@ -45,8 +45,10 @@ impl Limit {
 // Returns how many collections are open after an event of this shape if `level` were open before
 // it, or fails if that would be more than `depth`.
 fn level_after(depth: u64, level: u64, shape: EventShape) -> Result<u64, Limit>
-    ensures value { IfOk result (IsLevelAfter depth level shape) }
-    ensures refused { IfErr result (IsTooDeep depth level shape) }
+    ensures value { IfOk result (λ after. (after ≡ level_after shape level)
+        × ((opens shape && nat_le depth level) ≡ false)) }
+    ensures refused { IfErr result (λ limit. (limit ≡ Limit.Depth)
+        × ((opens shape && nat_le depth level) ≡ true)) }
 {
     match shape {
         EventShape::StartArray | EventShape::StartDictionary => {
@@ -86,7 +88,8 @@ impl LimitCounter {
     // the depth.
     fn count(&mut self, event: &Event<'_>) -> Result<(), Limit>
         ensures admitted { OnOk result (Admits self.old (event_of event.now) self.new) }
-        ensures refused { IfErr result (RefusesBy self.old (event_of event.now)) }
+        ensures refused { IfErr result (λ limit. Refuses self.old (event_of event.now)
+            (fault_without_offset (LimitReached limit))) }
         ensures unchanged { OnErr result (self.new ≡ self.old) }
     {
         if self.admitted >= self.limits.items {

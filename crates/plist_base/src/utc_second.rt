@@ -1,9 +1,9 @@
 //! The calendar parts of a second in UTC, and how they are printed.
 
-ghost use Rattle.std.specs.Prelude.{◌↔◌, List, ℕ, ◌<◌, ◌≤ℤ◌, ◌+ℤ◌, ◌*ℤ◌, pos, Some, IsSome, IfSome};
+ghost use Rattle.std.specs.Prelude.{◌≡◌, MatchOption, ◌↔◌, List, ℕ, ◌<◌, ◌≤ℤ◌, ◌+ℤ◌, ◌*ℤ◌, pos, Some, IsSome, IfSome};
 ghost use Rattle.jiff_core.specs.Date.{epoch_day};
 ghost use Rattle.plist_base.specs.UnixSeconds.{HasFourDigitYear, IsTextOfSecond};
-ghost use Rattle.plist_base.specs.UtcSeconds.{utc_text, Prints};
+ghost use Rattle.plist_base.specs.UtcSeconds.{utc_text};
 
 use jiff_core::civil::Date;
 use std::fmt;
@@ -28,7 +28,8 @@ impl UtcSecond {
     pub fn from_unix_secs(second: i64) -> Option<UtcSecond>
         ensures year { IsSome result ↔ HasFourDigitYear second }
         ensures text { IfSome result (λ parts. IsTextOfSecond second (utc_text parts)) }
-        ensures only { (other : List ℕ) → IsTextOfSecond second other → Prints result other }
+        ensures only { (other : List ℕ) → IsTextOfSecond second other
+            → MatchOption result ⊥ (λ parts. other ≡ utc_text parts) }
     {
         match Date::from_unix_epoch_day(second.div_euclid(SECONDS_A_DAY)) {
             Ok(date) if date.year >= 0 => Some(utc_second_of(

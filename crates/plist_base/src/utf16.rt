@@ -10,8 +10,7 @@ ghost use Rattle.plist_base.specs.Faults.{InvalidUtf16String};
 ghost use Rattle.plist_base.specs.Object.{Faulty, Scalar, wide_text};
 ghost use Rattle.plist_base.specs.Trees.{String};
 ghost use Rattle.plist_base.specs.Utf16.{ArePaired, IsAsciiBlock, IsNextChar, IsUnpaired, IsUtf16, unit_at, chars_of_utf16, utf8_of_utf16};
-ghost use Rattle.plist_base.specs.inner.PairedUnits.{IsAfterPaired};
-ghost use Rattle.plist_base.specs.inner.UnitShares.{utf8_share};
+ghost use Rattle.plist_base.specs.inner.Units.{IsAfterPaired, utf8_share};
 
 use crate::byte_test::{ByteTest, all_pass};
 use std::simd::prelude::*;

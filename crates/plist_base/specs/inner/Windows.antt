@@ -9,18 +9,13 @@ abbrev pub IsWindowOf : (size : ℕ) → List Header → (window place : ℕ) �
 IsWindowOf size headers i place =
     (header : Header) × (slice_get headers i ≡ Some header) × (header.start ≡ place - place % size)
 
--- the bytes that the last read of a window returned; a window may have up to 64 bytes beyond its
--- size
-abbrev pub bytes_of_window : (size : ℕ) → Header → List ℕ → (window : ℕ) → List ℕ
-bytes_of_window size header bytes i = take header.filled (drop (i * (size + 64)) bytes)
-
 -- `lent` is empty, or consists of the bytes from this offset on in the window to which the offset
--- belongs
+-- belongs, of which the last read returned `header.filled`; each window has 64 bytes beyond its size
 abbrev pub LendsFrom : (size : ℕ) → List Header → (bytes : List ℕ) → (place : ℕ) → (lent : List ℕ) → Type 0
 LendsFrom size headers bytes place lent =
     (lent ≡ []) ⊎ ((i : ℕ) × (header : Header) × (slice_get headers i ≡ Some header)
     × (header.start ≡ place - place % size)
-    × (lent ≡ drop (place % size) (bytes_of_window size header bytes i)))
+    × (lent ≡ drop (place % size) (take header.filled (drop (i * (size + 64)) bytes))))
 
 -- `lent` consists of bytes from this offset on, of a long window or of a short one
 abbrev pub Lends : Windows → (place : ℕ) → (lent : List ℕ) → Type 0

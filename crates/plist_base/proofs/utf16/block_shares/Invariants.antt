@@ -1,7 +1,7 @@
 use Rattle.std.proofs.Common.{◌≡◌, ◌*◌, ◌≤◌, take}
 use Rattle.std.specs.List.{sum_by}
 use Rattle.plist_base.specs.Container.{numbers_spelled}
-use Rattle.plist_base.specs.inner.UnitShares.{utf8_share}
+use Rattle.plist_base.specs.inner.Units.{utf8_share}
 use Rattle.plist_base.proofs.utf16.block_shares.Given as goal
 
 abbrev pub invariant-loop-block : goal.invariant-loop-block
