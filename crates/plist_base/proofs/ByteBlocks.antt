@@ -1,5 +1,5 @@
 -- Bytes that are tested in blocks.
-use Rattle.std.proofs.Common.{◌≡◌, ℕ, ◌+◌, ◌-◌, ◌%◌, ◌^◌, ◌<◌, ◌≤◌, inl, inr, zero, suc, Bool, true, false, cond, eqb, List, [], ◌∷◌, ◌++◌, map, length, get_or, take, drop, replicate, refl, sym, ap, subst, ◌∙◌, arith, eqb-true, take-add, w8, bit_or}
+use Rattle.std.proofs.Common.{◌≡◌, ℕ, ◌+◌, ◌-◌, ◌%◌, ◌^◌, ◌<◌, ◌≤◌, inl, inr, zero, suc, Bool, true, false, cond, eqb, List, [], ◌∷◌, ◌++◌, map, length, get_or, take, drop, replicate, refl, sym, ap, subst, ◌∙◌, arith, eqb-true, leb, leb-false, take-add, w8, bit_or}
 use Rattle.std.specs.Str.{IsAscii}
 use Rattle.std.proofs.lemmas.Bool.{cases_lt, false_from_ne_true}
 use Rattle.std.proofs.lemmas.List.{get_or-take, get_or-drop, get_or_past, length-take, length-take-le, length-drop, take-take, take_all}
@@ -56,6 +56,12 @@ none_right t n number bytes few long e =
     none_left (λ a b. t b a) n number bytes few long
     (ap (λ lanes. eqb (mask_l (map (top 7) lanes) % 2 ^ 64) 0)
     (sym (turned (λ a b. cond (t a b) 255 0) n number bytes long)) ∙ e)
+
+-- if the mask of the bytes that are at least this number is zero, each byte is less
+pub each_below : (n number : ℕ) (bytes : List ℕ) → n ≤ 64 → length bytes ≡ n
+    → eqb (mask_right leb bytes number n) 0 ≡ true → EachByte (λ byte. byte < number) bytes
+each_below n number bytes few long none i within =
+    leb-false _ _ (none_right leb n number bytes few long none i within)
 
 -- if some bytes have a property, so have fewer
 each_fewer : (P : ℕ → Type 0) (bytes : List ℕ) (m n : ℕ) → m ≤ n → EachByte P (take n bytes)

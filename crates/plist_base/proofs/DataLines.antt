@@ -1,5 +1,5 @@
 -- Lines of base64, and how they are read back.
-use Rattle.std.proofs.Common.{◌≡◌, ℕ, zero, suc, ◌+◌, ◌-◌, ◌*◌, ◌%◌, ◌<◌, ◌≤◌, Bool, true, ◌↔◌, not, cond, List, [], ◌∷◌, ◌++◌, length, map, min, take, drop, replicate, slice_index, Some, refl, subst, sym, ap, ◌∙◌, append_assoc, rules, arith}
+use Rattle.std.proofs.Common.{◌≡◌, ℕ, zero, suc, ◌+◌, ◌-◌, ◌*◌, ◌%◌, ◌<◌, ◌≤◌, Bool, true, ◌↔◌, not, cond, List, [], ◌∷◌, ◌++◌, length, map, min, take, drop, replicate, slice_index, Some, refl, sym, ap, ◌∙◌, append_assoc, rules, arith}
 use Rattle.std.proofs.lemmas.List.{append-nil, length-take-le, length-drop, take_all, take_min}
 use Rattle.std.proofs.lemmas.List.Elements.{filter-append}
 use Rattle.std.proofs.lemmas.List.Folds.{concat-append}
@@ -10,11 +10,10 @@ use Rattle.std.specs.List.{concat, join_with_byte, list_all, range_with_len}
 use Rattle.std.specs.Char.{is_ascii_whitespace}
 use Rattle.base64.specs.Engines.{standard}
 use Rattle.base64.specs.GeneralPurpose.{IsBytes, IsDecodeFailure, decode_of, decoded_of, encode_of}
-use Rattle.base64.specs.declared.decode.DecodeError.{DecodeError}
 use Rattle.base64.specs.declared.decode.DecodeAllocError.{DecodeAllocError}
 use Rattle.base64.specs.declared.decode.DecodeAllocError.TheVariants as decoding
 use Rattle.std.specs.Result.{result_ok, IfErr, IsErrAnd}
-use Rattle.std.specs.Prelude.{Result, Ok, Err}
+use Rattle.std.specs.Prelude.{Result, Ok}
 use Rattle.plist_base.specs.declared.data.InvalidXmlData.{InvalidXmlData}
 use Rattle.std.proofs.lemmas.Bool.{and_parts}
 use Rattle.base64.specs.Rfc4648.{encode_symbols}
@@ -55,9 +54,7 @@ dark-padding zero = refl
 dark-padding (suc n) = rw (dark-padding n) refl
 
 dark-base64 : (bytes : List ℕ) → IsDark (encode_of standard bytes)
-dark-base64 bytes =
-    dark-append (encode_symbols _ _) _ (dark-symbols _)
-    (dark-padding _)
+dark-base64 bytes = dark-append (encode_symbols _ _) _ (dark-symbols _) (dark-padding _)
 
 -- ---- the lines
 
@@ -144,10 +141,6 @@ written-reads bytes are_bytes =
 
 -- ---- exactly the base64 of bytes is read
 
-result_ok-some : (r : Result (List ℕ) DecodeError) (bytes : List ℕ) → result_ok r ≡ Some bytes
-    → r ≡ Ok bytes
-result_ok-some r bytes is = search rules
-
 bytes-kept : (keep : Bool) (x : ℕ) (xs : List ℕ) → x < 256 → IsBytes xs
     → IsBytes (cond keep (x ∷ xs) xs)
 bytes-kept keep x xs first rest = search rules
@@ -164,7 +157,7 @@ unfolding data_of_text decoded_of
 spelled text bytes are_bytes bytes_are =
     let both = decode_of_iff standard _ _ (refl, refl)
     (bytes-dark text are_bytes) bytes_are in (
-      λ is. both.0 (result_ok-some _ _ is),
+      λ is. both.0 (search rules),
       λ is. ap
           result_ok (both.1 is),
     )
@@ -187,8 +180,7 @@ text_of_lines bytes count text is all = is ∙ ap (λ n. join_with_byte 10 (firs
 pub refused_as : {A : Type 0} (P : InvalidXmlData → Type 0) (made : InvalidXmlData)
     (answer : Result A InvalidXmlData) → IsErrAnd answer (λ refusal. refusal ≡ made) → P made
     → IfErr answer P
-refused_as P made (Ok value) is holds = tt
-refused_as P made (Err refusal) is holds = subst P (sym is) holds
+refused_as P made answer is holds = search (rules, is)
 
 -- the error of parsing a text is that of decoding it without white space
 pub fault_of_text : (text dark : List ℕ) (error : DecodeAllocError) → dark ≡ without_white text

@@ -13,7 +13,7 @@ use Rattle.std.proofs.lemmas.Bool.{cases_lt}
 use Rattle.std.proofs.lemmas.Fmt.{decimal_digit}
 use Rattle.std.specs.Fmt.{decimal, digit_glyph, padded_integral, char_count}
 use Rattle.jiff_core.proofs.CalendarLemmas.{days_in_month_bounds}
-use Rattle.plist_base.specs.UtcSeconds.{utc_text, two_digit_text}
+use Rattle.plist_base.specs.UnixSeconds.{utc_text, two_digit_text}
 
 -- 0000-01-01
 first : Date

@@ -1,8 +1,8 @@
 -- The layouts that several markers share, and lengths by the low half of a marker.
-use Rattle.std.proofs.Common.{rules, refl, ap, ◌≡◌, ℕ, ◌+◌, ◌*◌, ◌%◌, ◌<◌, ◌≤◌, List, arith}
+use Rattle.std.proofs.Common.{rules, refl, ◌≡◌, ℕ, ◌+◌, ◌*◌, ◌%◌, ◌<◌, ◌≤◌, List, arith}
 use Rattle.plist_base.specs.Trees.{Data, Uid}
 use Rattle.plist_base.specs.Container.{number_of, numbers_spelled}
-use Rattle.plist_base.specs.Object.{high_half, Scalar, Array, Layout, Refused, Fixed, Counted, text, wide_text, counted_layout, dictionary, layout_of, length_in, meaning_counted, object_after_marker}
+use Rattle.plist_base.specs.Object.{high_half, Scalar, Array, Layout, Refused, Fixed, Counted, text, wide_text, counted_layout, dictionary, layout_of, object_after_marker}
 use Rattle.plist_base.specs.declared.marker.CountedKind.{CountedKind}
 use Rattle.plist_base.specs.declared.marker.CountedKind.TheVariants as kind
 
@@ -38,13 +38,9 @@ pub layout-uid : (w bytes : ℕ) → 0 < bytes → bytes ≤ 8
     → layout_of w (0x7f + bytes) ≡ Fixed bytes (λ content. Scalar (Uid (number_of content)))
 layout-uid w bytes some few = search rules
 
--- a length depends on the low half of its marker alone
-length_by_half : (m low : ℕ) (rest : List ℕ) → m % 16 ≡ low % 16 → length_in m rest ≡ length_in low rest
-length_by_half m low rest half = rw half refl
-
+-- what follows a marker depends on its low half alone
 pub behind_by_half : (m low : ℕ) (layout : Layout) (rest : List ℕ) → m % 16 ≡ low % 16
     → object_after_marker m layout rest ≡ object_after_marker low layout rest
 behind_by_half m low (Refused kind) rest half = refl
 behind_by_half m low (Fixed size meaning) rest half = refl
-behind_by_half m low (Counted size meaning) rest half =
-    ap (meaning_counted size meaning) (length_by_half m low rest half)
+behind_by_half m low (Counted size meaning) rest half = rw half refl

@@ -12,13 +12,11 @@ use Rattle.plist_base.specs.Sinks.{Advances, HasPut, IsSameSink, Puts, is_open, 
 -- two parts are written one after the other, and the rest of both remains
 joined : (all xs ys one middle two rest : List ℕ) → all ++ xs ≡ one ++ middle
     → middle ++ ys ≡ two ++ rest → all ++ (xs ++ ys) ≡ (one ++ two) ++ rest
-joined all xs ys one middle two rest e f =
-    sym (append_assoc all xs ys) ∙ ap (λ l. l ++ ys) e ∙ append_assoc one middle ys
-    ∙ ap (λ l. one ++ l) f ∙ sym (append_assoc one two rest)
+joined all xs ys one middle two rest e f = rw (← append_assoc, e, append_assoc, f, append_assoc) refl
 
 -- if more bytes follow, they follow the rest
 more_rest : (all ys one rest : List ℕ) → all ≡ one ++ rest → all ++ ys ≡ one ++ (rest ++ ys)
-more_rest all ys one rest e = ap (λ l. l ++ ys) e ∙ append_assoc one rest ys
+more_rest all ys one rest e = rw (e, append_assoc) refl
 
 -- a prefix of some bytes is a prefix of more
 pub prefix_more : (a b : Option (List ℕ)) (xs ys : List ℕ) → AppendsPrefix a b xs

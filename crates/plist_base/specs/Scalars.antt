@@ -1,10 +1,9 @@
 -- Equality of scalars, and what a scalar writes to a hasher.
-use Rattle.std.proofs.Common.{◌≡◌, ℕ, ◌==◌, Bool, true, false, not, if◌then◌else◌, List, [], ◌∷◌, refl, ap, subst}
-use mathlib.Core.HLevel.{Stable, Stable-paths→set}
+use Rattle.std.proofs.Common.{◌≡◌, ℕ, ◌==◌, Bool, true, false, not, if◌then◌else◌, List, [], ◌∷◌, refl, ap}
+use Rattle.std.proofs.Props.{props}
 use Rattle.std.specs.Hash as fed
 use Rattle.std.specs.Ordering.{int_eq}
 use Rattle.std.specs.Str.{bytes_eq}
-use Rattle.std.proofs.lemmas.Bool.{both_ways}
 use Rattle.std.proofs.lemmas.Slice.Eq.{bytes_eq-Decides}
 use Rattle.std.proofs.lemmas.Bool.Decides.{Decides-int_eq, Decides-eqb}
 use Rattle.plist_base.specs.declared.real.RealBits.{RealBits}
@@ -76,12 +75,6 @@ scalar_refl (Uid a) = (Decides-eqb a a).1 refl
 
 -- ---- an equation between two scalars has at most one proof
 
--- scalars are equal if they aren't different
-scalar_stable : (x y : Scalar) (same : Bool) → scalar_eq x y ≡ same → Stable (x ≡ y)
-scalar_stable x y true is apart = scalar_is x y is
-scalar_stable x y false is apart =
-    absurd (apart (λ p. both_ways _ is (subst (λ z. scalar_eq x z ≡ true) p (scalar_refl x))))
-
 -- two proofs of an equation between scalars are equal
 pub scalar_set : IsSet Scalar
-scalar_set = Stable-paths→set (λ x y. scalar_stable x y _ refl)
+scalar_set = hlevel props

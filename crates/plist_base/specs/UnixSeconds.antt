@@ -1,9 +1,11 @@
 -- The Unix second that the text of a date spells. The text is in a profile of RFC 3339, such as
 -- `2001-01-01T00:00:00Z` or `2001-01-01 01:30:00+01:30`.
-use Rattle.std.specs.Prelude.{◌≡◌, ℕ, ◌+◌, ◌-◌, ◌*◌, nat_le, nat_lt, Bool, if◌then◌else◌, ◌&&◌, ◌||◌, ◌==◌, List, length, slice_index, ℤ, pos, neg_ℤ, ◌+ℤ◌, ◌-ℤ◌, ◌*ℤ◌, ◌≤ℤ◌, ◌<ℤ◌, Option, None, Some}
+use Rattle.std.specs.Prelude.{◌≡◌, ℕ, ◌^◌, [], ◌∷◌, ◌++◌, ◌+◌, ◌-◌, ◌*◌, nat_le, nat_lt, Bool, if◌then◌else◌, ◌&&◌, ◌||◌, ◌==◌, List, length, slice_index, ℤ, pos, neg_ℤ, ◌+ℤ◌, ◌-ℤ◌, ◌*ℤ◌, ◌≤ℤ◌, ◌<ℤ◌, Option, None, Some}
 use Rattle.std.specs.Char.{is_ascii_digit}
+use Rattle.std.specs.Fmt.{format_spec, styled_decimal}
 use Rattle.std.specs.Int.{is_in_range}
 use Rattle.jiff_core.specs.Calendar.{days_from_civil, days_in_month}
+use Rattle.plist_base.specs.declared.utc_second.UtcSecond.{UtcSecond}
 
 -- ---- numbers
 
@@ -100,3 +102,17 @@ abbrev pub HasFourDigitYear : ℤ → Type 0
 HasFourDigitYear second =
     ((days_from_civil (pos 0) 1 1 *ℤ pos 86400) ≤ℤ second)
     × (second <ℤ ((days_from_civil (pos 9999) 12 31 +ℤ pos 1) *ℤ pos 86400))
+
+-- ---- the printed text
+
+-- a number in decimal, with a zero before a single digit
+abbrev pub two_digit_text : ℕ → List ℕ
+two_digit_text number = styled_decimal (format_spec 32 0 4 2 (2 ^ 64 - 1)) number
+
+-- the second as `YYYY-MM-DDTHH:MM:SSZ`
+abbrev pub utc_text : UtcSecond → List ℕ
+utc_text utc =
+    two_digit_text utc.century ++ (two_digit_text utc.year ++ 45
+    ∷ (two_digit_text utc.month ++ 45 ∷ (two_digit_text utc.day
+    ++ 84 ∷ (two_digit_text utc.hour ++ 58
+    ∷ (two_digit_text utc.minute ++ 58 ∷ (two_digit_text utc.second ++ 90 ∷ []))))))

@@ -2,8 +2,7 @@
 
 ghost use Rattle.std.specs.Prelude.{◌≡◌, MatchOption, ◌↔◌, List, ℕ, ◌<◌, ◌≤ℤ◌, ◌+ℤ◌, ◌*ℤ◌, pos, Some, IsSome, IfSome};
 ghost use Rattle.jiff_core.specs.Date.{epoch_day};
-ghost use Rattle.plist_base.specs.UnixSeconds.{HasFourDigitYear, IsTextOfSecond};
-ghost use Rattle.plist_base.specs.UtcSeconds.{utc_text};
+ghost use Rattle.plist_base.specs.UnixSeconds.{HasFourDigitYear, IsTextOfSecond, utc_text};
 
 use jiff_core::civil::Date;
 use std::fmt;

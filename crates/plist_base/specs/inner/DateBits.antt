@@ -1,11 +1,7 @@
 -- The bits that encode a whole second.
-use Rattle.std.specs.Prelude.{◌≡◌, ℕ, ◌+◌, ◌-◌, ◌*◌, ◌^◌, ◌<◌, ◌≤◌, true, if◌then◌else◌, ◌==◌, ℤ, pos, negsuc, Option, MatchOption}
+use Rattle.std.specs.Prelude.{◌≡◌, ℕ, ◌+◌, ◌-◌, ◌*◌, ◌^◌, true, if◌then◌else◌, ◌==◌, ℤ, pos, negsuc}
 use Rattle.std.specs.Int.Count.{count_leading_zeros}
 use Rattle.plist_base.specs.Date.{is_second_of_date}
-
--- the result is `None` if and only if the number isn't below this limit
-abbrev pub IsNoneFrom : {A : Type 0} → (limit number : ℕ) → Option A → Type 0
-IsNoneFrom limit number answer = MatchOption answer (limit ≤ number) (λ _. number < limit)
 
 -- the bits of an integer below 2 ^ 53, whose highest bit adds one to the exponent
 unfoldable pub whole_bits : ℕ → ℕ

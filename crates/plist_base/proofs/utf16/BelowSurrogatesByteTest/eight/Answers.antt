@@ -1,7 +1,6 @@
-use Rattle.std.proofs.Common.{arith, leb, leb-false}
-use Rattle.plist_base.proofs.ByteBlocks.{none_right}
+use Rattle.std.proofs.Common.{arith}
+use Rattle.plist_base.proofs.ByteBlocks.{each_below}
 use Rattle.plist_base.proofs.utf16.BelowSurrogatesByteTest.eight.Goals as goal
 
 pub returns : goal.returns
-returns c = λ none i within.
-    leb-false _ _ (none_right leb 8 0xd8 c.args.bytes (omega arith) c.fits-bytes.0 none i within)
+returns c = each_below 8 0xd8 c.args.bytes (omega arith) c.fits-bytes.0
