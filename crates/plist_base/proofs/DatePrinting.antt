@@ -8,9 +8,8 @@ use Rattle.jiff_core.specs.declared.civil.date.Date.{Date}
 use Rattle.jiff_core.proofs.SignedLemmas.{signed_arith, int_div_euclid-parts}
 use Rattle.jiff_core.proofs.DateLemmas.{cases_date, epoch_day-lt, epoch_day_range, epoch_day_same, days_from_civil-max}
 use Rattle.plist_base.specs.UnixSeconds.{HasFourDigitYear, day_in, day_number, has_separators, second_of_day, time_in, two_digits, unix_second_of_text, zone_in, IsTextOfSecond}
-use Rattle.std.proofs.DigitsParse.{digits_onto_last, digits_onto_step, digits_onto-nil}
 use Rattle.std.proofs.lemmas.Bool.{cases_lt}
-use Rattle.std.proofs.lemmas.Fmt.{decimal_digit}
+use Rattle.std.proofs.lemmas.Fmt.{decimal_digit, decimal_step}
 use Rattle.std.specs.Fmt.{decimal, digit_glyph, padded_integral, char_count}
 use Rattle.jiff_core.proofs.CalendarLemmas.{days_in_month_bounds}
 use Rattle.plist_base.specs.UnixSeconds.{utc_text, two_digit_text}
@@ -89,27 +88,14 @@ day_of_years second inside =
 abbrev pub two_text : ℕ → List ℕ
 two_text n = (48 + n / 10) ∷ (48 + n % 10) ∷ []
 
-glyph : (d : ℕ) → d < 10 → digit_glyph false d ≡ 48 + d
-glyph d small = grind (arith, small)
-
-decimal_two : (n : ℕ) → 10 ≤ n → n < 100 → decimal n ≡ two_text n
-decimal_two n large small =
-    let same : n / 10 % 10 ≡ n / 10 = omega arith in
-    sym (digits_onto-nil 10 false n) ∙ digits_onto_step 10 false n [] 64 (omega arith) (omega arith)
-    ∙ digits_onto_last 10 false (n / 10) (digit_glyph false _ ∷ []) 63 (omega arith)
-    (omega arith)
-    ∙ ap (λ d. digit_glyph false d ∷ digit_glyph false (n % 10) ∷ []) same
-    ∙ (λ k. glyph (n / 10) (omega arith) k ∷ glyph (n % 10) (omega arith) k ∷ [])
-
 pub places_are_digits : (n : ℕ) → n < 100 → two_digit_text n ≡ two_text n
 unfolding padded_integral char_count
-places_are_digits n small =
-    elim (cases_lt n 10) [
-      | inl one ↦ let high : n / 10 ≡ 0 =
-          omega arith in let low : n % 10
-          ≡ n = omega arith in rw (decimal_digit n one, high, low) refl
-      | inr two ↦ rw (decimal_two n two small) refl
-    ]
+places_are_digits n small = elim (cases_lt n 10) [
+  | inl one ↦
+      let high : n / 10 ≡ 0 = omega arith in
+      let low : n % 10 ≡ n = omega arith in rw (decimal_digit n one, high, low) refl
+  | inr two ↦ rw (decimal_step n two (omega arith), decimal_digit (n / 10) (omega arith)) refl
+]
 
 digits_back : (n : ℕ) → n < 100 → two_digits (48 + n / 10) (48 + n % 10) ≡ Some n
 unfolding two_digits

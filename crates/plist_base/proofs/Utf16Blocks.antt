@@ -75,15 +75,8 @@ module _ (bytes : List ℕ) where
       ap (λ k. utf16_chars (drop k (numbers_spelled 2 bytes))) {x = at} {y = at + 0} (omega arith)
   ascii_chars at (b ∷ block) le first second ascii =
       let same : (k : ℕ) → at + 1 + k ≡ at + suc k = λ k. omega arith in
-      let none : at + 0 ≡ at = omega arith in
-      let unit : unit_at bytes at ≡ b = omega (
-        arith,
-        unit_is bytes at (omega (arith, le)),
-        ap (λ k. get_or bytes (k * 2) 0) none,
-        ap (λ k. get_or bytes (suc (k * 2)) 0) none,
-        first 0 (omega arith),
-        second 0 (omega arith),
-      ) in
+      let unit : unit_at bytes at ≡ b = grind
+      (arith, unit_is bytes at (omega (arith, le)), first 0 (omega arith), second 0 (omega arith)) in
       let next = next_lone bytes at (omega (arith, le)) (omega (arith, unit, ascii 0 (omega arith)))
       (inl (omega (arith, unit, ascii 0 (omega arith)))) in
       next.chars
@@ -104,13 +97,11 @@ module _ (bytes : List ℕ) where
       let inside : (i : ℕ) → i < 16 → get_or bytes (2 * at + i) 0 ≡ get_or (take n (drop (2 * at) bytes)) i 0 =
       λ i below. sym (get_or-take n (drop (2 * at) bytes) i 0 (omega (arith, le, below))
       ∙ get_or-drop (2 * at) bytes i 0) in
-      let here : (k : ℕ) → (at + k) * 2 ≡ 2 * at + 2 * k = λ k. omega arith in
-      let after : (k : ℕ) → suc ((at + k) * 2) ≡ 2 * at + (2 * k + 1) = λ k. omega arith in
       ascii_chars at block (omega (arith, le, of.long))
       (λ k below. let less : k < 8 = omega (arith, below, of.long) in
-      ap (λ i. get_or bytes i 0) (here k) ∙ inside (2 * k) (omega (arith, less)) ∙ of.first k less)
+      grind (arith, inside (2 * k) (omega (arith, less)), of.first k less))
       (λ k below. let less : k < 8 = omega (arith, below, of.long) in
-      ap (λ i. get_or bytes i 0) (after k) ∙ inside (2 * k + 1) (omega (arith, less)) ∙ of.second k less)
+      grind (arith, inside (2 * k + 1) (omega (arith, less)), of.second k less))
       of.ascii
       ∙ ap (λ n. map Some block ++ utf16_chars (drop (at + n) (numbers_spelled 2 bytes))) of.long
 
@@ -150,12 +141,9 @@ module _ (bytes : List ℕ) (small : IsBytes bytes) where
       (omega arith)
   low_units (suc n) at le first =
       let same : (k : ℕ) → at + 1 + k ≡ at + suc k = λ k. omega arith in
-      let here : get_or bytes ((at + 0) * 2) 0 ≡ get_or bytes (at * 2) 0 =
-      ap (λ k. get_or bytes (k * 2) 0) {x = at + 0} {y = at} (omega arith) in
-      let low : unit_at bytes at < 0xd800 = omega (
+      let low : unit_at bytes at < 0xd800 = grind (
         arith,
         unit_is bytes at (omega (arith, le)),
-        here,
         first 0 (omega arith),
         small (suc (at * 2)),
       ) in
@@ -183,10 +171,10 @@ module _ (bytes : List ℕ) (small : IsBytes bytes) where
         after = omega arith;
         within = omega (arith, le);
         same = low_units 8 at (omega (arith, le)) (λ k below.
-            let there : get_or bytes ((at + k) * 2) 0
-            ≡ get_or (take n (drop (2 * at) bytes)) (2 * k) 0 =
-            ap (λ i. get_or bytes i 0) {x = (at + k) * 2} {y = 2 * at + 2 * k} (omega arith)
-            ∙ sym (get_or-take n (drop (2 * at) bytes) (2 * k) 0 (omega (arith, le, below))
-            ∙ get_or-drop (2 * at) bytes (2 * k) 0) in
-            omega (arith, there, first k below));
+            grind (
+              arith,
+              get_or-take n (drop (2 * at) bytes) (2 * k) 0 (omega (arith, le, below)),
+              get_or-drop (2 * at) bytes (2 * k) 0,
+              first k below,
+            ));
       }

@@ -90,18 +90,42 @@ record Again (units : List ℕ) : Type 0 where
 again_nil : Again []
 again_nil = record { chars = rw utf16_chars-nil refl; back = rw utf16_chars-nil refl; size = rw utf16_chars-nil refl }
 
+abbrev AreSmall : List ℕ → Type 0
+AreSmall us = (i : ℕ) → get_or us i 0 < 65536
+
+-- the units have this character
+record IsOwn (c : ℕ) (own : List ℕ) : Type 0 where
+  one : scalar c ≡ true
+  of : encode_utf16 c ≡ own
+  share : sum_by utf8_share own ≡ length (encode_utf8 c)
+
+-- the units are those of their characters if each has sixteen bits, and each unit adds at least one
+-- byte
+record HasChars (us : List ℕ) : Type 0 where
+  again : AreSmall us → Again us
+  enough : length us ≤ length (encode_utf8_all (utf16_lossy_chars us))
+
 -- a character with its units before others
-again_more : (c : ℕ) (own us : List ℕ) → utf16_chars (own ++ us) ≡ Some c ∷ utf16_chars us
-    → scalar c ≡ true → encode_utf16 c ≡ own → sum_by utf8_share own ≡ length (encode_utf8 c)
-    → Again us → Again (own ++ us)
-again_more c own us is one of share rest = record {
-  chars = rw (is, one) rest.chars;
-  back = rw (is, of) (ap (λ l. own ++ l) rest.back);
-  size = rw is (omega (
+chars_more : (c : ℕ) (own us : List ℕ) → utf16_chars (own ++ us) ≡ Some c ∷ utf16_chars us
+    → length own ≤ length (encode_utf8 c) → (AreSmall (own ++ us) → IsOwn c own × AreSmall us)
+    → HasChars us → HasChars (own ++ us)
+chars_more c own us is enough small rest = record {
+  again = λ all. let (char, others) = small all in let left = rest.again others in record {
+    chars = rw (is, char.one) left.chars;
+    back = rw (is, char.of) (ap (λ l. own ++ l) left.back);
+    size = rw is (omega (
+      arith,
+      sum_by-append utf8_share own us,
+      char.share,
+      left.size,
+      length-append (encode_utf8 c) (encode_utf8_all (utf16_lossy_chars us)),
+    ));
+  };
+  enough = rw is (omega (
     arith,
-    sum_by-append utf8_share own us,
-    share,
-    rest.size,
+    enough,
+    rest.enough,
+    length-append own us,
     length-append (encode_utf8 c) (encode_utf8_all (utf16_lossy_chars us)),
   ));
 }
@@ -137,9 +161,6 @@ first_unit u us paired = elim (cases_lt u 55296) [
   ]
 ]
 
-abbrev AreSmall : List ℕ → Type 0
-AreSmall us = (i : ℕ) → get_or us i 0 < 65536
-
 share_lone : (u : ℕ) → u < 65536 → (u < 55296) ⊎ (57344 ≤ u)
     → sum_by utf8_share (u ∷ []) ≡ length (encode_utf8 u)
 share_lone u small outside = rw (length-encode u) (grind (arith, outside))
@@ -151,29 +172,43 @@ share_pair : (u v : ℕ) → IsPair u v
     → sum_by utf8_share (u ∷ v ∷ []) ≡ length (encode_utf8 (surrogate_pair_char u v))
 share_pair u v pair = rw (len_pair (surrogate_pair_char u v) (omega arith)) (grind (arith, pair))
 
-again_lone : (u : ℕ) (us : List ℕ) → u < 65536 → (u < 55296) ⊎ (57344 ≤ u) → Again us
-    → Again (u ∷ us)
-again_lone u us small outside rest = again_more u (u ∷ []) us (lone u us outside)
-    (scalar_of u (omega (arith, small)) outside) (one_unit u small) (share_lone u small outside) rest
+chars_lone : (u : ℕ) (us : List ℕ) → (u < 55296) ⊎ (57344 ≤ u) → HasChars us → HasChars (u ∷ us)
+chars_lone u us outside rest =
+    chars_more u (u ∷ []) us (lone u us outside) (omega (arith, length-encode u, len_utf8_bounds u))
+    (λ small. (
+      record {
+        one = scalar_of u (omega (arith, small 0)) outside;
+        of = one_unit u (small 0);
+        share = share_lone u (small 0) outside;
+      },
+      λ i. small (suc i),
+    )) rest
 
-again_pair : (u v : ℕ) (us : List ℕ) → IsPair u v → Again us → Again (u ∷ v ∷ us)
-again_pair u v us pair rest =
-    again_more (surrogate_pair_char u v) (u ∷ v ∷ []) us (utf16_chars_pair u v us pair)
-    (scalar_of (surrogate_pair_char u v) (omega (arith, pair.1, pair.3)) (inr (omega arith)))
-    (ap encode_utf16 {x = surrogate_pair_char u v}
-    {y = 0x1_0000 + ((u - 0xD800) * 0x400 + (v - 0xDC00))} (omega arith)
-    ∙ pair_units u v pair.0 pair.2 pair.3) (share_pair u v pair) rest
+chars_pair : (u v : ℕ) (us : List ℕ) → IsPair u v → HasChars us → HasChars (u ∷ v ∷ us)
+chars_pair u v us pair rest =
+    let code = surrogate_pair_char u v in
+    chars_more code (u ∷ v ∷ []) us (utf16_chars_pair u v us pair)
+    (omega (arith, len_pair code (omega arith)))
+    (λ small. (
+      record {
+        one = scalar_of code (omega (arith, pair.1, pair.3)) (inr (omega arith));
+        of = ap encode_utf16 {x = code} {y = 0x1_0000 + ((u - 0xD800) * 0x400 + (v - 0xDC00))} (omega arith)
+            ∙ pair_units u v pair.0 pair.2 pair.3;
+        share = share_pair u v pair;
+      },
+      λ i. small (suc (suc i)),
+    )) rest
 
-again : (us : List ℕ) → AreSmall us → has_unpaired_surrogate us ≡ false → Again us
-again [] small paired = again_nil
-again (u ∷ []) small paired = elim (first_unit u [] paired) [
-  | Lone outside ↦ again_lone u [] (small 0) outside again_nil
+has_chars : (us : List ℕ) → has_unpaired_surrogate us ≡ false → HasChars us
+has_chars [] paired = record { again = λ small. again_nil; enough = omega arith }
+has_chars (u ∷ []) paired = elim (first_unit u [] paired) [
+  | Lone outside ↦ chars_lone u [] outside (has_chars [] (rw utf16_chars-nil refl))
   | Paired pair ↦ absurd (omega (arith, pair.2))
 ]
-again (u ∷ v ∷ us) small paired = elim (first_unit u (v ∷ us) paired) [
-  | Lone outside ↦ again_lone u (v ∷ us) (small 0) outside (again (v ∷ us) (λ i. small (suc i))
+has_chars (u ∷ v ∷ us) paired = elim (first_unit u (v ∷ us) paired) [
+  | Lone outside ↦ chars_lone u (v ∷ us) outside (has_chars (v ∷ us)
       (paired_more u (u ∷ []) (v ∷ us) (lone u (v ∷ us) outside) paired))
-  | Paired pair ↦ again_pair u v us pair (again us (λ i. small (suc (suc i)))
+  | Paired pair ↦ chars_pair u v us pair (has_chars us
       (paired_more (surrogate_pair_char u v) (u ∷ v ∷ []) us (utf16_chars_pair u v us pair) paired))
 ]
 
@@ -192,7 +227,7 @@ is_utf16 bytes whole small paired = record {
   whole = whole;
   paired = paired;
   form = form_is bytes whole small
-      (again (numbers_spelled 2 bytes) (units_small bytes small) paired);
+      ((has_chars (numbers_spelled 2 bytes) paired).again (units_small bytes small));
 }
 
 -- ---- a string is read back from its form
@@ -307,9 +342,8 @@ form_bytes (u ∷ us) (suc zero) = omega arith
 form_bytes (u ∷ us) (suc (suc i)) = form_bytes us i
 
 again_valid : (bytes : List ℕ) → IsUtf16 bytes → Again (numbers_spelled 2 bytes)
-again_valid bytes valid = again (numbers_spelled 2 bytes)
+again_valid bytes valid = (has_chars (numbers_spelled 2 bytes) valid.paired).again
     (units_small bytes (subst IsBytes (sym valid.form) (form_bytes (units_of (utf8_of_utf16 bytes)))))
-    valid.paired
 
 -- a string in UTF-16 is one in UTF-8
 pub utf8_of_valid : (bytes : List ℕ) → IsUtf16 bytes → IsUtf8 (utf8_of_utf16 bytes)
@@ -322,45 +356,8 @@ shares_all bytes at valid all =
     rw (take_all at (numbers_spelled 2 bytes) (omega (arith, all, units_length bytes)))
     (again_valid bytes valid).size
 
--- a character with its units before others
-bytes_more : (c : ℕ) (own us : List ℕ) → utf16_chars (own ++ us) ≡ Some c ∷ utf16_chars us
-    → length own ≤ length (encode_utf8 c)
-    → length us ≤ length (encode_utf8_all (utf16_lossy_chars us))
-    → length (own ++ us) ≤ length (encode_utf8_all (utf16_lossy_chars (own ++ us)))
-bytes_more c own us is enough rest = rw is (omega (
-  arith,
-  enough,
-  rest,
-  length-append own us,
-  length-append (encode_utf8 c) (encode_utf8_all (utf16_lossy_chars us)),
-))
-
-bytes_lone : (u : ℕ) (us : List ℕ) → (u < 55296) ⊎ (57344 ≤ u)
-    → length us ≤ length (encode_utf8_all (utf16_lossy_chars us))
-    → length (u ∷ us) ≤ length (encode_utf8_all (utf16_lossy_chars (u ∷ us)))
-bytes_lone u us outside =
-    bytes_more u (u ∷ []) us (lone u us outside) (omega (arith, length-encode u, len_utf8_bounds u))
-
--- each unit adds at least one byte
-bytes_enough : (us : List ℕ) → has_unpaired_surrogate us ≡ false
-    → length us ≤ length (encode_utf8_all (utf16_lossy_chars us))
-bytes_enough [] paired = omega arith
-bytes_enough (u ∷ []) paired = elim (first_unit u [] paired) [
-  | Lone outside ↦ bytes_lone u [] outside (omega arith)
-  | Paired pair ↦ absurd (omega (arith, pair.2))
-]
-bytes_enough (u ∷ v ∷ us) paired = elim (first_unit u (v ∷ us) paired) [
-  | Lone outside ↦ bytes_lone u (v ∷ us) outside (bytes_enough (v ∷ us)
-      (paired_more u (u ∷ []) (v ∷ us) (lone u (v ∷ us) outside) paired))
-  | Paired pair ↦
-      let code = surrogate_pair_char u v in
-      let is = utf16_chars_pair u v us pair in
-      bytes_more code (u ∷ v ∷ []) us is (omega (arith, len_pair code (omega arith)))
-      (bytes_enough us (paired_more code (u ∷ v ∷ []) us is paired))
-]
-
 -- a string has at least as many bytes in UTF-8 as units
 pub no_fewer_bytes : (bytes : List ℕ) → ArePaired bytes
     → length bytes / 2 ≤ length (utf8_of_utf16 bytes)
 no_fewer_bytes bytes paired =
-    omega (arith, units_length bytes, bytes_enough (numbers_spelled 2 bytes) paired)
+    omega (arith, units_length bytes, (has_chars (numbers_spelled 2 bytes) paired).enough)

@@ -1,40 +1,32 @@
 -- The text forms of some dates, integers and data.
 use Prim.Native.String.{String}
-use Rattle.std.specs.Prelude.{map, ◌≡◌, ◌-◌, ◌^◌, ℤ, pos, negsuc, Option, None, Some, List, [], ◌∷◌, ◌++◌, replicate, refl, codes}
+use Rattle.std.specs.Prelude.{map, ℕ, ◌≡◌, ◌-◌, ◌^◌, ℤ, pos, negsuc, Option, None, Some, List, [], ◌∷◌, ◌++◌, replicate, refl, codes}
 use Rattle.base64.proofs.OnLiterals.{base64_on_literals}
 use Rattle.jiff_core.specs.Calendar.{days_from_civil, days_of_months, days_of_years, day_count}
 use Rattle.plist_base.specs.UnixSeconds.{unix_second_of_text, two_digits, day_number, second_of_day}
 use Rattle.plist_base.specs.IntegerText.{integer_of_text}
 use Rattle.plist_base.specs.DataText.{data_text, data_of_text}
 
+-- each row has a text, and what it spells, or `None`
+abbrev AreRead : (List ℕ → Option ℤ) → List (String × Option ℤ) → Type 0
+AreRead read rows = map (λ row. read (codes row.0)) rows ≡ map (λ row. row.1) rows
+
 -- ---- dates
 
-epoch : unix_second_of_text (codes "1970-01-01T00:00:00Z") ≡ Some (pos 0)
+-- the epoch, a zone, no leap day in 1900, and no leap second
+dates : AreRead unix_second_of_text (
+    ("1970-01-01T00:00:00Z", Some (pos 0))
+    ∷ ("2001-01-01t00:00:00+01:00", Some (pos 978303600))
+    ∷ ("1900-02-29T00:00:00Z", None)
+    ∷ ("2000-01-01T23:59:60Z", None) ∷ [])
 unfolding unix_second_of_text two_digits day_number second_of_day days_from_civil days_of_years
     days_of_months day_count
-epoch = refl
-
-with_offset : unix_second_of_text (codes "2001-01-01t00:00:00+01:00") ≡ Some (pos 978303600)
-unfolding unix_second_of_text two_digits day_number second_of_day days_from_civil days_of_years
-    days_of_months day_count
-with_offset = refl
-
-no_leap_day : unix_second_of_text (codes "1900-02-29T00:00:00Z") ≡ None
-unfolding unix_second_of_text two_digits day_number second_of_day
-no_leap_day = refl
-
-no_leap_second : unix_second_of_text (codes "2000-01-01T23:59:60Z") ≡ None
-unfolding unix_second_of_text two_digits day_number second_of_day
-no_leap_second = refl
+dates = refl
 
 -- ---- integers
 
--- each row has a text, and the integer that it spells, or `None`
-abbrev AreRead : List (String × Option ℤ) → Type 0
-AreRead rows = map (λ row. integer_of_text (codes row.0)) rows ≡ map (λ row. row.1) rows
-
 -- the limits of the range, signs, leading zeros, prefixes, and texts without digits
-integers : AreRead (
+integers : AreRead integer_of_text (
     ("18446744073709551615", Some (pos (2 ^ 64 - 1)))
     ∷ ("18446744073709551616", None)
     ∷ ("-9223372036854775808", Some (negsuc (2 ^ 63 - 1)))

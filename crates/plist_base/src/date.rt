@@ -129,6 +129,7 @@ impl Date {
     }
 
     /// Returns this date in Unix seconds, rounded down.
+    #[tactic(auto, using(crate::proofs::DateRounding::unix_and_back))]
     pub fn unix_secs(&self) -> i64
         ensures second { second_of_bytes self.now ≡ Some (result -ℤ plist_epoch) }
         ensures greatest { IsSecondOf (result -ℤ plist_epoch) (real_bits self.now) }

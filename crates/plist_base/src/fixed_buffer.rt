@@ -201,6 +201,7 @@ impl FixedBuffer {
     /// Appends the decimal digits of a number. There must be room for twenty bytes, the most digits
     /// that a `u64` has.
     #[inline(always)]
+    #[tactic(auto, using(crate::proofs::Digits::at_most_twenty))]
     pub fn push_decimal(&mut self, number: u64)
         requires room { 20 ≤ room self.old }
         ensures pushed { self.new ≡ self.old ++ decimal number }

@@ -4,11 +4,6 @@ use Rattle.std.proofs.lemmas.List.{length-take-le, with_items_is}
 use Rattle.plist_base.proofs.Digits.{at_most_twenty, written_after}
 use Rattle.plist_base.proofs.fixed_buffer.FixedBuffer.push_decimal.Goals as goal
 
-pub overflow_add-end : goal.overflow_add-end
-overflow_add-end c =
-    let few = at_most_twenty c.args.number c.ranges.number.fits in
-    omega (arith, few, c.self.invariant.0, c.digits_of.ensures)
-
 pub write_digits-requires : goal.write_digits-requires
 write_digits-requires c =
     let few = at_most_twenty c.args.number c.ranges.number.fits in
