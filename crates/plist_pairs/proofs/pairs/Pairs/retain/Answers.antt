@@ -19,11 +19,12 @@ loop-i-preserved g c =
       says = c.keep.ensures;
     } in
     elim c.if-keep.branch [
-      | then-keep w ↦ step-one A c.args.self.now l.self c.if-keep.self l.i l.kept c.if-keep.kept x
-          l.invariant c.pair_at.ensures (subst (A x) w.if-keep.true answered)
+      | then-keep w ↦ step-one A c.args.self.now l.self c.if-keep.self l.i l.kept x l.invariant
+          c.pair_at.ensures c.if-keep.kept (subst (A x) w.if-keep.true answered)
           (w.self-is ∙ w.swap.ensures) w.kept-is
-      | else-keep w ↦ step-other A c.args.self.now l.self c.if-keep.self l.i l.kept c.if-keep.kept x
-          l.invariant c.pair_at.ensures (subst (A x) w.if-keep.false answered) w.self-is w.kept-is
+      | else-keep w ↦ step-other A c.args.self.now l.self c.if-keep.self l.i l.kept x l.invariant
+          c.pair_at.ensures c.if-keep.kept (subst (A x) w.if-keep.false answered) w.self-is
+          w.kept-is
     ]
 
 pub returns : goal.returns
