@@ -1,24 +1,15 @@
 -- Keys and values that are appended to two columns, and their order.
 use Rattle.std.proofs.Common.{◌≡◌, ℕ, ◌+◌, ◌<◌, ◌≤◌, Bool, true, false, not, cond, List, [], ◌∷◌, ◌++◌, length, map, sym, ap, subst, ◌∙◌, is_some, IsSome, Option, option_to_list, length-append, Some, None, position, string_bytes, bytes_eq, lt-ltb, refl, append_assoc, arith, is_lt, string_cmp, IsPermutation, IsSorted, nat_cmp, IsSortedBy}
-use Rattle.std.specs.List.{list_any, position_or_len, IsDistinct}
+use Rattle.std.specs.List.{list_any, IsDistinct}
 use Rattle.std.specs.Map.{lookup, keys_of}
 use Rattle.std.proofs.lemmas.List.{length-map, get_or-map, map-append, map_push}
-use Rattle.plist_pairs.proofs.PairColumns.{Text, rows, rows-pushed, columns, any-rows, keys-rows}
+use Rattle.plist_pairs.proofs.PairColumns.{Text, rows, rows-old, rows-pushed, columns, any-rows, keys-rows}
 use Rattle.plist_pairs.proofs.EntrySteps.{comes_last, none_of}
 use Rattle.std.specs.Cmp.Lexicographic.{slice_cmp, nat_list_eq_equiv}
 use Rattle.std.proofs.lemmas.List.Sorted.{IsPermutation-map}
 use Rattle.indexmap.proofs.MapLemmas.{absent_before, distinct_permutation}
 use Rattle.plist_pairs.specs.Shown.{shown_owned_pair}
 use Rattle.plist_pairs.proofs.DistinctKeys.{first-distinct}
-
-at_first : {A : Type 0} (p : A → Bool) (xs : List A) (i : ℕ) → i ≡ position_or_len p xs
-    → i < length xs → Some i ≡ position p xs
-at_first p xs i e h =
-    cc (lt-ltb _ _ (subst (λ n. n < length xs) e h))
-
-pub is-not : (b c : Bool) → b ≡ not c → c ≡ not b
-is-not b true e = ap not (sym e)
-is-not b false e = ap not (sym e)
 
 abbrev pub has : List Text → Text → Bool
 has ks k = list_any (λ (l : Text). bytes_eq (string_bytes k) (string_bytes l)) ks
@@ -44,44 +35,6 @@ pub none-rows : {X : Type 0} (ks : List Text) (vs : List X) → length vs ≡ le
     → (t : List ℕ → Bool) → list_any (λ k. t (string_bytes k)) ks ≡ false
     → lookup t (rows ks vs) ≡ None
 none-rows ks vs e t lacks = none_of _ (cc (any-rows ks vs t e))
-
-module _ (ks : List Text) (k : Text) (b : Bool) (new : b ≡ not (has ks k)) (n : b ≡ false)
-    (ls : List Text) (h : ls ≡ cond (has ks k) ks (ks ++ k ∷ [])) where
-  -- a key that is there leaves the keys unchanged
-  pub old-keys : ls ≡ ks
-  old-keys = h ∙ ap (λ c. cond c ks (ks ++ k ∷ [])) (is-not b _ new ∙ ap not n)
-
-  pub old-index : (i : ℕ) → i ≡ position_or_len
-      (λ (l : Text). bytes_eq (string_bytes k) (string_bytes l)) ks → i < length ls
-      → Some i ≡ position (λ (l : Text). bytes_eq (string_bytes k) (string_bytes l)) ks
-  old-index i at within =
-      at_first (λ (l : Text). bytes_eq (string_bytes k) (string_bytes l)) ks i at
-      (rw (← old-keys) within)
-
--- two lists that end with one more item each are equal part by part
-last-parts : {A : Type 0} (xs ys : List A) (x y : A) → xs ++ x ∷ [] ≡ ys ++ y ∷ []
-    → (xs ≡ ys) × (x ≡ y)
-last-parts [] [] x y e = (refl, cc e)
-last-parts [] (b ∷ []) x y e = absurd (cc e)
-last-parts [] (b ∷ c ∷ ys) x y e = absurd (cc e)
-last-parts (a ∷ []) [] x y e = absurd (cc e)
-last-parts (a ∷ c ∷ xs) [] x y e = absurd (cc e)
-last-parts (a ∷ xs) (b ∷ ys) x y e =
-    let rest = last-parts xs ys x y (cc e) in (cc (e, rest.0), rest.1)
-
-module _ (ks : List Text) (k : Text) (b : Bool) (new : b ≡ not (has ks k)) (yes : b ≡ true) where
-  -- a key that was added wasn't there before
-  pub new-lacked : has ks k ≡ false
-  new-lacked = is-not b _ new ∙ ap not yes
-
-  -- if the last key is removed after that, it is the one that was added
-  pub popped-again : (ls less : List Text) (found : Option Text) (last : Text)
-      → ls ≡ cond (has ks k) ks (ks ++ k ∷ []) → ls ≡ less ++ option_to_list found
-      → found ≡ Some last → (less ≡ ks) × (last ≡ k)
-  popped-again ls less found last h ends is =
-      last-parts less ks last k
-      (sym (ends ∙ ap (λ o. less ++ option_to_list o) is) ∙ h
-      ∙ ap (λ c. cond c ks (ks ++ k ∷ [])) new-lacked)
 
 -- a list that is sorted by a function's values becomes a sorted list of these values
 sorted-map : {A K : Type 0} (f : A → K) (lt : K → K → Bool) (xs : List A)
@@ -125,36 +78,6 @@ module _ {V : Type 0} where
               ∙ parts,
         )
 
-  -- no pair has moved to a row yet
-  pub none-moved : (none : List (Text × V)) (left pairs : List (List ℕ × V)) (room : ℕ) → none ≡ []
-      → left ≡ pairs → length pairs ≤ room
-      → (map shown_owned_pair none ++ left ≡ pairs) × (length none + length left ≤ room)
-  none-moved none left pairs room empty is fits = (
-    ap (λ l. map shown_owned_pair l ++ left) empty ∙ is,
-    omega (arith, ap length empty, ap length is, fits),
-  )
-
-  -- one more pair moves to a row
-  pub one-moved : (old new : List (Text × V)) (row : Text × V) (left less pairs : List (List ℕ × V))
-      (room after : ℕ) → new ≡ old ++ row ∷ [] → left ≡ shown_owned_pair row ∷ less
-      → after ≡ room
-      → (map shown_owned_pair old ++ left ≡ pairs) × (length old + length left ≤ room)
-      → (map shown_owned_pair new ++ less ≡ pairs) × (length new + length less ≤ after)
-  one-moved old new row left less pairs room after pushed next same (all, fits) = (
-    ap (λ l. map shown_owned_pair l ++ less) pushed
-        ∙ ap (λ l. l ++ less) (map_push shown_owned_pair old row)
-        ∙ append_assoc (map shown_owned_pair old) (shown_owned_pair row ∷ []) less
-        ∙ ap (λ l. map shown_owned_pair old ++ l) (sym next) ∙ all,
-    omega (
-      arith,
-      ap length pushed,
-      length-append old (row ∷ []),
-      ap length next,
-      fits,
-      same,
-    ),
-  )
-
   keys-shown : (all : List (Text × V))
       → map (λ (r : Text × V). string_bytes r.0) all ≡ keys_of (map shown_owned_pair all)
   keys-shown [] = refl
@@ -181,4 +104,4 @@ module _ {V : Type 0} where
       (IsPermutation-map (λ p. p.0) old new m) d
 
 -- rules for inserting into the columns
-pub ruleset inserting = (columns, rows-pushed, comes_last, none-rows, length-append)
+pub ruleset inserting = (columns, rows-pushed, rows-old, comes_last, none-rows, length-append)

@@ -4,6 +4,5 @@ pub mod DistinctKeys
 pub mod RetainLoop
 pub mod Inserts
 pub mod ColumnAppends
-pub mod PairValues
 pub mod TreeEquality
 pub mod PairsSame

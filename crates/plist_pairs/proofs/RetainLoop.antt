@@ -1,5 +1,5 @@
 -- Which items are left by a loop that moves to the front the items that it keeps.
-use Rattle.std.proofs.Common.{◌≡◌, ℕ, zero, suc, ◌+◌, ◌<◌, ◌≤◌, Bool, true, false, cond, List, [], ◌∷◌, ◌++◌, length, take, drop, set, get_or, filter, refl, sym, ap, subst, ◌∙◌, append_assoc, append-nil, arith, Some, slice_get, swap, drop-set-lt, drop_of_length-le}
+use Rattle.std.proofs.Common.{◌≡◌, ℕ, zero, suc, ◌+◌, ◌<◌, ◌≤◌, Bool, true, false, cond, List, [], ◌∷◌, ◌++◌, length, take, drop, set, get_or, filter, refl, sym, ap, ◌∙◌, append_assoc, append-nil, arith, Some, slice_get, swap, drop-set-lt, drop_of_length-le}
 use Rattle.std.specs.List.{AllZip, items_where_true}
 use Rattle.std.proofs.lemmas.List.{drop_more, drop-drop}
 use Rattle.std.proofs.lemmas.List.Edits.{length-swap, swap_is}

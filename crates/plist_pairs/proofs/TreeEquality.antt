@@ -187,6 +187,9 @@ mutual
 pub sym_tree : (t u : Tree) → same t u ≡ true → same u t ≡ true
 sym_tree t u h = both t u t h (refl_tree t)
 
+pub symmetric : (t u : Tree) → same t u ≡ same u t
+symmetric t u = both_ways (same t u) (same u t) (sym_tree t u) (sym_tree u t)
+
 -- sameness is transitive
 pub trans_tree : (t u v : Tree) → same t u ≡ true → same u v ≡ true → same t v ≡ true
 trans_tree t u v h g = both u t v (sym_tree t u h) g
@@ -197,23 +200,13 @@ module _ {V : Type 0} (tree : V → Tree) where
   abbrev pub same_by : V → V → Bool
   same_by v w = same (tree v) (tree w)
 
-  -- each value is the same as itself
-  pub same_by_refl : (v : V) → same_by v v ≡ true
-  same_by_refl v = refl_tree (tree v)
-
   -- sameness of values is an equivalence
   pub same_by_equiv : IsEquivalence same_by
   same_by_equiv =
       equiv (record {
-        symm = λ v w. both_ways (same_by v w) (same_by w v)
-            (sym_tree (tree v) (tree w)) (sym_tree (tree w) (tree v));
-        trans = λ u v w. trans_tree
-            (tree u) (tree v) (tree w);
-      }) same_by_refl
-
--- the laws in the form that callers see
-pub symmetric : (t u : Tree) → same t u ≡ same u t
-symmetric t u = both_ways (same t u) (same u t) (sym_tree t u) (sym_tree u t)
+        symm = λ v w. symmetric (tree v) (tree w);
+        trans = λ u v w. trans_tree (tree u) (tree v) (tree w);
+      }) (λ v. refl_tree (tree v))
 
 -- scalars are the same if and only if they are equal
 pub scalars_alike : (x y : Scalar) → (same (Leaf x) (Leaf y) ≡ true) ↔ (x ≡ y)

@@ -32,31 +32,6 @@ impl<V> Model for BoxedPairs<V> {
     ghost view = { λ a. option_map_or (λ b. b.value) a.pairs [] };
 }
 
-// Allocates a box of no pairs.
-fn empty<V>(alloc: Global) -> Result<Box<Pairs<V>>, AllocError>
-    ensures { IfOk result (λ pairs. pairs.value ≡ []) }
-{
-    match Box::new(alloc, Pairs::new(alloc)) {
-        Ok(pairs) => Ok(pairs),
-        Err(refused) => {
-            refused.value.destroy_empty();
-            Err(AllocError)
-        }
-    }
-}
-
-// Sets the box, which must be `None`. An assignment would have to drop the old box, which isn't
-// possible for every type of values.
-fn put<V>(dest: &mut Option<Box<Pairs<V>>>, pairs: Box<Pairs<V>>)
-    requires { dest.old ≡ None }
-    ensures { dest.new ≡ Some pairs }
-{
-    match dest.replace(pairs) {
-        None => {}
-        Some(before) => Box::into_inner(before).destroy_empty(),
-    }
-}
-
 impl<V> BoxedPairs<V> {
     ghost use Rattle.std.specs.Borrow.{sem};
     ghost use Rattle.plist_pairs.specs.Lends.{LendsPairs};
@@ -108,12 +83,19 @@ impl<V> BoxedPairs<V> {
         if let Some(pairs) = &mut self.pairs {
             return pairs.insert(key, value);
         }
-        let mut pairs = match empty(self.alloc) {
+        let mut pairs = match Box::new(self.alloc, Pairs::new(self.alloc)) {
             Ok(pairs) => pairs,
-            Err(_) => return Err((key, value)),
+            Err(refused) => {
+                refused.value.destroy_empty();
+                return Err((key, value));
+            }
         };
         let answer = pairs.insert(key, value);
-        put(&mut self.pairs, pairs);
+        // An assignment would have to drop the old box, which isn't possible for every type of
+        // values.
+        if let Some(before) = self.pairs.replace(pairs) {
+            Box::into_inner(before).destroy_empty();
+        }
         answer
     }
 

@@ -1,11 +1,8 @@
 use Rattle.std.proofs.Common.{List, ℕ, string_bytes, refl, subst, ◌∙◌, arith}
 use Rattle.plist_pairs.specs.Bulk.{AnswersAtPair}
-use Rattle.plist_pairs.proofs.RetainLoop.{kept-none, kept-all, step-one, step-other}
+use Rattle.plist_pairs.proofs.RetainLoop.{kept-all, step-one, step-other}
 use Rattle.plist_pairs.proofs.pairs.Pairs.retain.Goals.{then-keep, else-keep}
 use Rattle.plist_pairs.proofs.pairs.Pairs.retain.Goals as goal
-
-pub loop-i-init : goal.loop-i-init
-loop-i-init g c = kept-none _ _
 
 pub loop-i-preserved : goal.loop-i-preserved
 loop-i-preserved g c =
