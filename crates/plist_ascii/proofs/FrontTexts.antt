@@ -1,52 +1,35 @@
 -- Strings that end among the bytes at hand.
-use Rattle.std.proofs.Common.{◌≡◌, ℕ, zero, suc, ◌+◌, ◌-◌, ◌^◌, ◌<◌, ◌≤◌, Bool, true, false, List, [], ◌∷◌, ◌++◌, length, take, drop, Option, Some, Ok, None, refl, sym, ap, ◌∙◌, subst, append-nil, arith, length-drop}
+use Rattle.std.proofs.Common.{◌≡◌, ℕ, zero, suc, ◌+◌, ◌-◌, ◌^◌, ◌<◌, ◌≤◌, Bool, true, false, List, [], ◌∷◌, ◌++◌, length, take, drop, Option, Some, Ok, None, refl, sym, ap, ◌∙◌, subst, arith, length-drop}
 use Rattle.std.proofs.lemmas.List.{take-append-le, drop-append-le}
-use Rattle.std.specs.Option.{option_map_or}
 use Rattle.std.specs.Result.{result_flatten, result_map_both}
 use Rattle.std.specs.Str.{is_utf8}
 use Rattle.std.specs.Prelude.{not, slice_get, if◌then◌else◌}
 use Rattle.plist_base.specs.declared.event.Event.{Event}
-use Rattle.plist_base.specs.Events.{Item, ScalarEvent, event_of}
-use Rattle.plist_base.specs.Trees.{Integer, String}
+use Rattle.plist_base.specs.Events.{ScalarEvent, event_of}
+use Rattle.plist_base.specs.Trees.{String}
 use Rattle.plist_base.specs.IntegerText.{integer_of_text}
 use Rattle.plist_ascii.specs.declared.stop.Stop.{Stop}
 use Rattle.plist_ascii.specs.declared.stop.Stop.TheVariants as stop
-use Rattle.plist_ascii.specs.Ascii.{is_blank, lead_of, token_by, IfBracket, IsAsciiEvent}
+use Rattle.plist_ascii.specs.Ascii.{is_blank, lead_of, token_by, IfBracket}
 use Rattle.plist_ascii.specs.declared.input.Input.{Input}
 use Rattle.plist_ascii.specs.declared.reader.AsciiReader.{AsciiReader}
 use Rattle.plist_ascii.specs.AsciiReader.{GivesAscii}
 use Rattle.plist_ascii.specs.TokenPrefixes.{past_one, run, taken}
-use Rattle.plist_ascii.specs.Texts.{ends_run, quoted, bare_event, quoted_event, scalar_of_text}
+use Rattle.plist_ascii.specs.Texts.{ends_run, bare_event, quoted_event}
 use Rattle.plist_ascii.specs.Unread.{IfKnown, stops, unread}
 use Rattle.plist_ascii.specs.inner.Inputs.{hand_of}
 use Rattle.plist_ascii.specs.inner.Parts.{BeginWithText, IsBareFront, IsQuotedFront, LeadsToText}
-use Rattle.plist_ascii.proofs.Items.{IsFirst, going_start, going_blanks, going_event, items_come, bytes_taken, Takes}
-use Rattle.plist_ascii.proofs.UnreadBytes.{ended_hand}
-use Rattle.plist_ascii.proofs.Quotes.{part_after, quote_closes}
-use Rattle.plist_ascii.proofs.Texts.{number_is_text, text_gives}
-
--- a run that ends among the first bytes has the same length in all bytes
-run_front : (stop : ℕ → Bool) (front rest : List ℕ) → run stop front < length front
-    → run stop (front ++ rest) ≡ run stop front
-run_front stop [] rest h = absurd (let none : ⊥ = omega arith in none)
-run_front stop (c ∷ front) rest h = by_stop (stop c) refl (run_front stop front rest)
-  where
-    by_stop : (b : Bool) → stop c ≡ b
-        → (run stop front < length front → run stop (front ++ rest) ≡ run stop front)
-        → run stop (c ∷ (front ++ rest)) ≡ run stop (c ∷ front)
-    by_stop true e on = rw e refl
-    by_stop false e on =
-        let one : 1 + run stop front ≡ suc (run stop front) = omega arith in
-        let less : suc (run stop front) < suc (length front) = rw (e, one) at h in
-        rw e (ap (λ n. 1 + n) (on (omega arith)))
+use Rattle.std.proofs.lemmas.Bool.{cond_both}
+use Rattle.plist_ascii.proofs.Items.{IsFirst, TakesFirst, going_start, going_blanks, going_event}
+use Rattle.plist_ascii.proofs.Quotes.{quoted_plain}
+use Rattle.plist_ascii.proofs.Runs.{run_front}
+use Rattle.plist_ascii.proofs.Yields.{gives_event}
 
 -- the meaning of a bare string that spells no integer
 bare_means : (text : List ℕ) → is_utf8 text ≡ true → integer_of_text text ≡ None
     → bare_event text ≡ Ok (Some (ScalarEvent (String text)))
 unfolding bare_event
-bare_means text utf8 none =
-    (text_gives text (scalar_of_text text) (ScalarEvent (String text)) utf8
-    (ap (λ n. ScalarEvent (option_map_or Integer n (String text))) (sym none)) (number_is_text text _)).0
+bare_means text utf8 none = rw (utf8, none) refl
 
 -- a bare string is the first token, whatever follows it
 pub bare_begins : (ends : ℕ → Bool) (bytes : List ℕ) (n : ℕ) (text : List ℕ)
@@ -95,15 +78,13 @@ quoted_begins (c ∷ cs) n count text begins size is utf8 ends = λ more.
     run_front (ends_run c) cs more (subst (λ k. k < length cs) begins.1 at.0) ∙ sym begins.1 in
     let rest : drop n ys ≡ c ∷ (at.1.0 ++ more) =
     drop-append-le n cs more le ∙ ap (λ l. l ++ more) at.1.1 in
-    let closes : quoted c ys ≡ taken (m + 1) (Ok (take m ys ++ [])) =
-    part_after c 1 true ys [] (quote_closes c (drop m ys) (at.1.0 ++ more)
-    (ap (λ k. drop k ys) same ∙ rest)) in
+    let closes = quoted_plain c ys (at.1.0 ++ more) (ap (λ k. drop k ys) same ∙ rest) in
     let all : suc (m + 1) ≡ count = omega arith in
-    let text-is : take m ys ++ [] ≡ text =
-    append-nil (take m ys) ∙ ap (λ k. take k ys) same ∙ take-append-le n cs more le ∙ sym is in
+    let text-is : take m ys ≡ text =
+    ap (λ k. take k ys) same ∙ take-append-le n cs more le ∙ sym is in
     ap (λ l. past_one (token_by ends l c ys)) begins.0
     ∙ ap (λ t. past_one (taken t.bytes (result_flatten (result_map_both quoted_event (λ fault. fault) t.gives)))) closes
-    ∙ ap (λ k. taken k (quoted_event (take m ys ++ []))) all
+    ∙ ap (λ k. taken k (quoted_event (take m ys))) all
     ∙ ap (λ l. taken count (quoted_event l)) text-is
     ∙ ap (taken count) (quoted_is text utf8)
 
@@ -151,9 +132,9 @@ pub borrowed_item : (stops : ℕ → Bool) (xs : List ℕ) (p q count : ℕ) (te
     → IsFirst stops xs p (Ok (ScalarEvent (String text))) (drop count xs) q
 borrowed_item stops xs p q count text ahead place =
     let ends = ahead.ends in
-    let end : q ≡ p + run (λ c. not (is_blank c)) xs + 1
-    + (token_by stops (lead_of ahead.byte) ahead.byte ahead.rest).bytes = omega arith in
-    let first = going_event (going_blanks (going_start stops xs p)) ahead.next refl end ahead.means in
+    let end : q ≡ p + run (λ c. not (is_blank c)) xs
+    + suc (token_by stops (lead_of ahead.byte) ahead.byte ahead.rest).bytes = omega arith in
+    let first = going_event (rw ahead.next at (going_blanks (going_start stops xs p))) end ahead.means in
     let many : q - p ≡ count = omega arith in
     subst (λ left. IsFirst stops xs p (Ok (ScalarEvent (String text))) left q)
     (first.1.rest ∙ ap (λ n. drop n xs) many) first
@@ -163,47 +144,30 @@ pub borrowed_gives : {R : Type 0} (known : R → Option (List ℕ)) (failed : R 
     (old : AsciiReader R) (new : Input R) (count : ℕ) (text : List ℕ) (event : Event)
     → event_of event ≡ ScalarEvent (String text)
     → IfKnown (unread known old.input) (λ bytes. LeadsToText (stops (stop.Bare old.dialect)) bytes count text)
-    → (old.input.ended ≡ true → ⊥)
+    → old.input.ended ≡ false
     → IfKnown (unread known old.input) (λ bytes. unread known new ≡ Some (drop count bytes))
     → new.taken ≡ old.input.taken + count → 0 < count
     → new.peeked ≡ None → failed new.inner ≡ failed old.input.inner
     → GivesAscii known failed old (Some (Ok event))
     (record { input = new; alloc = old.alloc; dialect = old.dialect })
 borrowed_gives known failed old new count text event is ahead going bytes place some peeked failures =
-    let takes : Takes old.dialect (unread known old.input) (unread known new) old.input.taken
-    new.taken (Some (Ok event)) = record {
-      first = λ xs e. (
-        drop count xs,
-        bytes xs e,
-        subst (λ (x : Item). IsFirst (stops (stop.Bare old.dialect)) xs old.input.taken x
-            (drop count xs) new.taken) (ap Ok (sym is))
-            (borrowed_item _ xs _ _ count text (ahead xs e) place),
-      );
-    } in
-    record {
-      items = items_come refl takes;
-      failures = failures;
-      state = record { ended = λ h. absurd (going h); unasked = λ h. absurd (going h); ends = tt };
-      inner = record {
-        takes = bytes_taken takes;
-        dialect = refl;
-        rises = (omega arith, omega arith);
-        offset = tt;
-        kinds = subst IsAsciiEvent (sym is) tt;
-        brackets = subst (λ e. IfBracket e (new.peeked ≡ None)) (sym is) tt;
-        quotes = λ xs e first. peeked;
-      };
-    }
+    let first : TakesFirst known old (Ok (event_of event)) new = λ xs e. (
+      drop count xs,
+      bytes xs e,
+      rw is (borrowed_item _ xs _ _ count text (ahead xs e) place),
+    ) in
+    gives_event refl going (omega arith) first failures (rw is tt)
+    (subst (λ e. IfBracket e (new.peeked ≡ None)) (sym is) tt) (λ xs e first. peeked)
 
 -- fewer items remain after bytes are taken
-pub borrowed_falls : (ended later : Bool) (p q : ℕ) → (ended ≡ true → ⊥) → p < q → q < 2 ^ 64
+pub borrowed_falls : (ended later : Bool) (p q : ℕ) → ended ≡ false → p < q → q < 2 ^ 64
     → (if later then 0 else 2 ^ 64 - q) < (if ended then 0 else 2 ^ 64 - p)
-borrowed_falls true later p q going rises fits = absurd (going refl)
-borrowed_falls false true p q going rises fits = omega arith
-borrowed_falls false false p q going rises fits = omega arith
+borrowed_falls ended later p q going rises fits = rw going
+    (cond_both later _ _ (λ m. m < 2 ^ 64 - p) (λ _. omega arith) (λ _. omega arith))
 
 -- an input with bytes at hand hasn't ended
 pub some_going : (window : List ℕ) (ended : Bool) (peeked : Option ℕ) (p n : ℕ)
-    → n ≤ length (hand_of window ended peeked p) → 0 < n → ended ≡ true → ⊥
-some_going window ended peeked p n within some e =
-    let none = ap length (ended_hand window ended peeked p e) in omega arith
+    → n ≤ length (hand_of window ended peeked p) → 0 < n → ended ≡ false
+unfolding hand_of
+some_going window true peeked p n within some = absurd (let none : ⊥ = omega arith in none)
+some_going window false peeked p n within some = refl

@@ -1,26 +1,25 @@
 -- Items, token by token.
-use Rattle.std.proofs.Common.{◌≡◌, ℕ, zero, suc, ◌+◌, ◌-◌, ◌≤◌, Bool, true, false, List, [], ◌∷◌, length, drop, map, Option, None, Some, Result, Ok, Err, refl, sym, ap, subst, ◌∙◌, arith, rules, length-drop}
-use Rattle.std.proofs.lemmas.List.{drop-drop}
-use Rattle.plist_base.specs.Faults.{FaultKind, Fault, MatchFault, fault_at}
-use Rattle.std.specs.Prelude.{IfSome, MatchOption, not, ⊤}
+use Rattle.std.proofs.Common.{◌≡◌, ℕ, zero, suc, ◌+◌, ◌-◌, ◌<◌, ◌≤◌, Bool, true, List, [], ◌∷◌, length, drop, map, Option, None, Some, Result, Ok, Err, refl, sym, ap, subst, ◌∙◌, arith, rules, length-drop}
+use Rattle.std.specs.Prelude.{not}
 use Rattle.std.specs.Option.{option_map}
-use Rattle.plist_ascii.specs.declared.fault.TokenFault.{TokenFault}
-use Rattle.plist_ascii.specs.declared.fault.TokenFault.TheVariants as broken
-use Rattle.plist_ascii.specs.declared.input.Input.{Input}
-use Rattle.plist_ascii.specs.inner.Inputs.{CountsFailed, kind_in_bytes, fault_after}
+use Rattle.std.proofs.lemmas.Bool.{not-false}
+use Rattle.std.proofs.lemmas.List.{drop-drop}
 use Rattle.plist_base.specs.declared.event.Event.{Event}
 use Rattle.plist_base.specs.Events.{PlainEvent, Item, event_of}
-use Rattle.plist_base.specs.FirstItems.{GivesFirst, GivesFirstIfKnown, StopsIf}
-use Rattle.plist_base.specs.declared.error.Error.{Error}
-use Rattle.plist_ascii.specs.TokenPrefixes.{taken, run}
-use Rattle.plist_ascii.proofs.TokenOutcomes.{TakesFront}
+use Rattle.plist_base.specs.Faults.{FaultKind, fault_at}
+use Rattle.plist_ascii.specs.declared.fault.TokenFault.{TokenFault}
+use Rattle.plist_ascii.specs.declared.input.Input.{Input}
+use Rattle.plist_ascii.specs.declared.reader.AsciiReader.{AsciiReader}
+use Rattle.plist_ascii.specs.declared.stop.Stop.TheVariants as stop
 use Rattle.plist_ascii.specs.declared.token.Lead.{Lead}
 use Rattle.plist_ascii.specs.declared.token.Lead.TheVariants as lead
-use Rattle.plist_ascii.specs.Ascii.{PlacedItem, placed, is_blank, item_then, items_in, items_of_ascii, placed_items, token, token_by, lead_of, IsFaultOfBytes, IsTextToken, BeginsWithText, FirstIsQuoted}
-use Rattle.plist_ascii.specs.AsciiReader.{BeginsWithItem, TakesItem}
-use Rattle.plist_ascii.specs.Unread.{IfKnown, RisesIfCounted}
+use Rattle.plist_ascii.specs.TokenPrefixes.{run, taken}
 use Rattle.plist_ascii.specs.Texts.{Token, ends_bare}
-use Rattle.plist_ascii.specs.declared.dialect.Dialect.{Dialect}
+use Rattle.plist_ascii.specs.Ascii.{PlacedItem, is_blank, item_then, items_in, items_of_ascii, placed_items, token, token_by, lead_of, IsTextToken, BeginsWithText, FirstIsQuoted}
+use Rattle.plist_ascii.specs.AsciiReader.{BeginsWithItem}
+use Rattle.plist_ascii.specs.Unread.{IfKnown, stops, unread}
+use Rattle.plist_ascii.specs.inner.Inputs.{GivesBy, TakesPast, kind_in_bytes}
+use Rattle.plist_ascii.proofs.Runs.{run_elim}
 
 then_same : (l : Lead) (q : ℕ) (g : Result (Option PlainEvent) FaultKind) (xs ys : List PlacedItem)
     → xs ≡ ys → item_then l q g xs ≡ item_then l q g ys
@@ -68,13 +67,11 @@ pub record Going (stops : ℕ → Bool) (xs : List ℕ) (p : ℕ) (ys : List ℕ
   pub rest : ys ≡ drop (q - p) xs
 
 pub going_start : (stops : ℕ → Bool) (xs : List ℕ) (p : ℕ) → Going stops xs p xs p
-going_start stops xs p =
-    record {
-      rises = omega arith;
-      all = refl;
-      rest = let none : 0
-          ≡ p - p = omega arith in ap (λ n. drop n xs) none;
-    }
+going_start stops xs p = record {
+  rises = omega arith;
+  all = refl;
+  rest = let none : 0 ≡ p - p = omega arith in ap (λ n. drop n xs) none;
+}
 
 -- the item is the first, the others remain after it, and it ends at offset `q`
 abbrev pub IsFirst : (stops : ℕ → Bool) (xs : List ℕ) (p : ℕ) (x : Item) (ys : List ℕ) (q : ℕ)
@@ -82,247 +79,167 @@ abbrev pub IsFirst : (stops : ℕ → Bool) (xs : List ℕ) (p : ℕ) (x : Item)
 IsFirst stops xs p x ys q =
     (items_of_ascii stops xs p ≡ x ∷ items_of_ascii stops ys q) × BeginsWithItem stops xs p x ys q
 
-begins : (stops : ℕ → Bool) (xs : List ℕ) (p : ℕ) (l : Lead) (x : Item) (ys : List ℕ) (q : ℕ)
-    → placed_items stops xs p ≡ placed l q x ∷ placed_items stops ys q → ys ≡ drop (q - p) xs
-    → IsFirst stops xs p x ys q
-begins stops xs p l x ys q e d =
-    (ap (map (λ i. i.item)) e, record { lead = l; ends = e; rest = d })
-
-blank_leads : (c : ℕ) → is_blank c ≡ true → lead_of c ≡ lead.Blank
-blank_leads c e = rw e refl
-
-blank_gives : (stops : ℕ → Bool) (c : ℕ) (cs : List ℕ) → lead_of c ≡ lead.Blank
-    → token_by stops (lead_of c) c cs ≡ taken 0 (Ok None)
-blank_gives stops c cs e = rw e refl
-
 text_first : (l : Lead) (q : ℕ) (g : Result (Option PlainEvent) FaultKind) (more : List PlacedItem)
     → IsTextToken g → BeginsWithText (map (λ i. i.item) (item_then l q g more))
 text_first l q g more h = search rules
 
-module _ {stops : ℕ → Bool} {xs : List ℕ} {p : ℕ} {ys : List ℕ} {m c : ℕ} {cs : List ℕ}
-    (h : Going stops xs p ys m) (e : ys ≡ c ∷ cs) where
+module _ {stops : ℕ → Bool} {xs : List ℕ} {p m c : ℕ} {cs : List ℕ}
+    (h : Going stops xs p (c ∷ cs) m) where
   abbrev token_here : Token
   token_here = token_by stops (lead_of c) c cs
 
-  abbrev following : ℕ → List PlacedItem
-  following q = placed_items stops (drop token_here.bytes cs) q
-
-  going_all : (q : ℕ) → q ≡ m + suc token_here.bytes
-      → placed_items stops xs p ≡ item_then (lead_of c) q token_here.gives (following q)
-  going_all q s = cc (items_cons _ c cs m q s)
+  abbrev left : List ℕ
+  left = drop token_here.bytes cs
 
   -- if the token is a string, the first item is a string
   pub going_text : IsTextToken token_here.gives → BeginsWithText (items_of_ascii stops xs p)
-  going_text w =
-      let P : List PlacedItem → Type 0 = λ is. BeginsWithText (map (λ i. i.item) is) in
-      subst P (sym (going_all _ refl)) (text_first _ _ token_here.gives _ w)
+  going_text w = rw (h.all, items_cons stops c cs m _ refl) (text_first _ _ token_here.gives _ w)
 
-  -- the first byte of the token ends at offset `n`, and the token at offset `q`
-  module _ {n q : ℕ} (t : n ≡ m + 1) (s : q ≡ n + token_here.bytes) where
-    going_by : (g : Result (Option PlainEvent) FaultKind) → token_here.gives ≡ g
-        → placed_items stops xs p ≡ item_then (lead_of c) q g (following q)
-    going_by g is = cc (going_all q (omega arith))
+  module _ {q : ℕ} (s : q ≡ m + suc token_here.bytes) where
+    going_by : {g : Result (Option PlainEvent) FaultKind} → token_here.gives ≡ g
+        → placed_items stops xs p ≡ item_then (lead_of c) q g (placed_items stops left q)
+    going_by is = h.all ∙ rw (← is) (items_cons stops c cs m q s)
 
-    going_rest : drop token_here.bytes cs ≡ drop (q - p) xs
+    going_rest : left ≡ drop (q - p) xs
     going_rest =
-        let n = suc _ in
         let le = h.rises in
-        let sum : m - p + n ≡ q - p = omega arith in
-        ap (drop n) (sym e ∙ h.rest) ∙ drop-drop n (m - p) xs ∙ ap (λ k. drop k xs) sum
+        let sum : m - p + suc token_here.bytes ≡ q - p = omega arith in
+        ap (drop (suc token_here.bytes)) h.rest ∙ drop-drop (suc token_here.bytes) (m - p) xs
+        ∙ ap (λ k. drop k xs) sum
 
-    pub going_skip : token_here.gives ≡ Ok None
-        → Going stops xs p (drop token_here.bytes cs) q
+    pub going_skip : token_here.gives ≡ Ok None → Going stops xs p left q
     going_skip g = record {
-      rises = let le : p ≤ m = h.rises in omega arith;
-      all = going_by _ g;
+      rises = let le = h.rises in omega arith;
+      all = going_by g;
       rest = going_rest;
     }
 
     pub going_event : {x : PlainEvent} → token_here.gives ≡ Ok (Some x)
-        → IsFirst stops xs p (Ok x) (drop token_here.bytes cs) q
-    going_event g = begins stops xs p _ _ _ q (going_by _ g) going_rest
+        → IsFirst stops xs p (Ok x) left q
+    going_event g = (
+      ap (map (λ i. i.item)) (going_by g),
+      record { lead = lead_of c; ends = going_by g; rest = going_rest },
+    )
 
-    pub going_fault : {k : FaultKind} {f : Fault} → f ≡ fault_at k q
-        → token_here.gives ≡ Err k → IsFirst stops xs p (Err f) (drop token_here.bytes cs) q
-    going_fault i g = begins stops xs p _ _ _ q
-        (going_by _ g ∙ ap (λ f. placed (lead_of c) q (Err f) ∷ following q) (sym i)) going_rest
+    pub going_fault : {k : FaultKind} → token_here.gives ≡ Err k
+        → IsFirst stops xs p (Err (fault_at k q)) left q
+    going_fault g = (
+      ap (map (λ i. i.item)) (going_by g),
+      record { lead = lead_of c; ends = going_by g; rest = going_rest },
+    )
 
     -- if the first item is a quoted string, the token begins with a quote
     pub going_quoted : {x : PlainEvent} → token_here.gives ≡ Ok (Some x)
         → FirstIsQuoted (placed_items stops xs p) → lead_of c ≡ lead.Quote
-    going_quoted g first = subst FirstIsQuoted (going_by _ g) first
-
-  -- the fault is that of the first item, or memory ran out for it, or a read failed
-  abbrev IsError : Fault → (rest : List ℕ) → (r : ℕ) → Type 0
-  IsError fault rest r =
-      let before = items_of_ascii stops xs p in
-      let after = items_of_ascii stops rest r in
-      MatchFault fault.kind (StopsIf (λ _. ⊤) before after) (StopsIf BeginsWithText before after)
-      (before ≡ Err fault ∷ after)
-      × MatchFault fault.kind (rest ≡ []) (rest ≡ []) (BeginsWithItem stops xs p (Err fault) rest r)
-
-  -- an error ends the reader, or is the first item
-  pub going_error : (n q r : ℕ) → r ≡ q → n ≡ m + 1 → (f : TokenFault) (fault : Fault) (E : Type 0)
-      (mid new : Option (List ℕ)) → fault ≡ fault_after f q
-      → IfSome (option_map (λ kind. Err kind) (kind_in_bytes f))
-      (λ g. TakesFront token_here g mid n q cs)
-      → (f ≡ broken.OutOfMemory → IsTextToken token_here.gives)
-      → MatchOption (kind_in_bytes f) (E × (new ≡ Some [])) (λ _. new ≡ mid)
-      → (rest : List ℕ) × (new ≡ Some rest) × IsError fault rest r
-  going_error n q r same t broken.Io fault E mid new i g w ends =
-      ([], ends.1, (rw i (tt, no_items stops r), rw (same, i) refl))
-  going_error n q r same t broken.OutOfMemory fault E mid new i g w ends =
-      ([], ends.1, (rw i (going_text (w refl), no_items stops r), rw (same, i) refl))
-  going_error n q r same t broken.UnclosedString fault E mid new i g w ends =
-      (_, ends ∙ g.1, rw (same, i) (going_fault t g.2 refl g.0))
-  going_error n q r same t broken.IncompleteComment fault E mid new i g w ends =
-      (_, ends ∙ g.1, rw (same, i) (going_fault t g.2 refl g.0))
-  going_error n q r same t broken.InvalidUtf8 fault E mid new i g w ends =
-      (_, ends ∙ g.1, rw (same, i) (going_fault t g.2 refl g.0))
-  going_error n q r same t broken.InvalidOctal fault E mid new i g w ends =
-      (_, ends ∙ g.1, rw (same, i) (going_fault t g.2 refl g.0))
-  going_error n q r same t broken.InvalidUtf16 fault E mid new i g w ends =
-      (_, ends ∙ g.1, rw (same, i) (going_fault t g.2 refl g.0))
+    going_quoted g first = subst FirstIsQuoted (going_by g) first
 
 -- white space and separators have no items
+blank_skips : {stops : ℕ → Bool} {xs : List ℕ} {p m c : ℕ} {cs : List ℕ} → is_blank c ≡ true
+    → Going stops xs p (c ∷ cs) m → Going stops xs p cs (m + 1)
+blank_skips {stops} {m} {c} {cs} e h =
+    let blank : token_by stops (lead_of c) c cs ≡ taken 0 (Ok None) = rw e refl in
+    let next = going_skip h {q = m + 1} (rw blank (omega arith)) (ap (λ t. t.gives) blank) in
+    rw blank at next
+
 pub going_blanks : {stops : ℕ → Bool} {xs : List ℕ} {p : ℕ} {ys : List ℕ} {m : ℕ}
     → Going stops xs p ys m → let n = run (λ c. not (is_blank c)) ys in
     Going stops xs p (drop n ys) (m + n)
-going_blanks {ys = []} {m} h =
-    let none : m + 0 ≡ m = omega arith in rw none h
-going_blanks {stops} {xs} {p} {ys = c ∷ cs} {m} h =
-    by_test (is_blank c) refl (λ left. going_blanks {ys = cs} left)
+going_blanks {stops} {xs} {p} {ys} {m} h = run_elim (λ c. not (is_blank c))
+    (λ ys n. (m : ℕ) → Going stops xs p ys m → Going stops xs p (drop n ys) (m + n))
+    (λ m. none m) (λ c cs e m. none m) (λ c cs e on m h.
+    let sum : m + 1 + n cs ≡ m + suc (n cs) = omega arith in
+    rw (← sum) (on (m + 1) (blank_skips (not-false _ e) h))) ys m h
   where
-    n : ℕ
-    n = run (λ c. not (is_blank c)) cs
+    n : List ℕ → ℕ
+    n ys = run (λ c. not (is_blank c)) ys
 
-    by_test : (b : Bool) → is_blank c ≡ b
-        → (Going stops xs p cs (m + 1) → Going stops xs p (drop n cs) (m + 1 + n))
-        → let k = run (λ c. not (is_blank c)) (c ∷ cs) in
-        Going stops xs p (drop k (c ∷ cs)) (m + k)
-    by_test false e on = let none : m + 0 ≡ m = omega arith in rw (e, none) h
-    by_test true e on =
-        let one : 1 + n ≡ suc n = omega arith in
-        let sum : m + suc n ≡ m + 1 + n = omega arith in
-        let blank = blank_gives stops c cs (blank_leads c e) in
-        let bytes : m + 1 ≡ m + 1 + (token_by stops (lead_of c) c cs).bytes =
-        rw blank (omega arith) in
-        let next : Going stops xs p (drop (token_by stops (lead_of c) c cs).bytes cs) (m + 1) =
-        going_skip h refl refl bytes (ap (λ t. t.gives) blank) in
-        let left : Going stops xs p cs (m + 1) = rw blank at next in
-        rw (e, one, sum) (on left)
+    none : {ys : List ℕ} (m : ℕ) → Going stops xs p ys m → Going stops xs p ys (m + 0)
+    none m h = let same : m + 0 ≡ m = omega arith in rw same h
 
-pub going_none : {stops : ℕ → Bool} {xs : List ℕ} {p : ℕ} {ys : List ℕ} {m : ℕ}
-    → Going stops xs p ys m → ys ≡ [] → items_of_ascii stops xs p ≡ []
-going_none {stops} {xs} {p} {ys} {m} h e =
-    ap (map (λ i. i.item)) (h.all ∙ ap (λ z. placed_items stops z m) e ∙ items_nil _ 0 m)
+-- ---- what calls of an input take
 
--- ---- what one call yields and takes
+-- the items that a reader had not yielded are those of the bytes that remain now
+pub record Since {R : Type 0} (known : R → Option (List ℕ)) (old : AsciiReader R) (now : Input R)
+    : Type 0 where
+  pub rises : old.input.taken ≤ now.taken
+  pub goes : IfKnown (unread known old.input) (λ xs. (ys : List ℕ) × (unread known now ≡ Some ys)
+      × Going (stops (stop.Bare old.dialect)) xs old.input.taken ys now.taken)
 
--- the item is the first of these bytes' items, and its bytes were taken
-abbrev IsYielded : (stops : ℕ → Bool) (bytes : List ℕ) (p : ℕ) → Option (Result Event Error)
-    → (rest : List ℕ) (q : ℕ) → Type 0
-IsYielded stops bytes p item rest q =
-    GivesFirst event_of (StopsIf (λ _. ⊤)) (StopsIf BeginsWithText)
-    (items_of_ascii stops bytes p) item (items_of_ascii stops rest q)
-    × TakesItem stops bytes p item rest q
+-- they are those of the byte `c`, which was taken, and the bytes that remain now
+pub record Led {R : Type 0} (known : R → Option (List ℕ)) (old : AsciiReader R) (c : ℕ)
+    (now : Input R) : Type 0 where
+  pub rises : old.input.taken < now.taken
+  pub goes : IfKnown (unread known old.input) (λ xs. (m : ℕ) × (cs : List ℕ)
+      × (unread known now ≡ Some cs)
+      × Going (stops (stop.Bare old.dialect)) xs old.input.taken (c ∷ cs) m × (now.taken ≡ m + 1))
 
--- if the bytes are known, the item is the first of their items, and its bytes were taken
-pub record Takes (dialect : Dialect) (known left : Option (List ℕ)) (p q : ℕ)
-    (item : Option (Result Event Error)) : Type 0 where
-  pub first : IfKnown known (λ bytes. (rest : List ℕ) × (left ≡ Some rest)
-      × IsYielded (ends_bare dialect) bytes p item rest q)
+-- the token that begins with the byte `c`
+abbrev pub token_led : {R : Type 0} → AsciiReader R → (c : ℕ) → List ℕ → Token
+token_led reader c = token_by (stops (stop.Bare reader.dialect)) (lead_of c) c
 
-module _ {now : Dialect} {known left : Option (List ℕ)} {p q : ℕ}
-    {item : Option (Result Event Error)} where
-  pub items_come : {next : Dialect} → next ≡ now → Takes now known left p q item
-      → GivesFirstIfKnown event_of (StopsIf (λ _. ⊤)) (StopsIf BeginsWithText)
-      (option_map (λ bytes. items_of_ascii (ends_bare now) bytes p) known) item
-      (option_map (λ bytes. items_of_ascii (ends_bare next) bytes q) left)
-  items_come {next} same takes = rw same (by known takes.first)
-    where
-      by : (known : Option (List ℕ))
-          → IfKnown known (λ bytes. (rest : List ℕ) × (left ≡ Some rest)
-          × IsYielded (ends_bare now) bytes p item rest q)
-          → GivesFirstIfKnown event_of (StopsIf (λ _. ⊤)) (StopsIf BeginsWithText)
-          (option_map (λ bytes. items_of_ascii (ends_bare now) bytes p) known) item
-          (option_map (λ bytes. items_of_ascii (ends_bare now) bytes q) left)
-      by None h = tt
-      by (Some bytes) h =
-          let (rest, is, yielded) = h bytes refl in (
-            items_of_ascii (ends_bare now) rest q,
-            ap (option_map (λ b. items_of_ascii (ends_bare now) b q)) is,
-            yielded.0,
-          )
+-- the first item, and what was taken for it
+abbrev pub TakesFirst : {R : Type 0} → (R → Option (List ℕ)) → AsciiReader R → Item → Input R → Type 0
+TakesFirst known old item new = IfKnown (unread known old.input) (λ xs. (rest : List ℕ)
+    × (unread known new ≡ Some rest)
+    × IsFirst (ends_bare old.dialect) xs old.input.taken item rest new.taken)
 
-  pub bytes_taken : Takes now known left p q item → IfKnown known (λ bytes. (rest : List ℕ)
-      × (left ≡ Some rest) × TakesItem (ends_bare now) bytes p item rest q)
-  bytes_taken takes bytes is =
-      let (rest, left, yielded) = takes.first bytes is in (rest, left, yielded.1)
+module _ {R : Type 0} {known : R → Option (List ℕ)} {old : AsciiReader R} {now : Input R} where
+  module _ (s : Since known old now) where
+    -- no item remains
+    pub since_ends : (new : Input R) → TakesPast known stop.Lead now None new
+        → IfKnown (unread known old.input)
+        (λ xs. items_of_ascii (ends_bare old.dialect) xs old.input.taken ≡ [])
+    since_ends new past = λ xs e.
+        let i = s.goes xs e in
+        let none = past i.0 i.1 in
+        let on = rw none.0 at (going_blanks i.2) in
+        ap (map (λ i. i.item)) (on.all ∙ items_nil _ 0 _)
 
--- ---- what an error says
+    -- blanks and the first byte of a token were taken
+    pub since_leads : {c : ℕ} {new : Input R} → TakesPast known stop.Lead now (Some c) new
+        → now.taken < new.taken → Led known old c new
+    since_leads past rises = record {
+      rises = omega (arith, s.rises, rises);
+      goes = λ xs e.
+          let i = s.goes xs e in
+          let t = past i.0 i.1 in (_, t.0, t.2, rw t.1 at (going_blanks i.2), t.3);
+    }
 
-module _ (f : TokenFault) (p : ℕ) (x : Fault) (is : x ≡ fault_after f p) where
-  -- a fact for each kind of error
-  pub by_fault : {A B C : Type 0} → (f ≡ broken.Io → A) → (f ≡ broken.OutOfMemory → B) → C
-      → MatchFault x.kind A B C
-  by_fault {A} {B} {C} a b d =
-      subst (λ (x : Fault). MatchFault x.kind A B C) (sym is) (by f a b d)
-    where
-      by : (f : TokenFault) → (f ≡ broken.Io → A) → (f ≡ broken.OutOfMemory → B) → C
-          → MatchFault (fault_after f p).kind A B C
-      by broken.Io a b d = a refl
-      by broken.OutOfMemory a b d = b refl
-      by f a b d = d
+  module _ {c : ℕ} (l : Led known old c now) where
+    pub led_skips : {new : Input R}
+        → GivesBy known (option_map event_of) (token_led old c) now (Ok None) new
+        → Since known old new
+    led_skips a = record {
+      rises = omega (arith, l.rises, a.rises);
+      goes = λ xs e.
+          let i = l.goes xs e in
+          let k = a.gives i.1 i.2 in (_, k.1, going_skip i.3 (omega (arith, k.2, i.4)) k.0);
+    }
 
-  -- an error in the bytes is one of those that bytes can have
-  pub fault_kind : MatchFault x.kind ⊤ ⊤ (IsFaultOfBytes x.kind)
-  fault_kind = subst (λ (x : Fault). MatchFault x.kind ⊤ ⊤ (IsFaultOfBytes x.kind)) (sym is) (by f)
-    where
-      by : (f : TokenFault) → let kind = (fault_after f p).kind in
-          MatchFault kind ⊤ ⊤ (IsFaultOfBytes kind)
-      by broken.Io = tt
-      by broken.OutOfMemory = tt
-      by broken.UnclosedString = tt
-      by broken.IncompleteComment = tt
-      by broken.InvalidUtf8 = tt
-      by broken.InvalidOctal = tt
-      by broken.InvalidUtf16 = tt
+    module _ {new : Input R} {event : Event}
+        (a : GivesBy known (option_map event_of) (token_led old c) now (Ok (Some event)) new) where
+      pub led_gives : TakesFirst known old (Ok (event_of event)) new
+      led_gives = λ xs e.
+          let i = l.goes xs e in
+          let k = a.gives i.1 i.2 in (_, k.1, going_event i.3 (omega (arith, k.2, i.4)) k.0)
 
-  -- an error is at the offset up to which bytes were taken, unless it is `OutOfMemory`
-  pub fault_place : (q : ℕ) → q ≡ p
-      → MatchFault x.kind (x.offset ≡ Some q) (x.offset ≡ None) (x.offset ≡ Some q)
-  fault_place q same =
-      subst (λ (x : Fault). MatchFault x.kind (x.offset ≡ Some q) (x.offset ≡ None) (x.offset ≡ Some q))
-      (sym is) (rw same (by f))
-    where
-      by : (f : TokenFault) → let x = fault_after f p in
-          MatchFault x.kind (x.offset ≡ Some p) (x.offset ≡ None) (x.offset ≡ Some p)
-      by broken.Io = refl
-      by broken.OutOfMemory = refl
-      by broken.UnclosedString = refl
-      by broken.IncompleteComment = refl
-      by broken.InvalidUtf8 = refl
-      by broken.InvalidOctal = refl
-      by broken.InvalidUtf16 = refl
+      -- if the first item is a quoted string, the token begins with a quote
+      pub led_quoted : IfKnown (unread known old.input)
+          (λ xs. FirstIsQuoted (placed_items (ends_bare old.dialect) xs old.input.taken)
+          → lead_of c ≡ lead.Quote)
+      led_quoted = λ xs e.
+          let i = l.goes xs e in
+          let k = a.gives i.1 i.2 in going_quoted i.3 {q = new.taken} (omega (arith, k.2, i.4)) k.0
 
--- only `Io` is counted
-pub fault_counts : {R : Type 0} (failures : R → Option ℕ) (mid new : Input R) (f : TokenFault)
-    (p : ℕ) (x : Fault) (before after : Option ℕ) → x ≡ fault_after f p
-    → CountsFailed {A = Option Event} failures mid (Err f) new → failures mid.inner ≡ before
-    → after ≡ failures new.inner
-    → MatchFault x.kind (RisesIfCounted before after) (after ≡ before) (after ≡ before)
-fault_counts failures mid new broken.Io p x before after is counts old now =
-    rw (is, ← old, now) counts.0
-fault_counts failures mid new broken.OutOfMemory p x before after is counts old now =
-    rw is (now ∙ counts ∙ old)
-fault_counts failures mid new broken.UnclosedString p x before after is counts old now =
-    rw is (now ∙ counts ∙ old)
-fault_counts failures mid new broken.IncompleteComment p x before after is counts old now =
-    rw is (now ∙ counts ∙ old)
-fault_counts failures mid new broken.InvalidUtf8 p x before after is counts old now =
-    rw is (now ∙ counts ∙ old)
-fault_counts failures mid new broken.InvalidOctal p x before after is counts old now =
-    rw is (now ∙ counts ∙ old)
-fault_counts failures mid new broken.InvalidUtf16 p x before after is counts old now =
-    rw is (now ∙ counts ∙ old)
+    pub led_fails : {new : Input R} {f : TokenFault} {kind : FaultKind}
+        → GivesBy known (option_map event_of) (token_led old c) now (Err f) new
+        → kind_in_bytes f ≡ Some kind → TakesFirst known old (Err (fault_at kind new.taken)) new
+    led_fails a is = λ xs e.
+        let i = l.goes xs e in
+        let k = (rw is at a.gives) i.1 i.2 in (_, k.1, going_fault i.3 (omega (arith, k.2, i.4)) k.0)
+
+    -- if the token is a string, the first item is a string
+    pub led_text : IfKnown (unread known now) (λ cs. IsTextToken (token_led old c cs).gives)
+        → IfKnown (unread known old.input)
+        (λ xs. BeginsWithText (items_of_ascii (ends_bare old.dialect) xs old.input.taken))
+    led_text h = λ xs e. let i = l.goes xs e in going_text i.3 (h i.1 i.2)

@@ -1,50 +1,21 @@
 -- A quoted string, part by part.
-use Rattle.std.proofs.Common.{◌≡◌, ℕ, zero, suc, ◌+◌, ◌≤◌, Bool, true, false, cond, List, [], ◌∷◌, ◌++◌, length, take, drop, Option, None, Some, Result, Ok, Err, refl, ap, sym, subst, ◌∙◌, arith, rules, append_assoc, append-nil, length-drop}
-use Rattle.std.specs.Prelude.{◌==◌, ◌||◌}
-use Rattle.std.specs.Option.{option_map_or}
-use Rattle.std.proofs.lemmas.Bool.{eq-eqb}
-use Rattle.std.proofs.lemmas.List.{drop-drop}
-use Rattle.plist_base.specs.Faults.{FaultKind}
-use Rattle.std.specs.Result.{result_map_both}
-use Rattle.plist_ascii.specs.TokenPrefixes.{code_of, Taken, taken, past, past_one, followed, run}
+use Rattle.std.proofs.Common.{◌≡◌, ℕ, zero, suc, ◌+◌, ◌≤◌, ◌≢◌, Bool, true, false, cond, List, [], ◌∷◌, ◌++◌, length, take, drop, Option, None, Some, Result, Ok, Err, refl, ap, sym, ◌∙◌, arith, rules, append_assoc, append-nil, length-drop}
+use Rattle.std.specs.Prelude.{◌==◌, ◌||◌, IfSome, vec_items}
+use Rattle.std.proofs.lemmas.Bool.{eq-eqb, ne_eqb}
+use Rattle.std.specs.declared.alloc.Global.{Global}
+use Rattle.std.specs.declared.vec.Vec.{Vec}
+use Rattle.plist_base.specs.Faults.{FaultKind, UnclosedString}
+use Rattle.plist_ascii.specs.declared.fault.TokenFault.{TokenFault}
+use Rattle.plist_ascii.specs.declared.input.Input.{Input}
+use Rattle.plist_ascii.specs.declared.stop.Stop.TheVariants as stop
+use Rattle.plist_ascii.specs.declared.unescape.Escaped.{Escaped}
+use Rattle.plist_ascii.specs.TokenPrefixes.{code_of, Taken, taken, past, past_one, after_byte, followed, in_sequence, run}
 use Rattle.plist_ascii.specs.Escapes.{escape}
 use Rattle.plist_ascii.specs.Texts.{prepended, ends_run, quoted_in, quoted}
-use Rattle.plist_ascii.specs.inner.Parts.{QuotesPart, run_end}
-use Rattle.plist_ascii.proofs.TokenOutcomes.{TakesFront}
-use Rattle.plist_ascii.proofs.Loops.{Continues, continues_more, continues_ends}
-
--- ---- bytes that precede a string
-
--- the bytes `front`, followed by the rest of a string, or the fault of that rest
-abbrev with_front : List ℕ → Result (List ℕ) FaultKind → Result (List ℕ) FaultKind
-with_front front r = result_map_both (λ more. front ++ more) (λ fault. fault) r
-
--- n bytes, which stand for `front`, precede a string
-abbrev pub piece : ℕ → List ℕ → Taken (List ℕ) → Taken (List ℕ)
-piece n front t = past n (prepended front t)
-
-with_none : (r : Result (List ℕ) FaultKind) → with_front [] r ≡ r
-with_none r = search rules
-
-piece_none : (t : Taken (List ℕ)) → t ≡ piece 0 [] t
-piece_none t =
-    let n : t.bytes ≡ 0 + t.bytes = omega arith in
-    ap (λ n. taken n t.gives) n ∙ ap (taken (0 + t.bytes)) (sym (with_none t.gives))
-
-with_with : (a b : List ℕ) (r : Result (List ℕ) FaultKind)
-    → with_front a (with_front b r) ≡ with_front (a ++ b) r
-with_with a b r = search (rules, append_assoc)
-
-continues_twice : (m n : ℕ) (a b : List ℕ) (t : Taken (List ℕ))
-    → piece m a (piece n b t) ≡ piece (m + n) (a ++ b) t
-continues_twice m n a b t =
-    let place : m + (n + t.bytes) ≡ m + n + t.bytes = omega arith in
-    rw (place, with_with a b _) refl
-
-one_more : (n : ℕ) (part : List ℕ) (t : Taken (List ℕ)) → past_one (piece n part t) ≡ piece (suc n) part t
-one_more n part t =
-    let place : suc (n + t.bytes) ≡ suc n + t.bytes = omega arith in
-    ap (λ k. taken k (with_front part t.gives)) place
+use Rattle.plist_ascii.specs.inner.Inputs.{AddsRun, GivesBy, TakesNext, TakesOneMore, kind_in_bytes}
+use Rattle.plist_ascii.specs.inner.Parts.{escaped_bytes}
+use Rattle.plist_ascii.proofs.Runs.{run_elim}
+use Rattle.plist_ascii.proofs.TokenOutcomes.{gives_after, past_more, past_none, some_err, some_fault}
 
 -- ---- the first byte
 
@@ -58,7 +29,7 @@ step quote more c rest =
 then_same : (n : ℕ) (r : Result (List ℕ) FaultKind) (xs : List ℕ) (f g : List ℕ → Taken (List ℕ))
     → f (drop n xs) ≡ g (drop n xs) → followed xs n r (λ text left. prepended text (f left))
     ≡ followed xs n r (λ text left. prepended text (g left))
-then_same n (Ok text) xs f g h = ap (λ t. piece n text t) h
+then_same n (Ok text) xs f g h = ap (λ t. past n (prepended text t)) h
 then_same n (Err fault) xs f g h = refl
 
 step_same : (quote c : ℕ) (xs : List ℕ) (f g : List ℕ → Taken (List ℕ))
@@ -67,12 +38,7 @@ step_same : (quote c : ℕ) (xs : List ℕ) (f g : List ℕ → Taken (List ℕ)
 step_same quote c xs f g h =
     let e = escape xs in
     let less : length (drop e.bytes xs) ≤ length xs = rw length-drop (omega arith) in
-    ap (λ t. past_one (cond (c == quote) (taken 0 (Ok []))
-    (cond (c == code_of "\\") t (prepended (c ∷ []) (f xs)))))
-    (then_same e.bytes e.gives xs f g (h _ less))
-    ∙ ap (λ t. past_one (cond (c == quote) (taken 0 (Ok [])) (cond (c == code_of "\\")
-    (followed xs e.bytes e.gives (λ text left. prepended text (g left))) (prepended (c ∷ []) t))))
-    (h xs (omega arith))
+    rw (then_same e.bytes e.gives xs f g (h _ less), h xs (omega arith)) refl
 
 -- the meaning doesn't depend on the fuel, if that is at least the number of bytes
 quoted_fuel : (quote r s : ℕ) (xs : List ℕ) → length xs ≤ r → length xs ≤ s
@@ -97,166 +63,123 @@ quoted_opens quote c xs =
 
 -- ---- a run of plain bytes
 
+-- the rest of a string, after what stands for `text`
+abbrev pub rest_of : (quote : ℕ) (text : List ℕ) → List ℕ → Taken (List ℕ)
+rest_of quote text xs = prepended text (quoted quote xs)
+
+-- the rest of a string, which begins with its closing quote or an escape
+abbrev pub rest_from_stop : (quote : ℕ) (text : List ℕ) → List ℕ → Taken (List ℕ)
+rest_from_stop quote text = after_byte (λ c rest. cond (c == quote) (taken 0 (Ok text))
+    (in_sequence escape (λ part. rest_of quote (text ++ part)) rest))
+
+with_with : (a b : List ℕ) (t : Taken (List ℕ)) → prepended a (prepended b t) ≡ prepended (a ++ b) t
+with_with a b t = search (rules, append_assoc)
+
+escaped : (quote n : ℕ) (r : Result (List ℕ) FaultKind) (text xs : List ℕ)
+    → prepended text (followed xs n r (λ part left. prepended part (quoted quote left)))
+    ≡ followed xs n r (λ part left. rest_of quote (text ++ part) left)
+escaped quote n (Ok part) text xs = ap (past n) (with_with text part (quoted quote (drop n xs)))
+escaped quote n (Err fault) text xs = refl
+
 neither : (a b : Bool) → (a || b) ≡ false → (a ≡ false) × (b ≡ false)
 neither false false e = (refl, refl)
 neither false true e = cc
 neither true b e = cc
 
-plain_opens : (quote c : ℕ) (xs : List ℕ) → ends_run quote c ≡ false
-    → quoted quote (c ∷ xs) ≡ past_one (prepended (c ∷ []) (quoted quote xs))
-plain_opens quote c xs e =
-    let h = neither (c == quote) (c == code_of "\\") e in
-    quoted_opens quote c xs ∙ rw (h.0, h.1) refl
+at_end : (quote : ℕ) (text : List ℕ)
+    → rest_of quote text [] ≡ past 0 (rest_from_stop quote (text ++ []) [])
+unfolding quoted_in
+at_end quote text = refl
+
+at_stop : (quote c : ℕ) (cs : List ℕ) → ends_run quote c ≡ true → (text : List ℕ)
+    → rest_of quote text (c ∷ cs) ≡ past 0 (rest_from_stop quote (text ++ []) (c ∷ cs))
+at_stop quote c cs e text = by (c == quote) refl
+  where
+    by : (b : Bool) → (c == quote) ≡ b
+        → rest_of quote text (c ∷ cs) ≡ past 0 (rest_from_stop quote (text ++ []) (c ∷ cs))
+    by true is = rw (quoted_opens quote c cs, is) refl
+    by false is =
+        let slash : (c == code_of "\\") ≡ true = rw is at e in
+        rw (append-nil text, quoted_opens quote c cs, is, slash)
+        (ap past_one (escaped quote _ _ text cs) ∙ past_none _)
 
 -- the bytes of a run stand for themselves
-quoted_runs : (quote : ℕ) (xs : List ℕ) → let m = run (ends_run quote) xs in
-    quoted quote xs ≡ piece m (take m xs) (quoted quote (drop m xs))
-quoted_runs quote [] = piece_none (quoted quote [])
-quoted_runs quote (c ∷ xs) = by_test (ends_run quote c) refl (quoted_runs quote xs)
+quoted_runs : (quote : ℕ) (text xs : List ℕ) → let m = run (ends_run quote) xs in
+    rest_of quote text xs ≡ past m (rest_from_stop quote (text ++ take m xs) (drop m xs))
+quoted_runs quote text xs = run_elim (ends_run quote) (λ xs m. (text : List ℕ)
+    → rest_of quote text xs ≡ past m (rest_from_stop quote (text ++ take m xs) (drop m xs)))
+    (at_end quote) (at_stop quote) (λ c cs e h text.
+    let plain = neither (c == quote) (c == code_of "\\") e in
+    rw (quoted_opens quote c cs, plain.0, plain.1)
+    (ap past_one (with_with text (c ∷ []) (quoted quote cs) ∙ rw append_assoc at (h (text ++ c ∷ [])))
+    ∙ past_more _ _)) xs text
+
+-- a string without escapes
+pub quoted_plain : (quote : ℕ) (xs zs : List ℕ) → let m = run (ends_run quote) xs in
+    drop m xs ≡ quote ∷ zs → quoted quote xs ≡ taken (m + 1) (Ok (take m xs))
+quoted_plain quote xs zs e =
+    without_front (quoted quote xs) ∙ quoted_runs quote [] xs ∙ rw (e, eq-eqb quote quote refl) refl
   where
-    n : ℕ
-    n = run (ends_run quote) xs
+    without_front : (t : Taken (List ℕ)) → t ≡ prepended [] t
+    without_front t = search rules
 
-    Runs : ℕ → Type 0
-    Runs m = quoted quote (c ∷ xs) ≡ piece m (take m (c ∷ xs)) (quoted quote (drop m (c ∷ xs)))
+-- ---- the parts of a string
 
-    by_test : (b : Bool) → ends_run quote c ≡ b
-        → quoted quote xs ≡ piece n (take n xs) (quoted quote (drop n xs))
-        → Runs (run (ends_run quote) (c ∷ xs))
-    by_test true e h =
-        let none : run (ends_run quote) (c ∷ xs) ≡ 0 = rw e refl in
-        subst Runs (sym none) (piece_none (quoted quote (c ∷ xs)))
-    by_test false e h =
-        let more : run (ends_run quote) (c ∷ xs) ≡ suc n = rw e (omega arith) in
-        let rest = quoted quote (drop n xs) in
-        let one : 0 + n ≡ n = omega arith in
-        subst Runs (sym more) (plain_opens quote c xs e
-        ∙ ap (λ t. past_one (prepended (c ∷ []) t)) h
-        ∙ ap (λ (g : Result (List ℕ) FaultKind). past_one (taken (n + rest.bytes) g))
-        (with_with (c ∷ []) (take n xs) rest.gives) ∙ one_more n (c ∷ take n xs) rest)
+module _ {R : Type 0} {known : R → Option (List ℕ)} (quote : ℕ) (text : List ℕ)
+    {old mid new : Input R} where
+  module _ {X : Type 0} {view : X → List ℕ} {answer : Result X TokenFault} {longer : List ℕ} where
+    -- a run was taken, and then the rest of the string
+    pub run_quoted : AddsRun known (stop.Quoted quote) old text mid longer → old.taken ≤ mid.taken
+        → GivesBy known view (rest_from_stop quote longer) mid answer new
+        → GivesBy known view (rest_of quote text) old answer new
+    run_quoted took le a = gives_after a le (λ xs e.
+        let k = took.bytes xs e in (_, k.1, k.2, rw k.0 (quoted_runs quote text xs)))
 
--- after a run, a stop is next
-pub run_dropped : (stop : ℕ → Bool) (xs : List ℕ) → run stop (drop (run stop xs) xs) ≡ 0
-run_dropped stop [] = refl
-run_dropped stop (c ∷ xs) = by_test (stop c) refl (run_dropped stop xs)
-  where
-    n : ℕ
-    n = run stop xs
+    -- a backslash and an escape were taken, and then the rest of the string
+    pub escape_quoted : {c : ℕ} {piece : Escaped} {left : Input R} → TakesNext known old (Some c) left
+        → TakesOneMore old left → c ≢ quote → GivesBy known escaped_bytes escape left (Ok piece) mid
+        → longer ≡ text ++ escaped_bytes piece
+        → GivesBy known view (rest_of quote longer) mid answer new
+        → GivesBy known view (rest_from_stop quote text) old answer new
+    escape_quoted next one other a is b = gives_after b (omega (arith, one.0, a.rises)) (λ xs e.
+        let k = next xs e in
+        let r = a.gives k.0 k.2 in (
+          suc (escape (drop 1 xs)).bytes,
+          rw k.1 r.1,
+          rw k.1 (omega (arith, r.2, one.0)),
+          rw (k.1, ne_eqb _ _ other, r.0, is) (past_more _ _),
+        ))
 
-    by_test : (b : Bool) → stop c ≡ b → run stop (drop n xs) ≡ 0
-        → run stop (drop (run stop (c ∷ xs)) (c ∷ xs)) ≡ 0
-    by_test true e h =
-        let none : run stop (c ∷ xs) ≡ 0 = rw e refl in
-        subst (λ m. run stop (drop m (c ∷ xs)) ≡ 0) (sym none) none
-    by_test false e h =
-        let more : run stop (c ∷ xs) ≡ suc n = rw e (omega arith) in
-        subst (λ m. run stop (drop m (c ∷ xs)) ≡ 0) (sym more) h
+  -- the escape has a fault
+  pub escape_fails : {X : Type 0} {view : X → List ℕ} {c : ℕ} {f : TokenFault}
+      → TakesNext known old (Some c) mid → TakesOneMore old mid → c ≢ quote
+      → GivesBy known escaped_bytes escape mid (Err f) new
+      → GivesBy known view (rest_from_stop quote text) old (Err f) new
+  escape_fails {f} next one other a = record {
+    rises = omega (arith, one.0, a.rises);
+    gives = some_err (kind_in_bytes f) _ _ (λ kind h xs e.
+        let k = next xs e in
+        let r = h k.0 k.2 in
+        rw (k.1, ne_eqb _ _ other, r.0) (refl, r.1, omega (arith, r.2, one.0))) a.gives;
+  }
 
--- a run and what follows it
-pub part_after : (quote n : ℕ) (closed : Bool) (xs part : List ℕ) → let m = run (ends_run quote) xs in
-    QuotesPart quote closed part (drop m xs) n
-    → QuotesPart quote closed (take m xs ++ part) xs (m + n)
-part_after quote n true xs part h =
-    quoted_runs quote xs ∙ ap (piece (run (ends_run quote) xs) (take (run (ends_run quote) xs) xs)) h
-part_after quote n false xs part h =
-    let m = run (ends_run quote) xs in
-    quoted_runs quote xs ∙ ap (piece m (take m xs)) h
-    ∙ continues_twice m n (take m xs) part (quoted quote (drop n (drop m xs)))
-    ∙ ap (λ zs. piece (m + n) (take m xs ++ part) (quoted quote zs)) (drop-drop n m xs)
-
-pub part_fails : (quote n : ℕ) (xs : List ℕ) (k : FaultKind) → let m = run (ends_run quote) xs in
-    quoted quote (drop m xs) ≡ taken n (Err k) → quoted quote xs ≡ taken (m + n) (Err k)
-part_fails quote n xs k h =
-    let m = run (ends_run quote) xs in
-    quoted_runs quote xs ∙ ap (piece m (take m xs)) h
-
--- ---- what follows a run
-
-stops_here : (stop : ℕ → Bool) (c : ℕ) (xs : List ℕ) → run stop (c ∷ xs) ≡ 0 → stop c ≡ true
-stops_here stop c xs h = by_test (stop c) refl
-  where
-    by_test : (b : Bool) → stop c ≡ b → stop c ≡ true
-    by_test true e = e
-    by_test false e =
-        let more : run stop (c ∷ xs) ≡ suc (run stop xs) = rw e (omega arith) in
-        absurd (let none : ⊥ = omega arith in none)
-
--- what follows a run, and then the rest of the string
-abbrev pub after_end : (quote : ℕ) (xs : List ℕ) → Taken (Option (List ℕ)) → Taken (List ℕ)
-after_end quote xs t = followed xs t.bytes t.gives (λ end left.
-    option_map_or (λ text. prepended text (quoted quote left)) end (taken 0 (Ok [])))
-
-escaped : (quote : ℕ) (xs ys : List ℕ) (n : ℕ) (g : Result (List ℕ) FaultKind) → drop (suc n) xs ≡ drop n ys
-    → past_one (followed ys n g (λ text left. prepended text (quoted quote left)))
-    ≡ after_end quote xs (past_one (followed ys n g (λ text _. taken 0 (Ok (Some text)))))
-escaped quote xs ys n (Ok text) e =
-    let t = quoted quote (drop n ys) in
-    let sum : suc (n + t.bytes) ≡ suc (n + 0) + t.bytes = omega arith in
-    let none : suc n ≡ suc (n + 0) = omega arith in
-    ap (λ k. taken k (with_front text t.gives)) sum
-    ∙ ap (λ zs. past (suc (n + 0)) (prepended text (quoted quote zs))) (sym e ∙ ap (λ k. drop k xs) none)
-escaped quote xs ys n (Err k) e = refl
-
--- if a stop is next, the string is what follows a run, and then its rest
-pub end_opens : (quote : ℕ) (xs : List ℕ) → run (ends_run quote) xs ≡ 0
-    → quoted quote xs ≡ after_end quote xs (run_end quote xs)
-unfolding quoted_in
-end_opens quote [] r = refl
-end_opens quote (c ∷ ys) r = by_test (c == quote) refl
-  where
-    by_test : (b : Bool) → (c == quote) ≡ b
-        → quoted quote (c ∷ ys) ≡ after_end quote (c ∷ ys) (run_end quote (c ∷ ys))
-    by_test true e = quoted_opens quote c ys ∙ rw e refl
-    by_test false e =
-        let slash : (c == code_of "\\") ≡ true = rw e at (stops_here (ends_run quote) c ys r) in
-        quoted_opens quote c ys
-        ∙ rw (e, slash) (escaped quote (c ∷ ys) ys (escape ys).bytes (escape ys).gives refl)
-
--- the string ends where its closing quote does
-pub end_closes : (quote : ℕ) (xs : List ℕ) → run (ends_run quote) xs ≡ 0
-    → (run_end quote xs).gives ≡ Ok None → QuotesPart quote true [] xs (run_end quote xs).bytes
-end_closes quote xs r g =
-    let n = (run_end quote xs).bytes in
-    let none : n + 0 ≡ n = omega arith in
-    end_opens quote xs r ∙ rw g (ap (λ k. taken k (Ok [])) none)
-
--- the string continues after an escape
-pub end_goes_on : (quote : ℕ) (xs part : List ℕ) → run (ends_run quote) xs ≡ 0
-    → (run_end quote xs).gives ≡ Ok (Some part)
-    → QuotesPart quote false part xs (run_end quote xs).bytes
-end_goes_on quote xs part r g = end_opens quote xs r ∙ rw g refl
-
-pub end_fails : (quote : ℕ) (xs : List ℕ) (k : FaultKind) → run (ends_run quote) xs ≡ 0
-    → (run_end quote xs).gives ≡ Err k
-    → quoted quote xs ≡ taken (run_end quote xs).bytes (Err k)
-end_fails quote xs k r g = end_opens quote xs r ∙ rw g refl
+-- the input ends before the closing quote
+pub quote_misses : {R : Type 0} {known : R → Option (List ℕ)} {X : Type 0} {view : X → List ℕ}
+    (quote : ℕ) (text : List ℕ) {old new : Input R} (f : TokenFault)
+    → IfSome (kind_in_bytes f) (λ kind. (kind ≡ UnclosedString) × TakesNext known old None new)
+    → new.taken ≡ old.taken → GivesBy known view (rest_from_stop quote text) old (Err f) new
+quote_misses quote text f h same = record {
+  rises = omega (arith, same);
+  gives = some_fault (kind_in_bytes f) _ _ (λ kind h xs e.
+      let k = h.1 xs e in rw k.1 (ap Err (sym h.0), k.0 ∙ ap Some k.1, omega (arith, same))) h;
+}
 
 -- the closing quote ends a string
-pub quote_closes : (quote : ℕ) (xs ys : List ℕ) → xs ≡ quote ∷ ys → QuotesPart quote true [] xs 1
-quote_closes quote xs ys s = rw s (quoted_opens quote quote ys ∙ rw (eq-eqb quote quote refl) refl)
-
--- ---- the whole string
-
--- `k` bytes of a quoted string were taken, which stand for `text`, and the others follow
-abbrev pub Quoting : (quote : ℕ) (text xs : List ℕ) → ℕ → List ℕ → ℕ → Type 0
-Quoting quote text = Continues (quoted quote) (λ k ys. piece k text (quoted quote ys))
-
-module _ (quote : ℕ) (text : List ℕ) {xs : List ℕ} {p : ℕ} {ys : List ℕ} {q : ℕ}
-    (h : Quoting quote text xs p ys q) (n : ℕ) {r : ℕ} (s : r ≡ q + n) where
-  pub quoting_more : (part : List ℕ) {longer : List ℕ} → QuotesPart quote false part ys n
-      → longer ≡ text ++ part → Quoting quote longer xs p (drop n ys) r
-  quoting_more part w e = continues_more h n r s
-      (ap (piece h.k text) w
-      ∙ continues_twice h.k n text part (quoted quote (drop n ys)) ∙ rw e refl)
-
-  pub quoting_ends : {g all : Result (List ℕ) FaultKind} {new : Option (List ℕ)}
-      → quoted quote ys ≡ taken n g → with_front text g ≡ all → new ≡ Some (drop n ys)
-      → TakesFront (quoted quote xs) all new p r xs
-  quoting_ends w e = continues_ends h n r s (ap (piece h.k text) w ∙ ap (taken (h.k + n)) e)
-
-pub text_closes : (text old more : List ℕ) → text ≡ old ++ more → text ≡ old ++ (more ++ [])
-text_closes text old more e = cc (append-nil _)
-
-pub text_goes_on : (text mid old more piece : List ℕ) → mid ≡ old ++ more → text ≡ mid ++ piece
-    → text ≡ old ++ (more ++ piece)
-text_goes_on text mid old more piece e h = cc (append_assoc old more piece)
+pub quote_closes : {R : Type 0} {known : R → Option (List ℕ)} (quote c : ℕ) (text : Vec ℕ Global)
+    {old new : Input R} → TakesNext known old (Some c) new → TakesOneMore old new → c ≡ quote
+    → GivesBy known vec_items (rest_from_stop quote text.items) old (Ok text) new
+quote_closes quote c text next one is = record {
+  rises = omega (arith, one.0);
+  gives = λ xs e.
+      let k = next xs e in rw (k.1, eq-eqb _ _ is) (refl, k.2, one.0);
+}

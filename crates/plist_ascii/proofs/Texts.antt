@@ -1,7 +1,9 @@
 -- The meaning of strings, which tokens are strings, and what a slash begins.
-use Rattle.std.proofs.Common.{◌≡◌, ℕ, ◌+◌, ◌≤◌, List, true, false, Option, Some, Ok, Err, refl, ◌<◌, None, ap, sym, subst, ◌∙◌, arith, zero, suc, Bool, cond, [], ◌∷◌, ◌++◌, take, drop, Result, ◌≢◌}
+use Rattle.std.proofs.Common.{◌≡◌, ℕ, ◌≤◌, List, true, false, Option, Some, Ok, Err, refl, ◌<◌, None, ap, sym, arith, zero, suc, Bool, cond, [], ◌∷◌, ◌++◌, take, drop, Result, ◌≢◌}
 use Rattle.plist_base.specs.declared.event.Event.{Event}
-use Rattle.plist_ascii.specs.inner.Inputs.{Means, said}
+use Rattle.plist_ascii.specs.inner.Inputs.{GivesBy, Means, TakesRun, said}
+use Rattle.plist_ascii.specs.declared.input.Input.{Input}
+use Rattle.plist_ascii.specs.declared.stop.Stop.{Stop}
 use Rattle.std.specs.Str.{is_utf8}
 use Rattle.plist_ascii.specs.declared.fault.TokenFault.{TokenFault}
 use Rattle.plist_ascii.specs.declared.fault.TokenFault.TheVariants as fault
@@ -10,18 +12,15 @@ use Rattle.plist_base.specs.Events.{PlainEvent, ScalarEvent, event_of}
 use Rattle.plist_base.specs.Trees.{Integer, Scalar, String}
 use Rattle.std.specs.Option.{option_map_or}
 use Rattle.std.specs.Result.{result_flatten, result_map_both}
-use Rattle.std.specs.Prelude.{ℤ, SomeIff, ⊤, ◌==◌, encode_utf8, slice_get}
-use Rattle.plist_ascii.specs.Texts.{Token, utf8_or_fault, bare, bare_event, quoted_event, prepended, quoted_in, quoted, quoted_token, slash}
-use Rattle.plist_ascii.specs.Ascii.{IsTextEvent, IsTextFault, IsTextToken, lead_of, token_by}
+use Rattle.std.specs.Prelude.{ℤ, SomeIff, ⊤, ◌==◌, encode_utf8}
+use Rattle.plist_ascii.specs.Texts.{utf8_or_fault, bare, bare_event, quoted_event, prepended, quoted_in, quoted, quoted_token, slash}
+use Rattle.plist_ascii.specs.Ascii.{IsTextEvent, IsTextFault, IsTextToken}
 use lib.Utf8.{low_scalar}
 use Rattle.std.specs.Char.{IsScalar, is_digit}
 use Rattle.plist_ascii.specs.TokenPrefixes.{code_of, Taken, taken, past_one, followed, needs, run}
 use Rattle.plist_ascii.specs.Escapes.{is_surrogate, escape, simple_escape, octal_text, code_unit, unit_of, low_half, unicode_escape, pair_text}
-use Rattle.plist_ascii.specs.declared.token.Lead.{Lead}
-use Rattle.plist_ascii.specs.Unread.{IfKnown}
+use Rattle.plist_ascii.specs.Unread.{stops}
 use Rattle.std.proofs.lemmas.Bool.{ne_eqb}
-use Rattle.plist_ascii.proofs.TokenOutcomes.{GivesFront}
-use Rattle.plist_ascii.proofs.UnreadBytes.{first_splits}
 
 pub text_gives : (xs : List ℕ) (e : Scalar) (f : PlainEvent) → is_utf8 xs ≡ true → f ≡ ScalarEvent e
     → IsTextEvent (ScalarEvent e) → (utf8_or_fault xs e ≡ Ok (Some f)) × IsTextEvent f
@@ -151,54 +150,31 @@ pub quoted_wants : (quote : ℕ) (xs : List ℕ) → IsTextToken (quoted_token q
 quoted_wants quote xs = outcome_wants (quoted quote xs).gives (quoted_in_text _ _ xs)
 
 -- a slash begins a bare string, unless the next byte is a slash or a star
-pub bare_looked : (stops : ℕ → Bool) (old mid : Option (List ℕ)) (c : ℕ)
-    → IfKnown old (λ xs. (mid ≡ Some xs) × (Some c ≡ slice_get xs 0))
-    → c ≢ code_of "/" → c ≢ code_of "*"
-    → IfKnown old (λ xs. (mid ≡ Some xs) × (slash stops xs ≡ bare stops (code_of "/") xs))
-bare_looked stops old mid c looked a b =
-    λ xs e. let h = looked xs e in
-    (h.0, rw (first_splits _ xs h.1, ne_eqb _ _ a, ne_eqb _ _ b) refl)
+pub slash_bare : (stops : ℕ → Bool) (c : ℕ) → c ≢ code_of "/" → c ≢ code_of "*" → (xs : List ℕ)
+    → slash stops (c ∷ xs) ≡ bare stops (code_of "/") (c ∷ xs)
+slash_bare stops c a b xs = rw (ne_eqb _ _ a, ne_eqb _ _ b) refl
 
-pub slash_wants : (stops : ℕ → Bool) (xs : List ℕ) → slash stops xs ≡ bare stops (code_of "/") xs
-    → IsTextToken (slash stops xs).gives
-slash_wants stops xs e = rw e (bare_wants _ (code_of "/") xs)
+pub ruleset text_tokens = (bare_wants, quoted_wants)
 
 -- ---- how the parts of a string determine its meaning
 
+-- the result is the meaning of the string
+means_said : (r : Result Event TokenFault) {outcome : Result (Option PlainEvent) FaultKind} → Means r outcome
+    → said (λ e. Some (event_of e)) r ≡ Some outcome
+means_said (Ok event) m = ap Some (sym m.0)
+means_said (Err f) m = rw m.0 (ap Some (sym m.1))
+
 -- the token of a bare string is the event or the fault of its bytes
-pub bare_becomes : (stops : ℕ → Bool) (c : ℕ) (old : Option (List ℕ)) (p : ℕ)
-    (new : Option (List ℕ)) (q : ℕ) (none text : List ℕ) (r : Result Event TokenFault) → p ≤ q
-    → none ≡ [] → IfKnown old (λ xs. (text ≡ (none ++ c ∷ []) ++ take (run stops xs) xs)
-    × (new ≡ Some (drop (run stops xs) xs)) × (q ≡ p + run stops xs)) → Means r (bare_event text)
-    → GivesFront (bare stops c) old p new q (said (λ e. Some (event_of e)) r)
-bare_becomes stops c old p new q none text (Ok event) le e k m = (
-  le,
-  λ xs known.
-      let h = k xs known in
-      let same : text ≡ c ∷ take (run stops xs) xs = rw e at h.0 in
-      (ap bare_event (sym same) ∙ m.0, h.1, h.2),
-)
-bare_becomes stops c old p new q none text (Err f) le e k m =
-    rw m.0 (
-      le,
-      λ xs known.
-          let h = k xs known in
-          let same : text ≡ c ∷ take (run stops xs) xs = rw e at h.0 in
-          (ap bare_event (sym same) ∙ m.1, h.1, h.2),
-    )
-
--- ---- the token that a byte begins
-
-pub led_by : (stops : ℕ → Bool) (byte : ℕ) (lead is : Lead) → lead ≡ lead_of byte → lead ≡ is
-    → (xs : List ℕ) → token_by stops (lead_of byte) byte xs ≡ token_by stops is byte xs
-led_by stops byte lead is e f xs = ap (λ l. token_by stops l byte xs) (sym e ∙ f)
-
--- if the token for this kind of first byte is a string, so is the token that the byte begins
-pub wants_led : (stops : ℕ → Bool) (byte : ℕ) (lead is : Lead) → lead ≡ lead_of byte → lead ≡ is
-    → (xs : List ℕ) → IsTextToken (token_by stops is byte xs).gives
-    → IsTextToken (token_by stops (lead_of byte) byte xs).gives
-wants_led stops byte lead is e f xs h =
-    subst (λ (t : Token). IsTextToken t.gives) (sym (led_by stops byte lead is e f xs)) h
+pub bare_becomes : {R : Type 0} {known : R → Option (List ℕ)} {stop : Stop} (c : ℕ)
+    {none text : List ℕ} {old new : Input R} {r : Result Event TokenFault}
+    → TakesRun known stop (λ run. text ≡ (none ++ c ∷ []) ++ run) old new → none ≡ []
+    → old.taken ≤ new.taken → Means r (bare_event text)
+    → GivesBy known (λ e. Some (event_of e)) (bare (stops stop) c) old r new
+bare_becomes c {r} t e le m = record {
+  rises = le;
+  gives = rw (means_said r m)
+      (λ xs known. let h = t.bytes xs known in (ap bare_event (sym (rw e at h.0)), h.1, h.2));
+}
 
 -- ---- events of strings
 

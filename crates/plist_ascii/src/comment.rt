@@ -1,10 +1,8 @@
 //! Takes comments.
 
-ghost use Rattle.std.specs.Prelude.{◌≡◌, ◌+◌, ◌^◌, ◌<◌, ◌≤◌, drop, None, Some, IfErr, IfOk, OnOk};
-ghost use Rattle.plist_ascii.specs.TokenPrefixes.{run};
-ghost use Rattle.plist_ascii.specs.Unread.{IfKnown, stops, unread};
+ghost use Rattle.std.specs.Prelude.{◌≡◌, ◌^◌, ◌<◌, ◌≤◌, None, IfErr, IfOk, OnOk, ⊤};
 ghost use Rattle.plist_ascii.specs.Texts.{line_comment, block_comment};
-ghost use Rattle.plist_ascii.specs.inner.Inputs.{CountsFailed, GivesBy, IfCame, TakesPast};
+ghost use Rattle.plist_ascii.specs.inner.Inputs.{CountsFailed, GivesBy, IfCame, TakesPast, TakesRun};
 
 use crate::byte_reader::ByteReader;
 use crate::fault::TokenFault;
@@ -16,9 +14,7 @@ impl<R: ByteReader> Input<R> {
     #[inline(always)]
     pub fn skip_run(&mut self, stop: Stop) -> Result<(), TokenFault>
         // Result.
-        ensures value { OnOk result (IfKnown (unread R.remaining self.old) (λ xs.
-            (unread R.remaining self.new ≡ Some (drop (run (stops stop) xs) xs))
-            × (self.new.taken ≡ self.old.taken + run (stops stop) xs))) }
+        ensures value { OnOk result (TakesRun R.remaining stop (λ _. ⊤) self.old self.new) }
         // Errors.
         ensures fault { IfErr result (λ f. f ≡ TokenFault.Io) }
         // State afterwards.

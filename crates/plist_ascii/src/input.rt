@@ -61,16 +61,14 @@ impl<R: ByteReader> Input<R> {
     /// there is one, and otherwise the buffered bytes. The slice is empty if the input has ended or
     /// if 2^64 - 1 bytes were taken.
     #[inline(always)]
+    #[tactic(auto, unfolding(crate::specs::Unread::unread_of, crate::specs::inner::Inputs::hand_of))]
     pub fn at_hand(&self) -> &[u8]
         ensures hand { result.now ≡ hand R.window self.now }
         ensures next { IfKnown (unread R.remaining self.now) (λ xs. (rest : List ℕ)
             × (xs ≡ hand R.window self.now ++ rest)) }
     {
-        if self.ended {
-            return &[];
-        }
         let most = u64::MAX - self.taken;
-        if most == 0 {
+        if self.ended || most == 0 {
             return &[];
         }
         match self.peeked {
@@ -87,6 +85,7 @@ impl<R: ByteReader> Input<R> {
 
     /// Takes the first `count` of the bytes that `at_hand` returns.
     #[inline(always)]
+    #[tactic(auto, unfolding(crate::specs::Unread::unread_of, crate::specs::inner::Inputs::hand_of))]
     pub fn take_first(&mut self, count: usize)
         requires within { count ≤ length (hand R.window self.old) }
         // Result.
@@ -111,14 +110,12 @@ impl<R: ByteReader> Input<R> {
     // Reads one byte without taking it. This function is called only if no byte can be taken
     // without a read. It returns `None` if the input has ended, or if 2^64 - 1 bytes were taken.
     #[inline(never)]
+    #[tactic(auto, unfolding(crate::specs::Unread::unread_of, crate::specs::inner::Inputs::hand_of))]
     fn read_ahead(&mut self) -> Result<Option<u8>, TokenFault>
         requires { hand R.window self.old ≡ [] }
         ensures { LooksAhead R.remaining R.window R.failures self.old result self.new }
     {
-        if self.ended {
-            return Ok(None);
-        }
-        if self.taken == u64::MAX {
+        if self.ended || self.taken == u64::MAX {
             return Ok(None);
         }
         match self.inner.next_byte() {

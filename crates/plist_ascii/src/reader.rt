@@ -69,7 +69,6 @@ impl<R: ByteReader> AsciiReader<R> {
     /// Creates a reader of the given dialect. Reading begins when the first item is requested.
     ///
     /// In the tight dialect `{a=b}` yields the start of a dictionary, `a`, `b` and an end.
-    #[tactic(auto, using(crate::proofs::UnreadBytes::new_unread))]
     pub fn with_dialect(alloc: Global, inner: R, dialect: Dialect) -> Self
         // Result.
         ensures bytes { untaken_bytes R.remaining result ≡ readable (R.remaining inner) }
@@ -92,7 +91,7 @@ impl<R: ByteReader> AsciiReader<R> {
     ///
     /// If such a byte was read, it is lost. After a bracket or a quoted string, no such byte has
     /// been read.
-    #[tactic(auto, using(crate::proofs::UnreadBytes::going_unread))]
+    #[tactic(auto, unfolding(crate::specs::Unread::unread_of))]
     pub fn into_inner(self) -> R
         ensures bytes { ¬ (HasEndedAscii self) → untaken_bytes R.remaining self
             ≡ option_map (readable_with (peeked_byte self) (place_of self)) (R.remaining result) }
@@ -139,22 +138,6 @@ impl<R: ByteReader + Drop> AsciiReader<R> {
     ghost use Rattle.plist_base.specs.Visits.{TakesTurn, YieldsPlain};
     ghost use Rattle.plist_ascii.specs.AsciiReader.{GivesAscii, ascii_steps};
 
-    // Hands the next event to a visitor, after it was read by `next`.
-    fn hand_over_read<V: EventVisitor>(
-        &mut self,
-        visitor: &mut V,
-    ) -> Option<Result<ControlFlow<()>, Error>>
-        ensures turn { TakesTurn (YieldsPlain (GivesAscii R.remaining R.failures)) V.step
-            (self.old, visitor.old) result (self.new, visitor.new) }
-        ensures falls { IfSome result (λ _. ascii_steps self.new < ascii_steps self.old) }
-    {
-        match self.next() {
-            None => None,
-            Some(Ok(event)) => Some(Ok(visitor.event(event))),
-            Some(Err(error)) => Some(Err(error)),
-        }
-    }
-
     /// Hands the next event to a visitor, and returns what the visitor returns, or `None` if no
     /// event remains. A quoted string without escapes, or a bare string that spells no integer and
     /// doesn't begin with a slash, is borrowed from the buffer of the inner reader if that has all
@@ -173,7 +156,11 @@ impl<R: ByteReader + Drop> AsciiReader<R> {
         ensures falls { IfSome result (λ _. ascii_steps self.new < ascii_steps self.old) }
     {
         let Some(borrowed) = self.input.borrowed_text(Stop::Bare(self.dialect)) else {
-            return self.hand_over_read(visitor);
+            return match self.next() {
+                None => None,
+                Some(Ok(event)) => Some(Ok(visitor.event(event))),
+                Some(Err(error)) => Some(Err(error)),
+            };
         };
         let flow = visitor.string(CowStr::Borrowed(borrowed.text));
         let count = borrowed.count;

@@ -16,17 +16,8 @@ use crate::fault::TokenFault;
 use crate::input::Input;
 use crate::stop::Stop;
 use plist_base::{Event, Integer, OwnedEvent};
-use std::alloc::{AllocError, Global};
+use std::alloc::Global;
 use std::borrow::CowStr;
-
-/// Appends a byte.
-#[inline(always)]
-pub fn push_byte(text: &mut Vec<u8>, byte: u8) -> Result<(), AllocError>
-    ensures value { OnOk result (text.new.items ≡ text.old.items ++ byte ∷ []) }
-{
-    text.push(byte)?;
-    Ok(())
-}
 
 // Returns the string of these bytes, or `InvalidUtf8` if they aren't UTF-8.
 fn text_of(bytes: Vec<u8>) -> Result<String, TokenFault>
@@ -41,18 +32,11 @@ fn text_of(bytes: Vec<u8>) -> Result<String, TokenFault>
     }
 }
 
-// Returns whether this byte is a decimal digit.
-fn is_decimal(byte: u8) -> bool
-    ensures { result ≡ is_digit byte 10 }
-{
-    matches!(byte, b'0'..=b'9')
-}
-
 // Returns whether this byte is a sign or a decimal digit.
 fn begins_number(byte: u8) -> bool
     ensures { result ≡ is_one_of "+-" byte || is_digit byte 10 }
 {
-    byte == b'+' || byte == b'-' || is_decimal(byte)
+    matches!(byte, b'+' | b'-' | b'0'..=b'9')
 }
 
 // Returns `false` only if these bytes don't spell an integer. The first byte decides this for most
@@ -117,7 +101,7 @@ impl<R: ByteReader> Input<R> {
     pub fn take_run(&mut self, stop: Stop, text: &mut Vec<u8>) -> Result<(), TokenFault>
         // Result.
         ensures value { OnOk result (AddsRun R.remaining stop self.old text.old.items self.new
-            text.new) }
+            text.new.items) }
         // Errors.
         ensures fault { IfErr result (λ f. kind_in_bytes f ≡ None) }
         // State afterwards.
@@ -141,7 +125,7 @@ impl<R: ByteReader> Input<R> {
     fn take_bare(&mut self, stop: Stop, first: u8, text: &mut Vec<u8>) -> Result<(), TokenFault>
         // Result.
         ensures value { OnOk result (AddsRun R.remaining stop self.old
-            (text.old.items ++ first ∷ []) self.new text.new) }
+            (text.old.items ++ first ∷ []) self.new text.new.items) }
         // Errors.
         ensures fault { IfErr result (λ f. kind_in_bytes f ≡ None) }
         // State afterwards.

@@ -93,6 +93,7 @@ impl<R: ByteReader> Input<R> {
 
     /// Takes the rest of the token that begins with `byte`, which has been taken, and returns its
     /// event. A separator, white space and a comment have no event, and `None` is returned.
+    #[tactic(auto, using(crate::proofs::Texts::text_tokens))]
     pub fn token_by(
         &mut self,
         alloc: Global,

@@ -152,6 +152,7 @@ fn pair_char(high: u16, low: u16) -> Option<char>
 
 impl<R: ByteReader> Input<R> {
     /// Takes the rest of an escape after its backslash, and returns what it denotes.
+    #[tactic(auto, unfolding(crate::specs::Escapes::escape))]
     pub fn escape(&mut self) -> Result<Escaped, TokenFault>
         ensures answers { GivesBy R.remaining escaped_bytes escape self.old result self.new }
         ensures failures { CountsFailed R.failures self.old result self.new }

@@ -1,9 +1,7 @@
 -- What calls of an input do to the bytes that remain, to the number of bytes taken, and to the
 -- count of failures, and which errors they return.
-use Rattle.std.specs.Prelude.{◌≡◌, ℕ, ◌+◌, ◌-◌, ◌^◌, ◌<◌, ◌≤◌, Bool, true, false, List, [], ◌∷◌, ◌++◌, length, take, drop, Option, None, Some, Result, Ok, Err, IfErr, IfOk, IfSome, IsSome, MatchOption, MatchResult, slice_get}
+use Rattle.std.specs.Prelude.{◌≡◌, ℕ, ◌+◌, ◌-◌, ◌^◌, ◌<◌, ◌≤◌, Bool, true, false, List, [], ◌∷◌, ◌++◌, length, take, drop, Option, None, Some, Result, Ok, Err, IfErr, IfOk, IfSome, IsSome, MatchOption, MatchResult}
 use Rattle.std.specs.Option.{option_map, option_map_or}
-use Rattle.std.specs.declared.alloc.Global.{Global}
-use Rattle.std.specs.declared.vec.Vec.{Vec}
 use Rattle.plist_base.specs.declared.event.Event.{Event}
 use Rattle.plist_base.specs.Events.{PlainEvent, event_of}
 use Rattle.plist_base.specs.Faults.{Fault, FaultKind, Io, OutOfMemory, UnclosedString, IncompleteComment, InvalidUtf8AsciiStream, InvalidOctalString, InvalidUtf16String, fault_at, fault_without_offset}
@@ -99,15 +97,16 @@ module _ {R : Type 0} (known : R → Option (List ℕ)) where
 
   -- the byte is the first of those that remain, or `None` if no byte remains, and it wasn't taken
   abbrev pub Looks : Input R → Option ℕ → Input R → Type 0
-  Looks old byte new =
-      IfKnown (unread known old) (λ xs. (unread known new ≡ Some xs) × (byte ≡ slice_get xs 0))
+  Looks old (Some byte) new = IfKnown (unread known old) (λ xs. (rest : List ℕ)
+      × (xs ≡ byte ∷ rest) × (drop 1 xs ≡ rest) × (unread known new ≡ Some xs))
+  Looks old None new =
+      IfKnown (unread known old) (λ xs. (unread known new ≡ Some xs) × (xs ≡ []))
 
   -- the first byte was taken, or none remains and none was taken
   abbrev pub TakesNext : Input R → Option ℕ → Input R → Type 0
   TakesNext old (Some byte) new = IfKnown (unread known old) (λ xs. (rest : List ℕ)
       × (xs ≡ byte ∷ rest) × (unread known new ≡ Some rest))
-  TakesNext old None new =
-      IfKnown (unread known old) (λ xs. (unread known new ≡ Some xs) × (xs ≡ []))
+  TakesNext old None new = Looks old None new
 
   -- this byte was taken, or the next byte isn't this one
   abbrev pub TakesIf : ℕ → Input R → (is : Bool) → Input R → Type 0
@@ -115,15 +114,19 @@ module _ {R : Type 0} (known : R → Option (List ℕ)) where
   TakesIf byte old false new = IfKnown (unread known old)
       (λ xs. (unread known new ≡ Some xs) × (begins_with byte xs ≡ false))
 
-  -- bytes without a stop, of which `P` is true, were taken; if there are no more of them, the bytes
-  -- that remain, if there are any, begin with a stop
+  -- bytes without a stop, of which `P` is true, were taken; if there are no more of them, they are
+  -- the whole run
   pub record TakesPart (stop : Stop) (P : (part : List ℕ) → Type 0) (old : Input R) (more : Bool)
       (new : Input R) : Type 0 where
-    pub bytes : IfKnown (unread known old) (λ xs. (part : List ℕ) × P part × (rest : List ℕ)
-        × (xs ≡ part ++ rest) × (run (stops stop) part ≡ length part)
-        × (unread known new ≡ Some rest) × (new.taken ≡ old.taken + length part))
-    pub end : more ≡ false → IfKnown (unread known old)
-        (λ xs. IfKnown (unread known new) (λ ys. run (stops stop) ys ≡ 0))
+    pub bytes : IfKnown (unread known old) (λ xs. (n : ℕ) × P (take n xs)
+        × (unread known new ≡ Some (drop n xs)) × (new.taken ≡ old.taken + n)
+        × (n ≤ run (stops stop) xs) × (more ≡ false → n ≡ run (stops stop) xs))
+
+  -- the whole run was taken, and `P` is true of it
+  pub record TakesRun (stop : Stop) (P : (run : List ℕ) → Type 0) (old new : Input R) : Type 0 where
+    pub bytes : IfKnown (unread known old) (λ xs. P (take (run (stops stop) xs) xs)
+        × (unread known new ≡ Some (drop (run (stops stop) xs) xs))
+        × (new.taken ≡ old.taken + run (stops stop) xs))
 
   -- the whole run was taken, and the byte after it, if there is one
   abbrev pub TakesPast : Stop → Input R → Option ℕ → Input R → Type 0
@@ -135,26 +138,17 @@ module _ {R : Type 0} (known : R → Option (List ℕ)) where
       × (new.taken ≡ old.taken + n))
 
   -- the whole run was taken, and follows the bytes `front` in the text
-  abbrev pub AddsRun : Stop → Input R → (front : List ℕ) → Input R → (text : Vec ℕ Global) → Type 0
-  AddsRun stop old front new text = IfKnown (unread known old) (λ xs.
-      (text.items ≡ front ++ take (run (stops stop) xs) xs)
-      × (unread known new ≡ Some (drop (run (stops stop) xs) xs))
-      × (new.taken ≡ old.taken + run (stops stop) xs))
-
-  -- the first n of the bytes that remained were taken, and `P` is true of the bytes that remained
-  -- and of n
-  abbrev pub TakesFirst : (P : List ℕ → ℕ → Type 0) → Input R → Input R → Type 0
-  TakesFirst P old new = IfKnown (unread known old) (λ xs. (n : ℕ) × P xs n
-      × (unread known new ≡ Some (drop n xs)) × (new.taken ≡ old.taken + n))
+  abbrev pub AddsRun : Stop → Input R → (front : List ℕ) → Input R → (text : List ℕ) → Type 0
+  AddsRun stop old front new text = TakesRun stop (λ run. text ≡ front ++ run) old new
 
   -- what is at the front was taken, and its meaning is the value of the result, mapped by `view`,
   -- or its fault is the error; if a read or an allocation failed, nothing is said about the bytes
-  abbrev pub GivesBy : {X A : Type 0} → (view : X → A) → (List ℕ → Taken A) → Input R
-      → Result X TokenFault → Input R → Type 0
-  GivesBy view front old answer new =
-      (old.taken ≤ new.taken) × IfSome (said view answer) (λ outcome. IfKnown (unread known old)
-      (λ bytes. let t = front bytes in (t.gives ≡ outcome)
-      × (unread known new ≡ Some (drop t.bytes bytes)) × (new.taken ≡ old.taken + t.bytes)))
+  pub record GivesBy {X A : Type 0} (view : X → A) (front : List ℕ → Taken A) (old : Input R)
+      (answer : Result X TokenFault) (new : Input R) : Type 0 where
+    pub rises : old.taken ≤ new.taken
+    pub gives : IfSome (said view answer) (λ outcome. IfKnown (unread known old)
+        (λ bytes. let t = front bytes in (t.gives ≡ outcome)
+        × (unread known new ≡ Some (drop t.bytes bytes)) × (new.taken ≡ old.taken + t.bytes)))
 
   -- `OutOfMemory` is returned only for a token that is a string, an integer or a string's fault
   abbrev pub AllocatesForText : (List ℕ → Token) → Input R → TokenFault → Type 0

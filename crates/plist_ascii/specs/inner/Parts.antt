@@ -1,8 +1,5 @@
--- What has been taken of a string: its characters, its escapes, and parts that end with an escape
--- or the closing quote; and strings that end among the bytes at hand.
-use Rattle.std.specs.Prelude.{◌≡◌, ℕ, ◌+◌, ◌<◌, Bool, if◌then◌else◌, not, ◌==◌, List, [], ◌∷◌, ◌++◌, length, drop, slice_get, Option, None, Some, Result, Ok, Err, MatchOption, encode_utf8}
-use Rattle.std.specs.declared.alloc.Global.{Global}
-use Rattle.std.specs.declared.vec.Vec.{Vec}
+-- What escapes denote, and strings that end among the bytes at hand.
+use Rattle.std.specs.Prelude.{◌≡◌, ℕ, ◌+◌, ◌<◌, Bool, not, List, [], ◌∷◌, ◌++◌, length, drop, slice_get, Option, Some, Result, Ok, Err, MatchOption, encode_utf8}
 use Rattle.plist_base.specs.Events.{ScalarEvent}
 use Rattle.plist_base.specs.Faults.{FaultKind}
 use Rattle.plist_base.specs.Trees.{String}
@@ -10,9 +7,8 @@ use Rattle.plist_ascii.specs.declared.token.Lead.TheVariants as lead
 use Rattle.plist_ascii.specs.declared.unescape.Escaped.{Escaped}
 use Rattle.plist_ascii.specs.declared.unescape.Escaped.TheVariants as piece
 use Rattle.plist_ascii.specs.Ascii.{is_blank, lead_of, token_by}
-use Rattle.plist_ascii.specs.TokenPrefixes.{Taken, after_byte, in_sequence, past, past_one, run, taken}
-use Rattle.plist_ascii.specs.Escapes.{escape}
-use Rattle.plist_ascii.specs.Texts.{ends_run, prepended, quoted}
+use Rattle.plist_ascii.specs.TokenPrefixes.{past_one, run, taken}
+use Rattle.plist_ascii.specs.Texts.{ends_run}
 
 -- the bytes that an escape denotes
 abbrev pub escaped_bytes : Escaped → List ℕ
@@ -23,22 +19,6 @@ escaped_bytes (piece.Char c) = encode_utf8 c
 abbrev pub IsCharOr : FaultKind → Result (List ℕ) FaultKind → Option ℕ → Type 0
 IsCharOr fault outcome char =
     MatchOption char (outcome ≡ Err fault) (λ c. outcome ≡ Ok (encode_utf8 c))
-
--- what follows a run of plain bytes: the closing quote, or an escape, and what it denotes
-abbrev pub run_end : (quote : ℕ) → List ℕ → Taken (Option (List ℕ))
-run_end quote = after_byte (λ c rest. if c == quote then taken 0 (Ok None)
-    else in_sequence escape (λ text _. taken 0 (Ok (Some text))) rest)
-
--- the first n bytes of a string stand for `part`; after them it is closed, or continues
-abbrev pub QuotesPart : (quote : ℕ) → (closed : Bool) → (part bytes : List ℕ) → (n : ℕ) → Type 0
-QuotesPart quote closed part bytes n = quoted quote bytes ≡ (if closed then taken n (Ok part)
-    else past n (prepended part (quoted quote (drop n bytes))))
-
--- the first n bytes stand for what was appended to the text
-abbrev pub Quotes : (quote : ℕ) → (closed : Bool) → (text longer : Vec ℕ Global) → List ℕ → ℕ
-    → Type 0
-Quotes quote closed text longer bytes n =
-    (part : List ℕ) × QuotesPart quote closed part bytes n × (longer.items ≡ text.items ++ part)
 
 -- ---- strings at hand
 

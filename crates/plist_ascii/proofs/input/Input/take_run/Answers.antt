@@ -1,37 +1,27 @@
-use Rattle.std.proofs.Common.{Some, ap, ◌∙◌, arith}
-use Rattle.plist_ascii.proofs.UnreadBytes.{none_stops}
-use Rattle.plist_ascii.proofs.Loops.{added, since_on, runs_part, runs_end}
+use Rattle.std.proofs.Common.{◌∙◌, arith, sym, append-nil, append_assoc}
+use Rattle.plist_ascii.proofs.Runs.{looked_part, none_ends, part_ends, runs_on}
 use Rattle.plist_ascii.proofs.input.Input.take_run.Goals as goal
 
 pub run-preserved : goal.run-preserved
 run-preserved g c =
-    let took = c.in_ok-take_part-in-Some.ensures in
-    since_on c.run.invariant (took.failures ∙ c.in_ok-_byte.ensures.failures)
-    (omega (arith, c.in_ok-_byte.ensures.place, took.place)) (λ xs ys on u.
-    let looked = c.in_ok-_byte.ensures.next ys u in
-    let k = took.part.bytes ys looked.0 in (
-      k.2,
-      k.5,
-      runs_part on k.0 k.2 k.3 k.4 (added c.run.text.items k.0 k.1)
-          (omega (arith, k.6, c.in_ok-_byte.ensures.place)),
-    ))
+    let part = looked_part c.in_ok-take_part-in-Some.ensures.part
+    (rw c.in-Some.is at c.in_ok-_byte.ensures) in
+    let front = c.run.text.items in
+    record {
+      value = λ new text rest. c.run.invariant.value new text
+          (runs_on part (λ a b p q. cc (append-nil front, append_assoc front a b)) rest);
+      place = omega arith;
+      failures = c.in_ok-take_part-in-Some.ensures.failures ∙ c.in_ok-_byte.ensures.failures
+          ∙ c.run.invariant.failures;
+    }
 
 pub returns-then-not-branch-clause-value : goal.returns-then-not-branch-clause-value
-returns-then-not-branch-clause-value g c = λ xs e.
-    let took = c.in_ok-take_part-in-Some.ensures in
-    let i = c.run.invariant.goes xs e in
-    let looked = c.in_ok-_byte.ensures.next i.0 i.1 in
-    let k = took.part.bytes i.0 looked.0 in
-    let stop = took.part.end c.if-not-branch.true i.0 looked.0 k.2 k.5 in
-    let on = runs_part i.2 k.0 k.2 k.3 k.4 (added c.run.text.items k.0 k.1)
-    (omega (arith, k.6, c.in_ok-_byte.ensures.place)) in
-    let end = runs_end on stop in
-    (end.0, k.5 ∙ ap Some end.1, end.2)
+returns-then-not-branch-clause-value g c =
+    let part = looked_part c.in_ok-take_part-in-Some.ensures.part
+    (rw c.in-Some.is at c.in_ok-_byte.ensures) in
+    c.run.invariant.value _ _ (part_ends part c.if-not-branch.true (λ a p. rw append-nil at p))
 
 pub returns-in-None-clause-value : goal.returns-in-None-clause-value
-returns-in-None-clause-value g c = λ xs e.
-    let i = c.run.invariant.goes xs e in
-    let next = rw c.in-None.is at c.in_ok-_byte.ensures.next in
-    let looked = next i.0 i.1 in
-    let end = runs_end i.2 (none_stops _ _ looked.1) in
-    (end.0, looked.0 ∙ ap Some end.1, c.in_ok-_byte.ensures.place ∙ end.2)
+returns-in-None-clause-value g c =
+    c.run.invariant.value _ _
+    (none_ends (rw c.in-None.is at c.in_ok-_byte.ensures) (sym (append-nil c.run.text.items)))
