@@ -1,7 +1,7 @@
 -- The meaning of strings, which tokens are strings, and what a slash begins.
 use Rattle.std.proofs.Common.{◌≡◌, ℕ, ◌≤◌, List, true, false, Option, Some, Ok, Err, refl, ◌<◌, None, ap, sym, arith, zero, suc, Bool, cond, [], ◌∷◌, ◌++◌, take, drop, Result, ◌≢◌}
 use Rattle.plist_base.specs.declared.event.Event.{Event}
-use Rattle.plist_ascii.specs.inner.Inputs.{GivesBy, Means, TakesRun, said}
+use Rattle.plist_ascii.specs.inner.Inputs.{AddsRun, GivesBy, Means, said}
 use Rattle.plist_ascii.specs.declared.input.Input.{Input}
 use Rattle.plist_ascii.specs.declared.stop.Stop.{Stop}
 use Rattle.std.specs.Str.{is_utf8}
@@ -166,14 +166,14 @@ means_said (Err f) m = rw m.0 (ap Some (sym m.1))
 
 -- the token of a bare string is the event or the fault of its bytes
 pub bare_becomes : {R : Type 0} {known : R → Option (List ℕ)} {stop : Stop} (c : ℕ)
-    {none text : List ℕ} {old new : Input R} {r : Result Event TokenFault}
-    → TakesRun known stop (λ run. text ≡ (none ++ c ∷ []) ++ run) old new → none ≡ []
-    → old.taken ≤ new.taken → Means r (bare_event text)
+    {none text : List ℕ} {old new : Input R} {r : Result Event TokenFault} → none ≡ []
+    → Means r (bare_event text)
+    → (old.taken ≤ new.taken) × AddsRun known stop old (none ++ c ∷ []) new text
     → GivesBy known (λ e. Some (event_of e)) (bare (stops stop) c) old r new
-bare_becomes c {r} t e le m = record {
-  rises = le;
+bare_becomes c {r} e m t = record {
+  rises = t.0;
   gives = rw (means_said r m)
-      (λ xs known. let h = t.bytes xs known in (ap bare_event (sym (rw e at h.0)), h.1, h.2));
+      (λ xs known. let h = t.1.bytes xs known in (ap bare_event (sym (rw e at h.0)), h.1, h.2));
 }
 
 -- ---- events of strings

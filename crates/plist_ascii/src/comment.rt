@@ -52,15 +52,6 @@ impl<R: ByteReader> Input<R> {
         self.take()
     }
 
-    /// Takes the rest of a line comment after its two slashes. The LF that ends it isn't taken.
-    pub fn line_comment(&mut self) -> Result<(), TokenFault>
-        ensures answers { GivesBy R.remaining (λ _. None) line_comment self.old result self.new }
-        ensures memory { IfErr result (λ f. f ≡ TokenFault.OutOfMemory → ⊥) }
-        ensures failures { CountsFailed R.failures self.old result self.new }
-    {
-        self.skip_run(Stop::LineEnd)
-    }
-
     /// Takes the rest of a block comment up to and including its `*/`. Its `/*` has been taken. No
     /// byte after the comment is looked at. If there is no `*/`, the error is `IncompleteComment`.
     pub fn block_comment(&mut self) -> Result<(), TokenFault>

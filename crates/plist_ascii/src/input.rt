@@ -1,4 +1,5 @@
 //! Takes the bytes of a reader one after another.
+#![tactic(auto, unfolding(crate::specs::Unread::unread_of, crate::specs::inner::Inputs::hand_of))]
 
 ghost use Rattle.std.specs.Prelude.{◌≡◌, ◌+◌, ◌++◌, ◌^◌, ◌<◌, ◌≤◌, ℕ, List, [], drop, length, None, Some, true, false, IfOk, IfErr, IfSome, IsSome, OnOk, ⊤};
 ghost use Rattle.plist_ascii.specs.Unread.{IfKnown, unread};
@@ -61,7 +62,6 @@ impl<R: ByteReader> Input<R> {
     /// there is one, and otherwise the buffered bytes. The slice is empty if the input has ended or
     /// if 2^64 - 1 bytes were taken.
     #[inline(always)]
-    #[tactic(auto, unfolding(crate::specs::Unread::unread_of, crate::specs::inner::Inputs::hand_of))]
     pub fn at_hand(&self) -> &[u8]
         ensures hand { result.now ≡ hand R.window self.now }
         ensures next { IfKnown (unread R.remaining self.now) (λ xs. (rest : List ℕ)
@@ -85,7 +85,6 @@ impl<R: ByteReader> Input<R> {
 
     /// Takes the first `count` of the bytes that `at_hand` returns.
     #[inline(always)]
-    #[tactic(auto, unfolding(crate::specs::Unread::unread_of, crate::specs::inner::Inputs::hand_of))]
     pub fn take_first(&mut self, count: usize)
         requires within { count ≤ length (hand R.window self.old) }
         // Result.
@@ -110,7 +109,6 @@ impl<R: ByteReader> Input<R> {
     // Reads one byte without taking it. This function is called only if no byte can be taken
     // without a read. It returns `None` if the input has ended, or if 2^64 - 1 bytes were taken.
     #[inline(never)]
-    #[tactic(auto, unfolding(crate::specs::Unread::unread_of, crate::specs::inner::Inputs::hand_of))]
     fn read_ahead(&mut self) -> Result<Option<u8>, TokenFault>
         requires { hand R.window self.old ≡ [] }
         ensures { LooksAhead R.remaining R.window R.failures self.old result self.new }
@@ -263,7 +261,6 @@ impl<R: ByteReader> Input<R> {
     }
 
     /// Ends the input, so that nothing more is read.
-    #[tactic(auto, unfolding(crate::specs::Unread::unread_of))]
     pub fn end(&mut self)
         ensures unread { unread R.remaining self.new ≡ Some [] }
         ensures ended { self.new.ended ≡ true }

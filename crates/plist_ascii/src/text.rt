@@ -120,24 +120,6 @@ impl<R: ByteReader> Input<R> {
         }
     }
 
-    // Appends `first` to `text`, and then takes and appends the bytes before the next stop.
-    #[inline(always)]
-    fn take_bare(&mut self, stop: Stop, first: u8, text: &mut Vec<u8>) -> Result<(), TokenFault>
-        // Result.
-        ensures value { OnOk result (AddsRun R.remaining stop self.old
-            (text.old.items ++ first ∷ []) self.new text.new.items) }
-        // Errors.
-        ensures fault { IfErr result (λ f. kind_in_bytes f ≡ None) }
-        // State afterwards.
-        ensures place { self.old.taken ≤ self.new.taken }
-        ensures failures { CountsFailed R.failures self.old result self.new }
-    {
-        if !self.take_part(stop, &[first], text)? {
-            return Ok(());
-        }
-        self.take_run(stop, text)
-    }
-
     /// Takes the rest of a bare string after its first byte, and returns its event.
     pub fn bare(&mut self, alloc: Global, stop: Stop, first: u8) -> Result<OwnedEvent, TokenFault>
         ensures answers { GivesBy R.remaining (λ event. Some (event_of event))
@@ -146,7 +128,9 @@ impl<R: ByteReader> Input<R> {
         ensures failures { CountsFailed R.failures self.old result self.new }
     {
         let mut text = Vec::new(alloc);
-        self.take_bare(stop, first, &mut text)?;
+        if self.take_part(stop, &[first], &mut text)? {
+            self.take_run(stop, &mut text)?;
+        }
         bare_event(text)
     }
 }

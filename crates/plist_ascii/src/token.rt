@@ -75,7 +75,7 @@ impl<R: ByteReader> Input<R> {
         match self.peek()? {
             Some(b'/') => {
                 self.take_first(1);
-                self.line_comment()?;
+                self.skip_run(Stop::LineEnd)?;
                 Ok(None)
             }
             Some(b'*') => {

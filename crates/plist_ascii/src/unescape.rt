@@ -76,20 +76,13 @@ fn is_octal(byte: u8) -> bool
     matches!(byte, b'0'..=b'7')
 }
 
-// Returns whether the table of NeXTSTEP's characters contains this number.
-fn is_nextstep(number: u32) -> bool
-    ensures { result ≡ nat_le 128 number && nat_lt number 256 }
-{
-    number >= 128 && number < 256
-}
-
 // Returns the character of an octal escape with this number.
 #[tactic(auto, unfolding(crate::specs::Escapes::octal_char), using(crate::proofs::Texts::to_char))]
 fn octal_char(number: u32) -> Option<char>
     requires { number < 512 }
     ensures { result ≡ Some (octal_char number) }
 {
-    if is_nextstep(number) {
+    if number >= 128 && number < 256 {
         return Some(NEXTSTEP[(number - 128) as usize]);
     }
     char::from_u32(number)
@@ -123,14 +116,6 @@ fn lone_char(unit: u16) -> Option<char>
         (is_surrogate unit ≡ false) × (c ≡ unit)) }
 {
     char::from_u32(u32::from(unit))
-}
-
-// Returns whether this byte is a letter that may be between the backslash and the digits of the
-// second unit of a surrogate pair.
-fn is_unit_letter(byte: u8) -> bool
-    ensures { result ≡ is_one_of "uU" byte }
-{
-    byte == b'u' || byte == b'U'
 }
 
 // Returns whether the two units are a surrogate pair.
@@ -230,7 +215,7 @@ impl<R: ByteReader> Input<R> {
         }
         match self.peek()? {
             Some(byte) => {
-                if is_unit_letter(byte) {
+                if byte == b'u' || byte == b'U' {
                     self.take_first(1);
                     return self.code_unit();
                 }

@@ -1,4 +1,4 @@
-use Rattle.std.proofs.Common.{◌∷◌}
+use Rattle.std.proofs.Common.{Some, ap, arith, refl, ◌∷◌, ◌∙◌}
 use Rattle.plist_ascii.specs.Texts.{slash}
 use Rattle.plist_ascii.specs.Unread.{stops}
 use Rattle.plist_ascii.specs.inner.Inputs.{AllocatesForText}
@@ -27,3 +27,18 @@ returns-in_err-event-in-Some-clause-memory g c =
     passed_on (AllocatesForText g.R.ByteReader.remaining (slash (stops c.args.stop))
     c.args.self.now) _ _ c.from_residual-in_err-event-in-Some.ensures.1
     (λ m xs e. let k = looked xs e in rw (k.1, same k.0) (bare_wants (stops c.args.stop) _ (c.in-Some._byte ∷ k.0)))
+
+pub returns-in_ok-skip_run-in-Some-eq47-clause-answers
+    : goal.returns-in_ok-skip_run-in-Some-eq47-clause-answers
+returns-in_ok-skip_run-in-Some-eq47-clause-answers g c =
+    let looked = rw c.in-Some-eq47.is at c.in_ok-peek.ensures in
+    let first = c.take_first.ensures in
+    let skipped = c.in_ok-skip_run-in-Some-eq47.ensures in
+    record {
+      rises = omega (arith, looked.place, first.place, skipped.place);
+      gives = λ xs e.
+          let k = looked.next xs e in
+          let r = skipped.value.bytes k.0 (first.bytes xs k.3 ∙ ap Some k.2) in
+          rw (k.1, c.in-Some-eq47.field-0-test)
+          (refl, r.1, omega (arith, looked.place, first.place, r.2));
+    }
