@@ -1,5 +1,5 @@
 -- The meaning of strings, which tokens are strings, and what a slash begins.
-use Rattle.std.proofs.Common.{◌≡◌, ℕ, ◌≤◌, List, true, false, Option, Some, Ok, Err, refl, ◌<◌, None, ap, sym, arith, zero, suc, Bool, cond, [], ◌∷◌, ◌++◌, take, drop, Result, ◌≢◌}
+use Rattle.std.proofs.Common.{rules, ◌≡◌, ℕ, ◌≤◌, List, true, false, Option, Some, Ok, Err, refl, ◌<◌, None, ap, sym, arith, zero, suc, Bool, cond, [], ◌∷◌, ◌++◌, take, drop, Result, ◌≢◌}
 use Rattle.plist_base.specs.declared.event.Event.{Event}
 use Rattle.plist_ascii.specs.inner.Inputs.{AddsRun, GivesBy, Means, said}
 use Rattle.plist_ascii.specs.declared.input.Input.{Input}
@@ -18,23 +18,14 @@ use Rattle.plist_ascii.specs.Ascii.{IsTextEvent, IsTextFault, IsTextToken}
 use lib.Utf8.{low_scalar}
 use Rattle.std.specs.Char.{IsScalar, is_digit}
 use Rattle.plist_ascii.specs.TokenPrefixes.{code_of, Taken, taken, past_one, followed, needs, run}
-use Rattle.plist_ascii.specs.Escapes.{is_surrogate, escape, simple_escape, octal_text, code_unit, unit_of, low_half, unicode_escape, pair_text}
+use Rattle.plist_ascii.specs.Escapes.{octal_escape, is_surrogate, escape, simple_escape, octal_text, code_unit, unit_of, low_half, unicode_escape, pair_text}
 use Rattle.plist_ascii.specs.Unread.{stops}
-use Rattle.std.proofs.lemmas.Bool.{ne_eqb}
-
-pub text_gives : (xs : List ℕ) (e : Scalar) (f : PlainEvent) → is_utf8 xs ≡ true → f ≡ ScalarEvent e
-    → IsTextEvent (ScalarEvent e) → (utf8_or_fault xs e ≡ Ok (Some f)) × IsTextEvent f
-text_gives xs e f t h is = rw (t, h) (refl, is)
+use Rattle.std.proofs.lemmas.Bool.{cond_both, ne_eqb}
 
 pub number_is_text : (text : List ℕ) (o : Option ℤ) → IsTextEvent (ScalarEvent
     (option_map_or Integer o (String text)))
 number_is_text text None = tt
 number_is_text text (Some number) = tt
-
-pub text_fails : (xs : List ℕ) (e : Scalar) (f : TokenFault) → is_utf8 xs ≡ false
-    → f ≡ fault.InvalidUtf8 → (f ≡ fault.InvalidUtf8) ×
-    (utf8_or_fault xs e ≡ Err InvalidUtf8AsciiStream)
-text_fails xs e f t h = rw t (h, refl)
 
 pub to_char : (r : Option ℕ) (n : ℕ) → n < 512 → SomeIff r (IsScalar n) n → r ≡ Some n
 to_char None n l h = absurd (h (low_scalar n (omega arith)))
@@ -45,16 +36,13 @@ abbrev pub InText : {A : Type 0} → Result A FaultKind → Type 0
 InText (Ok a) = ⊤
 InText (Err kind) = IsTextFault kind
 
-utf8_wants : (b : Bool) (text : List ℕ) (scalar : Scalar) → is_utf8 text ≡ b
-    → IsTextToken (Ok (Some (ScalarEvent scalar))) → IsTextToken (utf8_or_fault text scalar)
-utf8_wants true text scalar e h = rw e h
-utf8_wants false text scalar e h = rw e tt
+utf8_wants : (text : List ℕ) (scalar : Scalar) → IsTextEvent (ScalarEvent scalar)
+    → IsTextToken (utf8_or_fault text scalar)
+utf8_wants text scalar h = cond_both (is_utf8 text) _ _ IsTextToken (λ e. h) (λ e. tt)
 
 pub bare_wants : (stops : ℕ → Bool) (c : ℕ) (xs : List ℕ) → IsTextToken (bare stops c xs).gives
 unfolding bare_event
-bare_wants stops c xs =
-    let text = c ∷ take (run stops xs) xs in
-    utf8_wants _ _ _ refl (number_is_text _ _)
+bare_wants stops c xs = utf8_wants _ _ (number_is_text _ _)
 
 -- ---- the parts of a quoted string
 
@@ -62,88 +50,46 @@ needs_in : {A : Type 0} (n : ℕ) (meaning : List ℕ → Result A FaultKind) (x
     → ((ds : List ℕ) → InText (meaning ds)) → InText (needs n meaning xs).gives
 needs_in zero meaning xs h = h []
 needs_in (suc n) meaning [] h = tt
-needs_in (suc n) meaning (c ∷ xs) h =
-    needs_in n (λ ds. meaning (c ∷ ds)) xs (λ ds. h (c ∷ ds))
-
-followed_in : {A B : Type 0} (xs : List ℕ) (n : ℕ) (g : Result A FaultKind)
-    (next : A → List ℕ → Taken B) → InText g → ((a : A) (ys : List ℕ) → InText (next a ys).gives)
-    → InText (followed xs n g next).gives
-followed_in xs n (Ok a) next h k = k a (drop n xs)
-followed_in xs n (Err fault) next h k = h
-
-cond_in : {A : Type 0} (b : Bool) (t u : Taken A) → InText t.gives → InText u.gives
-    → InText (cond b t u).gives
-cond_in true t u h k = h
-cond_in false t u h k = k
-
-either_in : {A : Type 0} (b : Bool) (r s : Result A FaultKind) → InText r → InText s
-    → InText (cond b r s)
-either_in true r s h k = h
-either_in false r s h k = k
-
-unit_value_in : (o : Option ℕ) → InText (option_map_or Ok o (Err InvalidUtf16String))
-unit_value_in None = tt
-unit_value_in (Some unit) = tt
+needs_in (suc n) meaning (c ∷ xs) h = needs_in n _ xs (λ ds. h (c ∷ ds))
 
 unit_in : (xs : List ℕ) → InText (code_unit xs).gives
-unit_in xs =
-    needs_in 4 (λ ds. option_map_or Ok (unit_of ds) (Err InvalidUtf16String)) xs
-    (λ ds. unit_value_in (unit_of ds))
+unit_in xs = needs_in 4 (λ ds. option_map_or Ok (unit_of ds) (Err InvalidUtf16String)) xs
+    (λ ds. search rules)
 
 half_in : (xs : List ℕ) → InText (low_half xs).gives
 half_in [] = tt
 half_in (c ∷ []) = tt
-half_in (c ∷ letter ∷ xs) =
-    cond_in _ (past_one (past_one (code_unit xs))) (taken 1 (Err InvalidUtf16String)) (unit_in xs) tt
-
-pair_in : (high low : ℕ) → InText (pair_text high low)
-pair_in high low = either_in _ (Ok _) (Err _) tt tt
+half_in (c ∷ letter ∷ xs) = search (rules, unit_in)
 
 unicode_in : (xs : List ℕ) → InText (unicode_escape xs).gives
-unicode_in xs =
-    followed_in xs (code_unit xs).bytes (code_unit xs).gives _ (unit_in xs) (λ unit ys.
-    let pair = followed_in ys (low_half ys).bytes (low_half ys).gives
-    (λ low _. taken 0 (pair_text unit low)) (half_in ys) (λ low _. pair_in unit low) in
-    cond_in (is_surrogate unit) _ (taken 0 (Ok (encode_utf8 unit))) pair tt)
+unicode_in xs = search (rules, unit_in, half_in)
+
+octal_in : (c : ℕ) (xs : List ℕ) → InText (octal_escape c xs).gives
+unfolding octal_text
+octal_in c xs = needs_in 2 (λ ds. octal_text (c ∷ ds)) xs (λ ds. search rules)
 
 simple_in : (o : Option ℕ)
     → InText (option_map_or (λ byte. Ok (byte ∷ [])) o (Err InvalidUtf8AsciiStream))
-simple_in None = tt
-simple_in (Some byte) = tt
-
-octal_in : (digits : List ℕ) → InText (octal_text digits)
-unfolding octal_text
-octal_in digits = either_in _ (Ok _) (Err _) tt tt
+simple_in o = search rules
 
 escape_in : (xs : List ℕ) → InText (escape xs).gives
 unfolding escape
 escape_in [] = tt
 escape_in (c ∷ xs) =
-    let o = needs_in 2 (λ ds. octal_text (c ∷ ds)) xs (λ ds. octal_in (c ∷ ds)) in
-    let s = simple_in (simple_escape c) in
-    cond_in _ _ _ (unicode_in xs) (cond_in (is_digit c 8) _ _ o s)
-
-with_in : (front : List ℕ) (r : Result (List ℕ) FaultKind) → InText r
-    → InText (result_map_both (λ more. front ++ more) (λ fault. fault) r)
-with_in front (Ok more) h = tt
-with_in front (Err fault) h = h
+    let P : Taken (List ℕ) → Type 0 = λ t. InText t.gives in
+    cond_both (c == code_of "U") _ _ P (λ e. unicode_in xs) (λ e. cond_both (is_digit c 8) _ _ P
+    (λ e. octal_in c xs) (λ e. simple_in (simple_escape c)))
 
 quoted_in_text : (quote fuel : ℕ) (xs : List ℕ) → InText (quoted_in quote fuel xs).gives
 unfolding quoted_in
 quoted_in_text quote zero xs = tt
 quoted_in_text quote (suc fuel) [] = tt
-quoted_in_text quote (suc fuel) (c ∷ xs) =
-    let e = followed_in xs (escape xs).bytes (escape xs).gives
-    (λ text left. prepended text (quoted_in quote fuel left)) (escape_in xs)
-    (λ text left. with_in text (quoted_in quote fuel left).gives (quoted_in_text quote fuel left)) in
-    let plain = with_in (c ∷ []) (quoted_in quote fuel xs).gives (quoted_in_text quote fuel xs) in
-    cond_in (c == quote) (taken 0 (Ok [])) _ tt
-    (cond_in (c == code_of "\\") _ (prepended (c ∷ []) _) e plain)
+quoted_in_text quote (suc fuel) (c ∷ xs) = search (rules, escape_in, quoted_in_text quote fuel)
 
 outcome_wants : (r : Result (List ℕ) FaultKind) → InText r → IsTextToken (result_flatten
     (result_map_both quoted_event (λ fault. fault) r))
 unfolding quoted_event
-outcome_wants (Ok text) h = utf8_wants _ text (String text) refl tt
+outcome_wants (Ok text) h = utf8_wants text (String text) tt
 outcome_wants (Err fault) h = h
 
 pub quoted_wants : (quote : ℕ) (xs : List ℕ) → IsTextToken (quoted_token quote xs).gives
@@ -175,10 +121,3 @@ bare_becomes c {r} e m t = record {
   gives = rw (means_said r m)
       (λ xs known. let h = t.1.bytes xs known in (ap bare_event (sym (rw e at h.0)), h.1, h.2));
 }
-
--- ---- events of strings
-
--- rules for the meaning of a string that was read
-pub ruleset texts = (text_gives, text_fails)
-
-pub ruleset bare_texts = (text_gives, text_fails, number_is_text)

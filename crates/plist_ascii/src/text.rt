@@ -76,7 +76,7 @@ fn number_or_text(text: String) -> OwnedEvent
 }
 
 /// Returns the event of a bare string with the given bytes, or `InvalidUtf8` if they aren't UTF-8.
-#[tactic(auto, unfolding(crate::specs::Texts::bare_event), using(crate::proofs::Texts::bare_texts))]
+#[tactic(auto, unfolding(crate::specs::Texts::bare_event), using(crate::proofs::Texts::number_is_text))]
 pub fn bare_event(bytes: Vec<u8>) -> Result<OwnedEvent, TokenFault>
     ensures { Means result (bare_event bytes.items) }
 {
@@ -86,7 +86,7 @@ pub fn bare_event(bytes: Vec<u8>) -> Result<OwnedEvent, TokenFault>
 
 /// Returns the event of a quoted string with the given bytes, or `InvalidUtf8` if they aren't
 /// UTF-8.
-#[tactic(auto, unfolding(crate::specs::Texts::quoted_event), using(crate::proofs::Texts::texts))]
+#[tactic(auto, unfolding(crate::specs::Texts::quoted_event))]
 pub fn quoted_event(bytes: Vec<u8>) -> Result<OwnedEvent, TokenFault>
     ensures { Means result (quoted_event bytes.items) }
 {
