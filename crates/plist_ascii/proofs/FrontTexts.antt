@@ -1,24 +1,23 @@
 -- Strings that end among the bytes at hand.
-use Rattle.std.proofs.Common.{◌≡◌, ℕ, zero, suc, ◌+◌, ◌-◌, ◌^◌, ◌<◌, ◌≤◌, Bool, true, false, List, [], ◌∷◌, ◌++◌, length, take, drop, Option, Some, Ok, None, refl, sym, ap, ◌∙◌, subst, arith, length-drop}
+use Rattle.std.proofs.Common.{drop-cons, get_or, ◌≡◌, ℕ, suc, ◌+◌, ◌-◌, ◌^◌, ◌<◌, ◌≤◌, Bool, true, false, List, [], ◌∷◌, ◌++◌, length, take, drop, Option, Some, Ok, None, refl, sym, ap, ◌∙◌, subst, arith, length-drop}
 use Rattle.std.proofs.lemmas.List.{take-append-le, drop-append-le}
-use Rattle.std.specs.Result.{result_flatten, result_map_both}
 use Rattle.std.specs.Str.{is_utf8}
-use Rattle.std.specs.Prelude.{not, slice_get, if◌then◌else◌}
+use Rattle.std.specs.Prelude.{not, if◌then◌else◌}
 use Rattle.plist_base.specs.declared.event.Event.{Event}
 use Rattle.plist_base.specs.Events.{ScalarEvent, event_of}
 use Rattle.plist_base.specs.Trees.{String}
 use Rattle.plist_base.specs.IntegerText.{integer_of_text}
 use Rattle.plist_ascii.specs.declared.stop.Stop.{Stop}
 use Rattle.plist_ascii.specs.declared.stop.Stop.TheVariants as stop
+use Rattle.plist_ascii.specs.declared.token.Lead.TheVariants as lead
 use Rattle.plist_ascii.specs.Ascii.{is_blank, lead_of, token_by, IfBracket}
 use Rattle.plist_ascii.specs.declared.input.Input.{Input}
 use Rattle.plist_ascii.specs.declared.reader.AsciiReader.{AsciiReader}
 use Rattle.plist_ascii.specs.AsciiReader.{GivesAscii}
 use Rattle.plist_ascii.specs.TokenPrefixes.{past_one, run, taken}
-use Rattle.plist_ascii.specs.Texts.{ends_run, bare_event, quoted_event}
+use Rattle.plist_ascii.specs.Texts.{ends_run, quoted, bare_event, quoted_event}
 use Rattle.plist_ascii.specs.Unread.{IfKnown, stops, unread}
-use Rattle.plist_ascii.specs.inner.Inputs.{hand_of}
-use Rattle.plist_ascii.specs.inner.Parts.{BeginWithText, IsBareFront, IsQuotedFront, LeadsToText}
+use Rattle.plist_ascii.specs.inner.Inputs.{BeginWithText, LeadsToText, hand_of}
 use Rattle.std.proofs.lemmas.Bool.{cond_both}
 use Rattle.plist_ascii.proofs.Items.{IsFirst, TakesFirst, going_start, going_blanks, going_event}
 use Rattle.plist_ascii.proofs.Quotes.{quoted_plain}
@@ -32,31 +31,16 @@ unfolding bare_event
 bare_means text utf8 none = rw (utf8, none) refl
 
 -- a bare string is the first token, whatever follows it
-pub bare_begins : (ends : ℕ → Bool) (bytes : List ℕ) (n : ℕ) (text : List ℕ)
-    → IsBareFront ends bytes n → text ≡ take n bytes → is_utf8 text ≡ true
-    → integer_of_text text ≡ None → BeginWithText ends bytes n text
-bare_begins ends [] n text begins is utf8 none = absurd begins
-bare_begins ends (c ∷ cs) n text begins is utf8 none = λ more.
+pub bare_begins : (ends : ℕ → Bool) (c : ℕ) (cs : List ℕ) (n : ℕ) (text : List ℕ)
+    → lead_of c ≡ lead.Bare → n ≡ suc (run ends cs) → run ends cs < length cs
+    → text ≡ take n (c ∷ cs) → is_utf8 text ≡ true → integer_of_text text ≡ None
+    → BeginWithText ends (c ∷ cs) n text
+bare_begins ends c cs n text leads size less is utf8 none = λ more.
     let m = run ends cs in
-    let less : m < length cs = begins.2 in
     let le : m ≤ length cs = omega arith in
-    let size : n ≡ suc m = let sum = begins.1 in omega arith in
-    let same-text : c ∷ take m cs ≡ text = sym (is ∙ ap (λ k. take k (c ∷ cs)) size) in
-    ap (λ l. past_one (token_by ends l c (cs ++ more))) begins.0
-    ∙ ap (λ k. taken (suc k) (bare_event (c ∷ take k (cs ++ more)))) (run_front ends cs more less)
-    ∙ ap (λ l. taken (suc m) (bare_event (c ∷ l))) (take-append-le m cs more le)
-    ∙ ap (λ l. taken (suc m) (bare_event l)) same-text
-    ∙ ap (taken (suc m)) (bare_means text utf8 none)
-    ∙ ap (λ k. taken k (Ok (Some (ScalarEvent (String text))))) (sym size)
-
--- the byte at an index is the first of those from there on
-get_drops : (c n : ℕ) (cs : List ℕ) → slice_get cs n ≡ Some c
-    → (n < length cs) × ((ds : List ℕ) × (drop n cs ≡ c ∷ ds))
-get_drops c n [] is = absurd (cc)
-get_drops c zero (d ∷ cs) is =
-    let same : d ≡ c = cc in (omega arith, (cs, ap (λ b. b ∷ cs) same))
-get_drops c (suc n) (d ∷ cs) is =
-    let h = get_drops c n cs is in (omega (arith, h.0), h.1)
+    let same : c ∷ take m cs ≡ text = sym (rw size at is) in
+    ap (λ l. past_one (token_by ends l c (cs ++ more))) leads
+    ∙ rw (run_front ends cs more less, take-append-le m cs more le, same, bare_means text utf8 none, size)
 
 -- the meaning of a quoted string
 quoted_is : (text : List ℕ) → is_utf8 text ≡ true
@@ -65,28 +49,21 @@ unfolding quoted_event
 quoted_is text utf8 = rw utf8 refl
 
 -- a quoted string without escapes is the first token, whatever follows it
-pub quoted_begins : (bytes : List ℕ) (n count : ℕ) (text : List ℕ) → IsQuotedFront bytes n
-    → count ≡ n + 2 → text ≡ take n (drop 1 bytes) → is_utf8 text ≡ true → (ends : ℕ → Bool)
-    → BeginWithText ends bytes count text
-quoted_begins [] n count text begins size is utf8 ends = absurd begins
-quoted_begins (c ∷ cs) n count text begins size is utf8 ends = λ more.
+pub quoted_begins : (c : ℕ) (cs : List ℕ) (n : ℕ) (text : List ℕ) → lead_of c ≡ lead.Quote
+    → n ≡ run (ends_run c) cs → n < length cs → c ≡ get_or cs n c → text ≡ take n cs
+    → is_utf8 text ≡ true → (ends : ℕ → Bool) → BeginWithText ends (c ∷ cs) (n + 2) text
+quoted_begins c cs n text leads size less end is utf8 ends = λ more.
     let ys = cs ++ more in
-    let m = run (ends_run c) ys in
-    let at = get_drops c n cs begins.2 in
-    let le : n ≤ length cs = let less = at.0 in omega arith in
-    let same : m ≡ n =
-    run_front (ends_run c) cs more (subst (λ k. k < length cs) begins.1 at.0) ∙ sym begins.1 in
-    let rest : drop n ys ≡ c ∷ (at.1.0 ++ more) =
-    drop-append-le n cs more le ∙ ap (λ l. l ++ more) at.1.1 in
-    let closes = quoted_plain c ys (at.1.0 ++ more) (ap (λ k. drop k ys) same ∙ rest) in
-    let all : suc (m + 1) ≡ count = omega arith in
-    let text-is : take m ys ≡ text =
-    ap (λ k. take k ys) same ∙ take-append-le n cs more le ∙ sym is in
-    ap (λ l. past_one (token_by ends l c ys)) begins.0
-    ∙ ap (λ t. past_one (taken t.bytes (result_flatten (result_map_both quoted_event (λ fault. fault) t.gives)))) closes
-    ∙ ap (λ k. taken k (quoted_event (take m ys))) all
-    ∙ ap (λ l. taken count (quoted_event l)) text-is
-    ∙ ap (taken count) (quoted_is text utf8)
+    let le : n ≤ length cs = omega arith in
+    let same : run (ends_run c) ys ≡ n =
+    run_front (ends_run c) cs more (rw size at less) ∙ sym size in
+    let next : drop n cs ≡ c ∷ drop (suc n) cs = rw (← end) at (drop-cons cs n c less) in
+    let rest : drop n ys ≡ c ∷ (drop (suc n) cs ++ more) = rw (drop-append-le n cs more le, next) refl in
+    let closes : quoted c ys ≡ taken (n + 1) (Ok text) =
+    quoted_plain c ys (drop (suc n) cs ++ more) (rw same rest) ∙ rw (same, take-append-le n cs more le, is) refl in
+    let all : suc (n + 1) ≡ n + 2 = omega arith in
+    ap (λ l. past_one (token_by ends l c ys)) leads
+    ∙ rw (closes, quoted_is text utf8, all) refl
 
 -- a token that is a string has at least one byte
 pub begins_some : (ends : ℕ → Bool) (bytes : List ℕ) (n : ℕ) (text : List ℕ)

@@ -12,8 +12,7 @@ use Rattle.plist_ascii.specs.declared.unescape.Escaped.{Escaped}
 use Rattle.plist_ascii.specs.TokenPrefixes.{code_of, Taken, taken, past, past_one, after_byte, followed, in_sequence, run}
 use Rattle.plist_ascii.specs.Escapes.{escape}
 use Rattle.plist_ascii.specs.Texts.{prepended, ends_run, quoted_in, quoted}
-use Rattle.plist_ascii.specs.inner.Inputs.{AddsRun, GivesBy, TakesNext, TakesOneMore, kind_in_bytes}
-use Rattle.plist_ascii.specs.inner.Parts.{escaped_bytes}
+use Rattle.plist_ascii.specs.inner.Inputs.{AddsRun, GivesBy, TakesNext, TakesOneMore, escaped_bytes, kind_in_bytes}
 use Rattle.plist_ascii.proofs.Runs.{run_elim}
 use Rattle.plist_ascii.proofs.TokenOutcomes.{gives_after, past_more, past_none, some_err, some_fault}
 

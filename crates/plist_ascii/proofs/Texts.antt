@@ -1,24 +1,23 @@
 -- The meaning of strings, which tokens are strings, and what a slash begins.
-use Rattle.std.proofs.Common.{rules, ◌≡◌, ℕ, ◌≤◌, List, true, false, Option, Some, Ok, Err, refl, ◌<◌, None, ap, sym, arith, zero, suc, Bool, cond, [], ◌∷◌, ◌++◌, take, drop, Result, ◌≢◌}
+use Rattle.std.proofs.Common.{rules, ◌≡◌, ℕ, ◌≤◌, List, Option, Some, Ok, Err, refl, ◌<◌, None, ap, sym, arith, zero, suc, Bool, [], ◌∷◌, ◌++◌, Result, ◌≢◌}
 use Rattle.plist_base.specs.declared.event.Event.{Event}
 use Rattle.plist_ascii.specs.inner.Inputs.{AddsRun, GivesBy, Means, said}
 use Rattle.plist_ascii.specs.declared.input.Input.{Input}
 use Rattle.plist_ascii.specs.declared.stop.Stop.{Stop}
 use Rattle.std.specs.Str.{is_utf8}
 use Rattle.plist_ascii.specs.declared.fault.TokenFault.{TokenFault}
-use Rattle.plist_ascii.specs.declared.fault.TokenFault.TheVariants as fault
 use Rattle.plist_base.specs.Faults.{InvalidUtf16String, InvalidUtf8AsciiStream, FaultKind}
 use Rattle.plist_base.specs.Events.{PlainEvent, ScalarEvent, event_of}
 use Rattle.plist_base.specs.Trees.{Integer, Scalar, String}
 use Rattle.std.specs.Option.{option_map_or}
 use Rattle.std.specs.Result.{result_flatten, result_map_both}
-use Rattle.std.specs.Prelude.{ℤ, SomeIff, ⊤, ◌==◌, encode_utf8}
-use Rattle.plist_ascii.specs.Texts.{utf8_or_fault, bare, bare_event, quoted_event, prepended, quoted_in, quoted, quoted_token, slash}
+use Rattle.std.specs.Prelude.{ℤ, SomeIff, ⊤, ◌==◌}
+use Rattle.plist_ascii.specs.Texts.{utf8_or_fault, bare, bare_event, quoted_event, quoted_in, quoted, quoted_token, slash}
 use Rattle.plist_ascii.specs.Ascii.{IsTextEvent, IsTextFault, IsTextToken}
 use lib.Utf8.{low_scalar}
 use Rattle.std.specs.Char.{IsScalar, is_digit}
-use Rattle.plist_ascii.specs.TokenPrefixes.{code_of, Taken, taken, past_one, followed, needs, run}
-use Rattle.plist_ascii.specs.Escapes.{octal_escape, is_surrogate, escape, simple_escape, octal_text, code_unit, unit_of, low_half, unicode_escape, pair_text}
+use Rattle.plist_ascii.specs.TokenPrefixes.{code_of, Taken, needs}
+use Rattle.plist_ascii.specs.Escapes.{octal_escape, escape, simple_escape, octal_text, code_unit, unit_of, low_half, unicode_escape}
 use Rattle.plist_ascii.specs.Unread.{stops}
 use Rattle.std.proofs.lemmas.Bool.{cond_both, ne_eqb}
 

@@ -1,3 +1,2 @@
 -- Definitions that are used by bodies and proofs, but by no public clause.
-pub mod Parts
 pub mod Inputs

@@ -2,8 +2,7 @@
 
 ghost use Rattle.std.specs.Prelude.{◌+◌, ◌<◌, ◌≤◌, ℕ, Bool, length, IfSome};
 ghost use Rattle.plist_ascii.specs.Unread.{IfKnown, stops, unread};
-ghost use Rattle.plist_ascii.specs.inner.Inputs.{hand};
-ghost use Rattle.plist_ascii.specs.inner.Parts.{BeginWithText, IsBareFront, IsQuotedFront, LeadsToText};
+ghost use Rattle.plist_ascii.specs.inner.Inputs.{BeginWithText, LeadsToText, hand};
 
 use crate::byte_reader::ByteReader;
 use crate::input::Input;
@@ -20,12 +19,13 @@ pub struct BorrowedText<'a> {
     pub text: &'a str,
 }
 
-// Returns the length of the bare string with which these bytes begin. Returns `None` if there is
-// none, if its first byte is a slash, or if it may continue after the last byte.
+// Returns the bare string with which these bytes begin, unless it begins with a slash, may continue
+// after the last byte, isn't UTF-8, or spells an integer.
 #[inline(always)]
-fn bare_length(stop: Stop, bytes: &[u8]) -> Option<usize>
-    ensures within { IfSome result (λ n. n ≤ length bytes.now) }
-    ensures front { IfSome result (IsBareFront (stops stop) bytes.now) }
+fn bare_front(stop: Stop, bytes: &[u8]) -> Option<BorrowedText<'_>>
+    ensures text { IfSome result (λ borrowed. BeginWithText (stops stop) bytes.now borrowed.count
+        borrowed.text.now) }
+    ensures within { IfSome result (λ borrowed. borrowed.count ≤ length bytes.now) }
 {
     let (first, rest) = bytes.split_first()?;
     let Lead::Bare = lead_of(*first) else {
@@ -35,38 +35,7 @@ fn bare_length(stop: Stop, bytes: &[u8]) -> Option<usize>
     if count == rest.len() {
         return None;
     }
-    Some(1 + count)
-}
-
-// Returns the number of bytes between the quotes of the quoted string with which these bytes begin.
-// Returns `None` if they begin with anything else, or if the string has an escape or doesn't end
-// among them.
-#[inline(always)]
-fn quoted_length(bytes: &[u8]) -> Option<usize>
-    ensures within { IfSome result (λ n. n + 2 ≤ length bytes.now) }
-    ensures front { IfSome result (IsQuotedFront bytes.now) }
-{
-    let (first, rest) = bytes.split_first()?;
-    let Lead::Quote = lead_of(*first) else {
-        return None;
-    };
-    let count = run_length(Stop::Quoted(*first), rest);
-    let end = rest.get(count)?;
-    if *end != *first {
-        return None;
-    }
-    Some(count)
-}
-
-// Returns the bare string with which these bytes begin, unless it begins with a slash, may continue
-// after the last byte, isn't UTF-8, or spells an integer.
-#[inline(always)]
-fn bare_front(stop: Stop, bytes: &[u8]) -> Option<BorrowedText<'_>>
-    ensures text { IfSome result (λ borrowed. BeginWithText (stops stop) bytes.now borrowed.count
-        borrowed.text.now) }
-    ensures within { IfSome result (λ borrowed. borrowed.count ≤ length bytes.now) }
-{
-    let length = bare_length(stop, bytes)?;
+    let length = 1 + count;
     match str::from_utf8(&bytes[..length]) {
         Ok(text) => {
             if may_be_number(text) {
@@ -89,10 +58,18 @@ fn quoted_front(bytes: &[u8]) -> Option<BorrowedText<'_>>
         → BeginWithText ends bytes.now borrowed.count borrowed.text.now) }
     ensures within { IfSome result (λ borrowed. borrowed.count ≤ length bytes.now) }
 {
-    let length = quoted_length(bytes)?;
-    match str::from_utf8(&bytes[1..1 + length]) {
+    let (first, rest) = bytes.split_first()?;
+    let Lead::Quote = lead_of(*first) else {
+        return None;
+    };
+    let count = run_length(Stop::Quoted(*first), rest);
+    let end = rest.get(count)?;
+    if *end != *first {
+        return None;
+    }
+    match str::from_utf8(&rest[..count]) {
         Ok(text) => Some(BorrowedText {
-            count: length + 2,
+            count: count + 2,
             text,
         }),
         Err(_) => None,

@@ -3,9 +3,8 @@
 ghost use Rattle.std.specs.Prelude.{◌≡◌, ◌++◌, None, Some, IfOk, OnOk, vec_items};
 ghost use Rattle.plist_base.specs.Events.{event_of};
 ghost use Rattle.plist_ascii.specs.Texts.{quoted, quoted_token};
-ghost use Rattle.plist_ascii.specs.inner.Parts.{escaped_bytes};
 ghost use Rattle.plist_ascii.specs.Ascii.{IsTextEvent};
-ghost use Rattle.plist_ascii.specs.inner.Inputs.{CountsFailed, GivesBy};
+ghost use Rattle.plist_ascii.specs.inner.Inputs.{CountsFailed, GivesBy, escaped_bytes};
 
 use crate::byte_reader::ByteReader;
 use crate::fault::TokenFault;

@@ -1,17 +1,20 @@
 -- What calls of an input do to the bytes that remain, to the number of bytes taken, and to the
--- count of failures, and which errors they return.
-use Rattle.std.specs.Prelude.{◌≡◌, ℕ, ◌+◌, ◌-◌, ◌^◌, ◌<◌, ◌≤◌, Bool, true, false, List, [], ◌∷◌, ◌++◌, length, take, drop, Option, None, Some, Result, Ok, Err, IfErr, IfOk, IfSome, IsSome, MatchOption, MatchResult}
+-- count of failures, which errors they return, what escapes denote, and strings at hand.
+use Rattle.std.specs.Prelude.{◌≡◌, ℕ, ◌+◌, ◌-◌, ◌^◌, ◌<◌, ◌≤◌, Bool, true, false, List, [], ◌∷◌, ◌++◌, length, take, drop, Option, None, Some, Result, Ok, Err, IfErr, IfOk, IfSome, IsSome, MatchOption, MatchResult, encode_utf8, not}
 use Rattle.std.specs.Option.{option_map, option_map_or}
 use Rattle.plist_base.specs.declared.event.Event.{Event}
-use Rattle.plist_base.specs.Events.{PlainEvent, event_of}
+use Rattle.plist_base.specs.Events.{PlainEvent, ScalarEvent, event_of}
 use Rattle.plist_base.specs.Faults.{Fault, FaultKind, Io, OutOfMemory, UnclosedString, IncompleteComment, InvalidUtf8AsciiStream, InvalidOctalString, InvalidUtf16String, fault_at, fault_without_offset}
+use Rattle.plist_base.specs.Trees.{String}
 use Rattle.plist_ascii.specs.declared.fault.TokenFault.{TokenFault}
 use Rattle.plist_ascii.specs.declared.fault.TokenFault.TheVariants as fault
 use Rattle.plist_ascii.specs.declared.input.Input.{Input}
 use Rattle.plist_ascii.specs.declared.stop.Stop.{Stop}
-use Rattle.plist_ascii.specs.TokenPrefixes.{Taken, run}
+use Rattle.plist_ascii.specs.declared.unescape.Escaped.{Escaped}
+use Rattle.plist_ascii.specs.declared.unescape.Escaped.TheVariants as piece
+use Rattle.plist_ascii.specs.TokenPrefixes.{Taken, past_one, run, taken}
 use Rattle.plist_ascii.specs.Texts.{Token, begins_with}
-use Rattle.plist_ascii.specs.Ascii.{IsTextEvent, IsTextToken}
+use Rattle.plist_ascii.specs.Ascii.{IsTextEvent, IsTextToken, is_blank, lead_of, token_by}
 use Rattle.plist_ascii.specs.Unread.{IfKnown, RisesIfCounted, stops, unread}
 
 -- ---- errors and failures
@@ -52,6 +55,18 @@ abbrev pub CountsFailed : {R A : Type 0} → (failures : R → Option ℕ) → (
 CountsFailed failures old (Err fault.Io) new =
     RisesIfCounted (failures old.inner) (failures new.inner) × IsSome new.failure
 CountsFailed failures old other new = failures new.inner ≡ failures old.inner
+
+-- ---- escapes
+
+-- the bytes that an escape denotes
+abbrev pub escaped_bytes : Escaped → List ℕ
+escaped_bytes (piece.Byte byte) = byte ∷ []
+escaped_bytes (piece.Char c) = encode_utf8 c
+
+-- the outcome is the character's bytes or, without a character, this fault
+abbrev pub IsCharOr : FaultKind → Result (List ℕ) FaultKind → Option ℕ → Type 0
+IsCharOr fault outcome char =
+    MatchOption char (outcome ≡ Err fault) (λ c. outcome ≡ Ok (encode_utf8 c))
 
 -- ---- the bytes at hand, and the number of bytes taken
 
@@ -164,3 +179,21 @@ module _ {R : Type 0} (known : R → Option (List ℕ)) where
     pub hand : IfCame answer (λ _. 0 < length (hand window new))
     pub place : new.taken ≡ old.taken
     pub failures : CountsFailed failed old answer new
+
+-- ---- strings at hand
+
+-- the first n bytes are a token, which is this string, whatever follows them
+abbrev pub BeginWithText : (stops : ℕ → Bool) → List ℕ → (n : ℕ) → (text : List ℕ) → Type 0
+BeginWithText stops [] n text = ⊥
+BeginWithText stops (c ∷ bytes) n text =
+    (more : List ℕ) → past_one (token_by stops (lead_of c) c (bytes ++ more))
+    ≡ taken n (Ok (Some (ScalarEvent (String text))))
+
+-- the first `count` bytes are blanks, if any, and then a token, which is this string
+pub record LeadsToText (stops : ℕ → Bool) (bytes : List ℕ) (count : ℕ) (text : List ℕ) : Type 0 where
+  pub byte : ℕ
+  pub rest : List ℕ
+  pub next : drop (run (λ c. not (is_blank c)) bytes) bytes ≡ byte ∷ rest
+  pub means : (token_by stops (lead_of byte) byte rest).gives ≡ Ok (Some (ScalarEvent (String text)))
+  pub ends : count ≡ run (λ c. not (is_blank c)) bytes + 1
+      + (token_by stops (lead_of byte) byte rest).bytes

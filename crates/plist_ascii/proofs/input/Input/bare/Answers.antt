@@ -11,10 +11,10 @@ returns-clause-answers g c =
     let front = c.new-text.result.items ++ c.args.first ∷ [] in
     bare_becomes c.args.first c.new-text.ensures.items c.bare_event.ensures
     (elim c.if-branch.branch [
-      then-branch+in_ok-take_run w ↦ rw (w.self-is, w.text-is) (
+      | then-branch+in_ok-take_run w ↦ rw (w.self-is, w.text-is) (
         omega (arith, place, w.in_ok-take_run.ensures.place),
         runs_on part (λ a b p q. cc (append_assoc front a b)) w.in_ok-take_run.ensures.value,
       )
-    | else-branch w ↦ rw (w.self-is, w.text-is)
-        (place, part_ends part w.if-branch.false (λ a p. p))
+      | else-branch w ↦ rw (w.self-is, w.text-is)
+          (place, part_ends part w.if-branch.false (λ a p. p))
     ])
