@@ -182,14 +182,11 @@ impl<R: ByteReader> Input<R> {
         ensures failures { CountsFailed R.failures self.old result self.new }
     {
         match self.peek()? {
-            Some(byte) => {
-                if byte == expected {
-                    self.take_first(1);
-                    return Ok(true);
-                }
-                Ok(false)
+            Some(byte) if byte == expected => {
+                self.take_first(1);
+                Ok(true)
             }
-            None => Ok(false),
+            _ => Ok(false),
         }
     }
 
@@ -207,10 +204,7 @@ impl<R: ByteReader> Input<R> {
         ensures unchanged { IfErr result (λ _. self.new.taken ≡ self.old.taken) }
         ensures failures { CountsFailed R.failures self.old result self.new }
     {
-        match self.take()? {
-            Some(byte) => Ok(byte),
-            None => Err(TokenFault::UnclosedString),
-        }
+        self.take()?.ok_or(TokenFault::UnclosedString)
     }
 
     /// Takes the bytes that `at_hand` returns, up to the first stop, which isn't taken. Returns

@@ -62,26 +62,19 @@ pub fn may_be_number(text: &str) -> bool
     Integer::from_str(text).is_ok()
 }
 
-// Returns the event of the integer that a string spells, or that of the string if it spells none.
-fn number_or_text(text: String) -> OwnedEvent
-    ensures { event_of result ≡ ScalarEvent (scalar_of_text (string_bytes text)) }
-{
-    if !may_spell_number(text.as_bytes()) {
-        return Event::String(CowStr::Owned(text));
-    }
-    match Integer::from_str(text.as_str()) {
-        Ok(number) => Event::Integer(number),
-        Err(_) => Event::String(CowStr::Owned(text)),
-    }
-}
-
 /// Returns the event of a bare string with the given bytes, or `InvalidUtf8` if they aren't UTF-8.
 #[tactic(auto, unfolding(crate::specs::Texts::bare_event), using(crate::proofs::Texts::number_is_text))]
 pub fn bare_event(bytes: Vec<u8>) -> Result<OwnedEvent, TokenFault>
     ensures { Means result (bare_event bytes.items) }
 {
     let text = text_of(bytes)?;
-    Ok(number_or_text(text))
+    if !may_spell_number(text.as_bytes()) {
+        return Ok(Event::String(CowStr::Owned(text)));
+    }
+    match Integer::from_str(text.as_str()) {
+        Ok(number) => Ok(Event::Integer(number)),
+        Err(_) => Ok(Event::String(CowStr::Owned(text))),
+    }
 }
 
 /// Returns the event of a quoted string with the given bytes, or `InvalidUtf8` if they aren't

@@ -117,18 +117,11 @@ fn lone_char(unit: u16) -> Option<char>
     char::from_u32(u32::from(unit))
 }
 
-// Returns whether the two units are a surrogate pair.
-fn is_pair(high: u16, low: u16) -> bool
-    ensures { result ≡ is_high_surrogate high && is_low_surrogate low }
-{
-    (0xD800..0xDC00).contains(&high) && (0xDC00..0xE000).contains(&low)
-}
-
 // Returns the character of a surrogate pair, or `None` if the units aren't one.
 fn pair_char(high: u16, low: u16) -> Option<char>
     ensures { IsCharOr InvalidUtf16String (pair_text high low) result }
 {
-    if !is_pair(high, low) {
+    if !(0xD800..0xDC00).contains(&high) || !(0xDC00..0xE000).contains(&low) {
         return None;
     }
     char::from_u32(0x1_0000 + (u32::from(high) - 0xD800) * 0x400 + (u32::from(low) - 0xDC00))
@@ -196,10 +189,7 @@ impl<R: ByteReader> Input<R> {
         let b = self.expect_byte()?;
         let c = self.expect_byte()?;
         let d = self.expect_byte()?;
-        match unit_of(a, b, c, d) {
-            Some(unit) => Ok(unit),
-            None => Err(TokenFault::InvalidUtf16),
-        }
+        unit_of(a, b, c, d).ok_or(TokenFault::InvalidUtf16)
     }
 
     // Takes the second half of a surrogate pair: a backslash, `u` or `U`, and a unit. The byte
@@ -213,14 +203,11 @@ impl<R: ByteReader> Input<R> {
             return Err(TokenFault::InvalidUtf16);
         }
         match self.peek()? {
-            Some(byte) => {
-                if byte == b'u' || byte == b'U' {
-                    self.take_first(1);
-                    return self.code_unit();
-                }
-                Err(TokenFault::InvalidUtf16)
+            Some(b'u' | b'U') => {
+                self.take_first(1);
+                self.code_unit()
             }
-            None => Err(TokenFault::InvalidUtf16),
+            _ => Err(TokenFault::InvalidUtf16),
         }
     }
 }
