@@ -1,5 +1,5 @@
 -- What is expected after the buffered events, and how one more event changes that.
-use Rattle.std.proofs.Common.{◌≡◌, ◌⊎◌, inl, inr, List, [], ◌∷◌, ◌++◌, Option, IfSome, map, option_and_then, None, Some, false, true, refl, sym, ap, ◌∙◌, subst}
+use Rattle.std.proofs.Common.{◌≡◌, ◌≢◌, List, [], ◌∷◌, ◌++◌, Option, IfSome, map, option_and_then, None, Some, true, refl, sym, ap, ◌∙◌, subst, rules}
 use Rattle.std.specs.Option.{is_none}
 use Rattle.plist_base.specs.Bracketing.{without_length, AreTreeEvents, CanContinue}
 use Rattle.plist_base.specs.Events.{PlainEvent, StartArray, StartDictionary, EndCollection, ScalarEvent}
@@ -9,7 +9,6 @@ use Rattle.plist_buffer.specs.declared.expects.Expect.{Expect}
 use Rattle.plist_buffer.specs.declared.expects.Expect.TheVariants.{OneValue, Items, Pairs}
 use Rattle.plist_buffer.specs.declared.expects.Transition.{Transition}
 use Rattle.plist_buffer.specs.declared.expects.Transition.TheVariants.{Refused}
-use Rattle.plist_buffer.specs.declared.expects.Transition.TheVariants as change
 use Rattle.plist_base.proofs.Lengths.{alike_last}
 use Rattle.plist_buffer.proofs.Grammar.{none_is, wanted_alike, can_continue, continues, bracketed, all_taken, complete_of_whole, steps_snoc}
 use Rattle.plist_buffer.specs.declared.event_buffer.EventBuffer.{EventBuffer}
@@ -40,10 +39,7 @@ open_snoc (x ∷ es) e kinds = open_snoc es e _
 
 open_alike : (e : PlainEvent) (kinds : List OpenKind)
     → open_after_event (without_length e) kinds ≡ open_after_event e kinds
-open_alike (StartArray hint) kinds = refl
-open_alike (StartDictionary hint) kinds = refl
-open_alike EndCollection kinds = refl
-open_alike (ScalarEvent x) kinds = refl
+open_alike e kinds = search rules
 
 -- ---- one more event
 
@@ -76,34 +72,40 @@ goes Pairs rest EndCollection kinds is = ended Pairs rest kinds is
 goes Pairs rest (ScalarEvent (String text)) kinds is = (is, refl)
 goes Pairs rest e kinds is = tt
 
+-- while something is expected, this is expected in the open collections
+inside_all : (next : Option Expect) (e : PlainEvent) (kinds : List OpenKind)
+    → change_on next e ≢ Refused
+    → map expects_in kinds ≡ inside_of (all_expected next (map expects_in kinds))
+inside_all None e kinds n = absurd (n refl)
+inside_all (Some OneValue) e kinds n = refl
+inside_all (Some other) e kinds n = sym (inside_alone kinds)
+
+changed_to : {P : List Expect → Type 0} (c : Transition) (top : Expect) (rest : List Expect)
+    → c ≢ Refused → IfSome (changed c top rest) P
+    → (new : List Expect) × (changed c top rest ≡ Some new) × P new
+changed_to Refused top rest n p = absurd (n refl)
+changed_to c top rest n p = (_, refl, p)
+
+-- an event that isn't rejected leads to a new stack
+stepped : (next : Option Expect) (expects : List Expect) (e : PlainEvent) (kinds : List OpenKind)
+    → next ≡ innermost expects → map expects_in kinds ≡ inside_of expects
+    → change_on next e ≢ Refused
+    → (new : List Expect) × (step expects e ≡ Some new) × Goes (next_expected (change_on next e) next
+    (innermost (map expects_in (open_after_event e kinds)))) (open_after_event e kinds) new
+stepped next [] e kinds first is n = absurd (n (ap (λ o. change_on o e) first))
+stepped next (top ∷ rest) e kinds first is n =
+    rw first (changed_to (transition_of top e) top rest (rw first at n) (goes top rest e kinds is))
+
+rejected : (expects : List Expect) (e : PlainEvent) → change_on (innermost expects) e ≡ Refused
+    → step expects e ≡ None
+rejected [] e r = refl
+rejected (top ∷ rest) e r = ap (λ c. changed c top rest) r
+
 all_again : (expects : List Expect) → all_expected (innermost expects) (inside_of expects) ≡ expects
 all_again [] = refl
 all_again (OneValue ∷ rest) = refl
 all_again (Items ∷ rest) = refl
 all_again (Pairs ∷ rest) = refl
-
--- the change is that of an event that isn't rejected
-abbrev IsAccepted : Transition → Type 0
-IsAccepted c = (c ≡ change.Closed) ⊎ ((c ≡ change.Kept)
-    ⊎ (((w : Expect) × (c ≡ change.Pushed w)) ⊎ ((w : Expect) × (c ≡ change.Replaced w))))
-
-pub is_accepted : (c : Transition) → (c ≡ Refused → ⊥) → IsAccepted c
-is_accepted Refused n = absurd (n refl)
-is_accepted change.Closed n = inl refl
-is_accepted change.Kept n = inr (inl refl)
-is_accepted (change.Pushed w) n = inr (inr (inl (w, refl)))
-is_accepted (change.Replaced w) n = inr (inr (inr (w, refl)))
-
-not_refused : (c : Transition) → IsAccepted c → c ≡ Refused → ⊥
-not_refused c (inl is) r = cc
-not_refused c (inr (inl is)) r = cc
-not_refused c (inr (inr (inl is))) r = cc (is.1)
-not_refused c (inr (inr (inr is))) r = cc (is.1)
-
-changed_some : (c : Transition) (top : Expect) (rest : List Expect) → (c ≡ Refused → ⊥)
-    → (new : List Expect) × (changed c top rest ≡ Some new)
-changed_some Refused top rest n = absurd (n refl)
-changed_some c top rest n = (_, refl)
 
 -- nothing is expected if and only if the events are a tree's
 tests_whole : (es : List PlainEvent) (expects : List Expect) → expected_after es ≡ Some expects
@@ -126,96 +128,60 @@ same_wants : (es : List PlainEvent) (e : PlainEvent)
 same_wants es e = wanted_alike _ _ (alike_last es e)
 
 -- an event is rejected if and only if it can't follow
-module _ (s : EventBuffer) (e : PlainEvent) (still : is_whole s ≡ false) where
+module _ (s : EventBuffer) (e : PlainEvent) where
   abbrev held : List PlainEvent
   held = buffered_events s
 
   abbrev kinds : List OpenKind
   kinds = open_after held []
 
-  top_of : (next : Option Expect) (expects : List Expect) → next ≡ innermost expects
-      → is_none next ≡ false
-      → (top : Expect) × (rest : List Expect) × (expects ≡ top ∷ rest) × (next ≡ Some top)
-  top_of next [] is some = cc
-  top_of next (top ∷ rest) is some = (top, rest, refl, is)
-
-  abbrev split : (top : Expect) × (rest : List Expect)
-      × (all_expected s.expects (map expects_in kinds) ≡ top ∷ rest) × (s.expects ≡ Some top)
-  split = top_of s.expects _ s.wanted.first still
-
-  abbrev top : Expect
-  top = split.0
-
-  abbrev rest : List Expect
-  rest = split.1
-
-  is_top : s.expects ≡ Some top
-  is_top = split.3
-
-  changes : change_on s.expects e ≡ transition_of top e
-  changes = ap (λ next. change_on next e) is_top
-
-  after : expected_after (held ++ e ∷ []) ≡ changed (change_on s.expects e) top rest
+  after : expected_after (held ++ e ∷ []) ≡ step (all_expected s.expects (map expects_in kinds)) e
   after = steps_snoc held (OneValue ∷ []) e ∙ ap (option_and_then (λ t. step t e)) s.wanted.all
-      ∙ ap (λ l. step l e) split.2 ∙ ap (λ c. changed c top rest) (sym changes)
 
   pub cannot_take : change_on s.expects e ≡ Refused → CanContinue held e → ⊥
   cannot_take r can =
       let g = continues _ e can in
-      none_is _ g.0 (after ∙ ap (λ c. changed c top rest) r) g.1
+      none_is _ g.0 (after ∙ rejected _ e (ap (λ o. change_on o e) (sym s.wanted.first) ∙ r)) g.1
 
-  pub can_take : IsAccepted (change_on s.expects e) → CanContinue held e
-  can_take accepted =
-      let f = changed_some _ top rest (not_refused _ accepted) in can_continue _ e f.0 (after ∙ f.1)
+  module _ {c : Transition} (is : c ≡ change_on s.expects e) (allowed : c ≢ Refused) where
+    accepted : change_on s.expects e ≢ Refused
+    accepted r = allowed (is ∙ r)
 
-  -- what is expected after the event
-  module _ (can : CanContinue held e) where
+    abbrev went : (new : List Expect)
+        × (step (all_expected s.expects (map expects_in kinds)) e ≡ Some new)
+        × Goes (next_expected (change_on s.expects e) s.expects
+        (innermost (map expects_in (open_after_event e kinds)))) (open_after_event e kinds) new
+    went = stepped s.expects _ e kinds s.wanted.first (inside_all s.expects e kinds accepted) accepted
+
     abbrev new : List Expect
-    new = (continues _ e can).0
+    new = went.0
 
     is_new : expected_after (held ++ e ∷ []) ≡ Some new
-    is_new = (continues _ e can).1
+    is_new = after ∙ went.1
 
-    abbrev more : List PlainEvent
-    more = held ++ without_length e ∷ []
-
-    inside : map expects_in kinds ≡ inside_of (top ∷ rest)
-    inside = by s.expects top rest (map expects_in kinds) is_top split.2
-      where
-        by : (next : Option Expect) (top : Expect) (rest l : List Expect) → next ≡ Some top
-            → all_expected next l ≡ top ∷ rest → l ≡ inside_of (top ∷ rest)
-        by None top rest l is all = cc
-        by (Some OneValue) OneValue rest l is all = cc
-        by (Some Items) Items rest l is all = all
-        by (Some Pairs) Pairs rest l is all = all
-        by (Some x) top rest l is all = cc
-
-    abbrev GoesOn : (after : List Expect) → Type 0
-    GoesOn = Goes (next_expected (transition_of top e) (Some top)
-        (innermost (map expects_in (open_after_event e kinds)))) (open_after_event e kinds)
-
-    goes_on : GoesOn new
-    goes_on = subst (λ o. IfSome o GoesOn)
-        (ap (λ c. changed c top rest) (sym changes) ∙ sym after ∙ is_new) (goes top rest e kinds inside)
+    pub can_take : CanContinue held e
+    can_take = can_continue _ e new is_new
 
     -- the event was buffered, and what is expected after it was computed
-    module _ {events : List PlainEvent} {c : Transition} {next : Option Expect} (m : events ≡ more)
-        (is : c ≡ change_on s.expects e)
+    module _ {events : List PlainEvent} {next : Option Expect}
+        (more : events ≡ held ++ without_length e ∷ [])
         (found : next ≡ next_expected c s.expects (innermost (expected_inside events))) where
       now_open : open_after events [] ≡ open_after_event e kinds
-      now_open = ap (λ l. open_after l []) m ∙ open_snoc held (without_length e) [] ∙ open_alike e kinds
+      now_open = ap (λ l. open_after l []) more ∙ open_snoc held (without_length e) []
+          ∙ open_alike e kinds
 
       is_next : next ≡ innermost new
       is_next = found
-          ∙ (λ i. next_expected ((is ∙ changes) i) (is_top i) (innermost (map expects_in (now_open i))))
-          ∙ goes_on.1
+          ∙ (λ i. next_expected (is i) s.expects (innermost (map expects_in (now_open i))))
+          ∙ went.2.1
 
       all_new : all_expected next (expected_inside events) ≡ new
-      all_new = (λ i. all_expected (is_next i) ((ap (map expects_in) now_open ∙ goes_on.0) i)) ∙ all_again new
+      all_new = (λ i. all_expected (is_next i) ((ap (map expects_in) now_open ∙ went.2.0) i))
+          ∙ all_again new
 
       pub expects_next : ExpectsNext events next
       expects_next = record {
-        all = ap expected_after m ∙ same_wants held e ∙ is_new ∙ ap Some (sym all_new);
+        all = ap expected_after more ∙ same_wants held e ∙ is_new ∙ ap Some (sym all_new);
         first = is_next ∙ ap innermost (sym all_new);
       }
 

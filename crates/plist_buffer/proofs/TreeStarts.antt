@@ -3,7 +3,7 @@ use Rattle.std.proofs.Common.{◌≡◌, ◌⊎◌, inl, inr, ℕ, ◌+◌, ◌-
 use Rattle.std.proofs.lemmas.List.{get_or-drop}
 use Rattle.plist_base.specs.Trees as trees
 use Rattle.plist_base.specs.Events.{PlainEvent, StartArray, StartDictionary, EndCollection, ScalarEvent}
-use Rattle.plist_base.specs.Trees.{Tree, Leaf, Array, Dictionary, Trees, NoTrees, TreeAnd, Members, NoMembers, MemberAnd}
+use Rattle.plist_base.specs.Trees.{Tree, Leaf, Array, Dictionary, Trees, Members}
 use Rattle.plist_buffer.specs.Occurrences.{event_count, OccursAt}
 use Rattle.plist_buffer.specs.EventTable.{is_end, event_at}
 use Rattle.plist_base.specs.declared.event.EventShape.{EventShape}

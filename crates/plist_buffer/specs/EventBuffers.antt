@@ -46,6 +46,11 @@ BuffersNext before event after =
     (buffered_events after ≡ buffered_events before ++ without_length event ∷ [])
     × TestsWhole (is_whole after) (buffered_events before ++ event ∷ [])
 
+-- the same events are buffered, and the same is expected next
+pub record BuffersSame (before after : EventBuffer) : Type 0 where
+  pub events : buffered_events after ≡ buffered_events before
+  pub expects : after.expects ≡ before.expects
+
 -- the event can't follow the buffered ones, and this is its fault
 abbrev pub IsMisplaced : (held : List PlainEvent) → PlainEvent → Fault → Type 0
 IsMisplaced held event fault = (CanContinue held event → ⊥) × (fault ≡ misplaced_fault held event)

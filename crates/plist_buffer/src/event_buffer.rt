@@ -111,14 +111,14 @@ fn next_expected(
 }
 
 impl EventBuffer {
-    ghost use Rattle.std.specs.Prelude.{◌≡◌, ◌⊎◌, ◌<◌, [], length, false, true, None, IfErr, IfSome, OnOk, OnErr};
+    ghost use Rattle.std.specs.Prelude.{◌≡◌, ◌≢◌, ◌<◌, [], length, false, true, None, IfErr, IfSome, OnOk, OnErr};
     ghost use Rattle.plist_base.specs.Events.{ScalarEvent, event_of};
     ghost use Rattle.plist_base.specs.PackedScalars.{IsUnpackable};
     ghost use Rattle.plist_base.specs.Trees.{String};
     ghost use Rattle.plist_base.specs.Utf16Strings.{string_of_utf16};
     ghost use Rattle.plist_base.specs.ByteTests.{EachByte};
     ghost use Rattle.plist_buffer.specs.StoredScalars.{event_of_small, scalar_of_long_ref};
-    ghost use Rattle.plist_buffer.specs.EventBuffers.{buffered_events, is_whole, misplaced_error, Accepts, BuffersNext, CanTake, RejectsEvent};
+    ghost use Rattle.plist_buffer.specs.EventBuffers.{buffered_events, is_whole, misplaced_error, Accepts, BuffersNext, BuffersSame, CanTake, RejectsEvent};
     ghost use Rattle.plist_buffer.specs.EventTable.{event_at, plain_events, table_event};
     ghost use Rattle.plist_buffer.specs.declared.expects.Transition.TheVariants.{Refused};
     ghost use Rattle.plist_buffer.specs.inner.Entries.{is_leaf};
@@ -162,8 +162,7 @@ impl EventBuffer {
     // Appends the scalars that wait to the table. If an allocation fails, some of them still wait.
     #[inline(never)]
     fn append_waiting(&mut self) -> Result<(), AllocError>
-        ensures events { buffered_events self.new ≡ buffered_events self.old }
-        ensures expects { self.new.expects ≡ self.old.expects }
+        ensures same { BuffersSame self.old self.new }
         ensures settled { OnOk result (self.new.waiting ≡ []) }
     {
         let appended = self.held.append_small(self.waiting.as_slice());
@@ -178,8 +177,7 @@ impl EventBuffer {
     // Appends the scalars that wait, if any, to the table.
     #[inline(always)]
     fn append_if_any(&mut self) -> Result<(), AllocError>
-        ensures events { buffered_events self.new ≡ buffered_events self.old }
-        ensures expects { self.new.expects ≡ self.old.expects }
+        ensures same { BuffersSame self.old self.new }
         ensures settled { OnOk result (self.new.waiting ≡ []) }
     {
         if self.waiting.is_empty() {
@@ -191,8 +189,7 @@ impl EventBuffer {
     // Appends the scalars that wait if there are `BATCH_SIZE`, so that another one can wait.
     #[inline(always)]
     fn append_if_full(&mut self) -> Result<(), AllocError>
-        ensures events { buffered_events self.new ≡ buffered_events self.old }
-        ensures expects { self.new.expects ≡ self.old.expects }
+        ensures same { BuffersSame self.old self.new }
         ensures below { OnOk result (length self.new.waiting < BATCH_SIZE) }
     {
         if self.waiting.is_full() {
@@ -201,32 +198,18 @@ impl EventBuffer {
         Ok(())
     }
 
-    // Buffers an item of an array, given its scalar. The item waits.
-    #[inline(always)]
-    fn add_waiting(&mut self, scalar: PackedScalar) -> Result<(), AllocError>
-        requires { self.old.expects ≡ Some Items }
-        ensures taken { OnOk result (BuffersNext self.old (event_of_small scalar) self.new) }
-        ensures unchanged { OnErr result (buffered_events self.new ≡ buffered_events self.old) }
-        ensures whole { OnErr result (is_whole self.new ≡ is_whole self.old) }
-    {
-        self.append_if_full()?;
-        self.waiting.push(scalar);
-        Ok(())
-    }
-
-    // Buffers a scalar that can follow the buffered events, given how it changes what is expected
-    // next.
+    // Buffers a scalar, given how it changes what is expected next. An item of an array waits.
     #[inline(always)]
     fn hold_scalar(&mut self, scalar: PackedScalar, change: Transition) -> Result<(), AllocError>
-        requires still { is_whole self.old ≡ false }
-        requires accepted { CanTake self.old (event_of_small scalar) }
         requires change { change ≡ change_on self.old.expects (event_of_small scalar) }
+        requires accepted { change ≢ Refused }
         ensures taken { OnOk result (BuffersNext self.old (event_of_small scalar) self.new) }
-        ensures unchanged { OnErr result (buffered_events self.new ≡ buffered_events self.old) }
-        ensures whole { OnErr result (is_whole self.new ≡ is_whole self.old) }
+        ensures same { OnErr result (BuffersSame self.old self.new) }
     {
         if let Transition::Kept = change {
-            return self.add_waiting(scalar);
+            self.append_if_full()?;
+            self.waiting.push(scalar);
+            return Ok(());
         }
         self.append_if_any()?;
         self.held.push_small(scalar)?;
@@ -234,8 +217,8 @@ impl EventBuffer {
         Ok(())
     }
 
-    // Buffers an event that isn't a scalar of at most eight bytes, and that can follow the buffered
-    // ones, given how it changes what is expected next.
+    // Buffers an event that isn't a scalar of at most eight bytes, given how it changes what is
+    // expected next.
     #[inline(always)]
     fn hold_large(
         &mut self,
@@ -243,13 +226,11 @@ impl EventBuffer {
         event: Event<'_>,
         change: Transition,
     ) -> Result<(), AllocError>
-        requires still { is_whole self.old ≡ false }
-        requires accepted { CanTake self.old (event_of event) }
         requires change { change ≡ change_on self.old.expects (event_of event) }
+        requires accepted { change ≢ Refused }
         requires large { IsUnpackable (event_of event) }
         ensures taken { OnOk result (BuffersNext self.old (event_of event.entry) self.new) }
-        ensures unchanged { OnErr result (buffered_events self.new ≡ buffered_events self.old) }
-        ensures whole { OnErr result (is_whole self.new ≡ is_whole self.old) }
+        ensures same { OnErr result (BuffersSame self.old self.new) }
     {
         self.append_if_any()?;
         self.held.push_copy(alloc, event)?;
@@ -257,30 +238,8 @@ impl EventBuffer {
         Ok(())
     }
 
-    // Buffers an event that can follow the buffered ones, given how it changes what is expected
+    // Buffers a string or data of more than eight bytes, given how it changes what is expected
     // next.
-    #[inline(always)]
-    fn hold(
-        &mut self,
-        alloc: Global,
-        event: Event<'_>,
-        change: Transition,
-    ) -> Result<(), AllocError>
-        requires still { is_whole self.old ≡ false }
-        requires accepted { CanTake self.old (event_of event) }
-        requires change { change ≡ change_on self.old.expects (event_of event) }
-        ensures taken { OnOk result (BuffersNext self.old (event_of event.entry) self.new) }
-        ensures unchanged { OnErr result (buffered_events self.new ≡ buffered_events self.old) }
-        ensures whole { OnErr result (is_whole self.new ≡ is_whole self.old) }
-    {
-        match PackedScalar::of_event(&event) {
-            Some(scalar) => self.hold_scalar(scalar, change),
-            None => self.hold_large(alloc, event, change),
-        }
-    }
-
-    // Buffers a string or data of more than eight bytes that can follow the buffered events, given
-    // how it changes what is expected next.
     #[inline(always)]
     fn hold_long(
         &mut self,
@@ -288,14 +247,12 @@ impl EventBuffer {
         scalar: LongRef<'_>,
         change: Transition,
     ) -> Result<(), AllocError>
-        requires still { is_whole self.old ≡ false }
-        requires accepted { CanTake self.old (ScalarEvent (scalar_of_long_ref scalar)) }
         requires change { change
             ≡ change_on self.old.expects (ScalarEvent (scalar_of_long_ref scalar)) }
+        requires accepted { change ≢ Refused }
         ensures taken { OnOk result (BuffersNext self.old
             (ScalarEvent (scalar_of_long_ref scalar.entry)) self.new) }
-        ensures unchanged { OnErr result (buffered_events self.new ≡ buffered_events self.old) }
-        ensures whole { OnErr result (is_whole self.new ≡ is_whole self.old) }
+        ensures same { OnErr result (BuffersSame self.old self.new) }
     {
         self.append_if_any()?;
         self.held.copy_long(alloc, scalar)?;
@@ -308,8 +265,7 @@ impl EventBuffer {
     #[inline(always)]
     fn change_by_earlier(&self, index: usize) -> Transition
         requires { index < length (plain_events self.now.held) }
-        ensures { result ≡ Refused
-            ⊎ (is_leaf (table_event self.now.held index) ≡ true)
+        ensures { result ≢ Refused → (is_leaf (table_event self.now.held index) ≡ true)
             × (result ≡ change_on self.now.expects (table_event self.now.held index)) }
     {
         if let EventShape::Scalar = self.held.kind_at(index) {
@@ -323,26 +279,6 @@ impl EventBuffer {
             };
         }
         Transition::Refused
-    }
-
-    // Buffers the scalar at an index of the table once more, given how it changes what is expected
-    // next.
-    #[inline(always)]
-    fn hold_earlier(&mut self, index: usize, change: Transition) -> Result<(), AllocError>
-        requires still { is_whole self.old ≡ false }
-        requires settled { self.old.waiting ≡ [] }
-        requires within { index < length (plain_events self.old.held) }
-        requires leaf { is_leaf (table_event self.old.held index) ≡ true }
-        requires accepted { CanTake self.old (table_event self.old.held index) }
-        requires change { change ≡ change_on self.old.expects (table_event self.old.held index) }
-        ensures taken { OnOk result (BuffersNext self.old (table_event self.old.held index)
-            self.new) }
-        ensures unchanged { OnErr result (buffered_events self.new ≡ buffered_events self.old) }
-        ensures whole { OnErr result (is_whole self.new ≡ is_whole self.old) }
-    {
-        self.held.repeat_at(index)?;
-        self.expects = next_expected(change, self.expects, &self.held);
-        Ok(())
     }
 
     /// Buffers the scalar of an earlier event once more, given the index of that event, if it can
@@ -370,8 +306,11 @@ impl EventBuffer {
         if let Transition::Refused = change {
             return None;
         }
-        match self.hold_earlier(index, change) {
-            Ok(()) => Some(Ok(())),
+        match self.held.repeat_at(index) {
+            Ok(()) => {
+                self.expects = next_expected(change, self.expects, &self.held);
+                Some(Ok(()))
+            }
             Err(error) => Some(Err(PushError::from(error))),
         }
     }
@@ -385,9 +324,7 @@ impl EventBuffer {
         scalar: LongRef<'_>,
         change: Transition,
     ) -> Option<Result<(), PushError>>
-        requires still { is_whole self.old ≡ false }
-        requires change { change
-            ≡ change_on self.old.expects (ScalarEvent (scalar_of_long_ref scalar)) }
+        requires { change ≡ change_on self.old.expects (ScalarEvent (scalar_of_long_ref scalar)) }
         ensures taken { IfSome result (λ answer. OnOk answer (Accepts self.old
             (ScalarEvent (scalar_of_long_ref scalar.entry)) self.new)) }
         ensures refused { IfSome result (λ answer. IfErr answer (RejectsEvent self.old
@@ -490,16 +427,14 @@ impl EventBuffer {
         ensures refused { IfErr result (RejectsEvent self.old (event_of event.entry) self.new) }
     {
         let change = change_on(self.expects, &event);
-        match change {
-            Transition::Refused => Err(self.error_of_kind(EventKind::of_event(&event))),
-            Transition::Closed
-            | Transition::Kept
-            | Transition::Pushed(_)
-            | Transition::Replaced(_) => {
-                self.hold(alloc, event, change)?;
-                Ok(())
-            }
+        if let Transition::Refused = change {
+            return Err(self.error_of_kind(EventKind::of_event(&event)));
         }
+        match PackedScalar::of_event(&event) {
+            Some(scalar) => self.hold_scalar(scalar, change)?,
+            None => self.hold_large(alloc, event, change)?,
+        }
+        Ok(())
     }
 
     /// Returns the number of buffered events.

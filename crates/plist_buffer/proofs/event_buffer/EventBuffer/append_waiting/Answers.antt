@@ -1,6 +1,5 @@
-use Rattle.std.proofs.Common.{sym, subst, arith, ap, length}
+use Rattle.std.proofs.Common.{refl, sym, subst, arith, ap, length}
 use Rattle.std.proofs.lemmas.List.{length-drop}
-use Rattle.plist_buffer.specs.EventTable.{plain_events}
 use Rattle.plist_buffer.specs.inner.Expected.{ExpectsNext}
 use Rattle.plist_buffer.proofs.BufferedEvents.{still_buffered}
 use Rattle.plist_buffer.proofs.event_buffer.EventBuffer.append_waiting.Goals as goal
@@ -8,8 +7,7 @@ use Rattle.plist_buffer.proofs.event_buffer.EventBuffer.append_waiting.Goals as 
 pub invariant_of-self : goal.invariant_of-self
 invariant_of-self c =
     let s = c.args.self.now in
-    let count = c.append_small-appended.result in
-    let same = still_buffered (plain_events s.held) count c.as_slice.ensures.scalars c.append_small-appended.ensures.events
+    let same = still_buffered s.held _ c.as_slice.ensures.scalars c.append_small-appended.ensures.events
     c.remove_first.ensures in
     record {
       wanted = subst (λ events. ExpectsNext events s.expects) (sym same) s.wanted;
@@ -17,11 +15,13 @@ invariant_of-self c =
         arith,
         more,
         ap length c.remove_first.ensures,
-        length-drop count s.waiting,
+        length-drop c.append_small-appended.result s.waiting,
       ));
     }
 
-pub returns-else-is_empty-clause-events : goal.returns-else-is_empty-clause-events
-returns-else-is_empty-clause-events c =
-    still_buffered (plain_events c.args.self.now.held) c.append_small-appended.result c.as_slice.ensures.scalars
-    c.append_small-appended.ensures.events c.remove_first.ensures
+pub returns-else-is_empty-clause-same : goal.returns-else-is_empty-clause-same
+returns-else-is_empty-clause-same c = record {
+  events = still_buffered c.args.self.now.held _ c.as_slice.ensures.scalars
+      c.append_small-appended.ensures.events c.remove_first.ensures;
+  expects = refl;
+}

@@ -1,25 +1,14 @@
-use Rattle.std.proofs.Common.{arith, ap, length}
-use Rattle.plist_base.specs.Events.{event_of}
 use Rattle.plist_buffer.proofs.BufferedEvents.{after_appending}
 use Rattle.plist_buffer.proofs.event_buffer.EventBuffer.hold_large.Goals as goal
 
 pub invariant_of-self-2 : goal.invariant_of-self-2
 invariant_of-self-2 c =
-    let settled = c.append_if_any.ensures in
-    let next = after_appending c.args.self.now c.append_if_any.new.self settled.events settled.expects
-    (event_of c.args.event) c.in_ok-append_if_any.ensures.settled c.requires.still
-    c.requires.accepted c.in_ok-push_copy.ensures.events
-    c.requires.change c.next_expected-self.ensures in
-    record {
-      wanted = next.expects;
-      items = λ more. absurd (omega (arith, more, ap length c.in_ok-append_if_any.ensures.settled));
-    }
+    (after_appending _ _ c.append_if_any.ensures.same _ c.requires.change c.requires.accepted
+    c.in_ok-append_if_any.ensures.settled c.in_ok-push_copy.ensures.events
+    c.next_expected-self.ensures).kept
 
 pub returns-clause-taken : goal.returns-clause-taken
 returns-clause-taken c =
-    let settled = c.append_if_any.ensures in
-    let next = after_appending c.args.self.now c.append_if_any.new.self settled.events settled.expects
-    (event_of c.args.event) c.in_ok-append_if_any.ensures.settled c.requires.still
-    c.requires.accepted c.in_ok-push_copy.ensures.events
-    c.requires.change c.next_expected-self.ensures in
-    (next.more, next.whole)
+    (after_appending _ _ c.append_if_any.ensures.same _ c.requires.change c.requires.accepted
+    c.in_ok-append_if_any.ensures.settled c.in_ok-push_copy.ensures.events
+    c.next_expected-self.ensures).taken
