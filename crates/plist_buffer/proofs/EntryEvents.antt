@@ -23,7 +23,7 @@ use Rattle.plist_buffer.specs.inner.Entries.{AreDistinct, ScalarLists, all_scala
 use Rattle.plist_buffer.specs.inner.UnclosedStarts.{unclosed_after_event, unclosed_after, skip_after_event, skip_after, without_innermost}
 use Rattle.plist_buffer.proofs.Changes.{at_set, at_more}
 use Rattle.plist_buffer.proofs.Columns.{indexed, unnamed}
-use Rattle.plist_buffer.proofs.SetKeys.{first_of_both, second_of_both}
+use Rattle.plist_buffer.proofs.SetKeys.{first_of_both, old_or_last, second_of_both}
 use Rattle.plist_buffer.proofs.OpenStarts as opened
 use Rattle.plist_buffer.proofs.OpenStarts.{open_more, skip_more, skip_forward, innermost_starts}
 
@@ -268,16 +268,6 @@ module _ {scalars : ScalarLists} {es : List EventEntry} {unclosed : List ℕ}
     sound_ended p lt =
         at_more es _ _ p (λ d. is_sound scalars d ≡ true) lt (λ d. refl) (t.sound p)
 
-    closing_behind : (e : EventEntry) (n : ℕ) → is_sound scalars e ≡ true
-        → opened.is_start (event_of_entry scalars e) ≡ true → index_after_entry start (closed_at e n) ≡ n
-    closing_behind (entry.Array following) n h s = refl
-    closing_behind (entry.Dictionary following) n h s = refl
-    closing_behind (entry.Scalar i) n h s =
-        let f = leaf_is _ h in
-        let never : opened.is_start (without_length (event_numbered scalars i))
-        ≡ false = rw f.1 refl in cc
-    closing_behind entry.End n h s = cc
-
     start_of : (e : EventEntry) → is_sound scalars e ≡ true
         → opened.is_start (event_of_entry scalars e) ≡ true → is_start e ≡ true
     start_of (entry.Scalar i) h s =
@@ -292,6 +282,14 @@ module _ {scalars : ScalarLists} {es : List EventEntry} {unclosed : List ℕ}
         start_of (entry_at es start) (t.sound start start_within)
         (ap opened.is_start (sym (shown_at start start_within)) ∙ was_start)
 
+    closing_behind : index_after_entry start closing ≡ length es + 1
+    closing_behind = by _ (ap is_start (entry_before es entry.End start start_within) ∙ start_stored)
+      where
+        by : (e : EventEntry) {n : ℕ} → is_start e ≡ true → index_after_entry start (closed_at e n) ≡ n
+        by (entry.Array following) h = refl
+        by (entry.Dictionary following) h = refl
+        by e h = cc
+
     entries_end : AreEntriesOf scalars (ended_at es start) outer
     entries_end =
         entries_by (ended_at es start) outer EndCollection end_shown
@@ -302,10 +300,7 @@ module _ {scalars : ScalarLists} {es : List EventEntry} {unclosed : List ℕ}
         (sym (ap without_innermost unclosed_is))
         (λ p lt. rw unclosed_is (at_set ended start closing entry.End p
         (λ d. index_after_entry p d ≡ (if eqb p start then length es + 1 else index_after_at es p)) within
-        (λ d. ap (λ k. index_after_entry k closing) d
-        ∙ closing_behind (entry_at ended start) (length es + 1) (sound_ended start within)
-        (ap opened.is_start (ap (event_of_entry scalars) (entry_before es entry.End start start_within)
-        ∙ sym (shown_at start start_within)) ∙ was_start)
+        (λ d. ap (λ k. index_after_entry k closing) d ∙ closing_behind
         ∙ sym (ap (λ b. if b then length es + 1 else index_after_at es p) (eq-eqb p start d)))
         (λ d. ap (index_after_entry p) (entry_before es entry.End p lt)
         ∙ sym (ap (λ b. if b then length es + 1 else index_after_at es p) (ne_eqb p start d)))))
@@ -328,26 +323,57 @@ pub either : {T E : Type 0} (r : Result T E) {es more now : List EventEntry} (P 
 either (Ok x) P is same new old = rw is new
 either (Err x) P is same new old = rw same old
 
+-- the lists with one more scalar
+abbrev pub with_scalar : ScalarLists → ScalarNumber → PlainEvent → ScalarLists
+with_scalar scalars (Small i) e =
+    record { small = scalars.small ++ e ∷ []; long = scalars.long }
+with_scalar scalars (Long i) e =
+    record { small = scalars.small; long = scalars.long ++ e ∷ [] }
+
 -- after a call that stored the scalar e unless it was there, it has this number
 pub record Grown (old new : ScalarLists) (number : ScalarNumber) (e : PlainEvent) : Type 0 where
-  pub keeps : KeepsScalars old new
+  pub was : (new ≡ old) ⊎ (new ≡ with_scalar old number e)
   pub stored : scalar_numbered new number ≡ Some e
   pub apart : AreDistinct (all_scalars new)
-  pub came : (other : ScalarNumber) (d : PlainEvent) → scalar_numbered new other ≡ Some d
-      → (scalar_numbered old other ≡ Some d) ⊎ (scalar_numbered new other ≡ Some e)
-  pub one : length new.small + length new.long ≤ length old.small + length old.long + 1
 
--- a scalar that was there has its number
-grown_none : (scalars : ScalarLists) (number : ScalarNumber) (e : PlainEvent)
-    → AreDistinct (all_scalars scalars) → scalar_numbered scalars number ≡ Some e
-    → Grown scalars scalars number e
-grown_none scalars number e apart stored = record {
-  keeps = λ other d h. h;
-  stored = stored;
-  apart = apart;
-  came = λ other d h. inl h;
-  one = omega arith;
-}
+module _ {old new : ScalarLists} {number : ScalarNumber} {e : PlainEvent}
+    (grown : Grown old new number e) where
+  pub keeps : KeepsScalars old new
+  keeps n d h = elim grown.was [ inl same ↦ rw same h | inr more ↦ rw more (by number n h) ]
+    where
+      by : (m n : ScalarNumber) → scalar_numbered old n ≡ Some d
+          → scalar_numbered (with_scalar old m e) n ≡ Some d
+      by (Small i) (Small j) h = first_of_both old.small (e ∷ []) j d h
+      by (Long i) (Long j) h = first_of_both old.long (e ∷ []) j d h
+      by (Small i) (Long j) h = h
+      by (Long i) (Small j) h = h
+
+  -- each scalar was there, or is the new one
+  came : (n : ScalarNumber) (d : PlainEvent) → scalar_numbered new n ≡ Some d
+      → (scalar_numbered old n ≡ Some d) ⊎ (d ≡ e)
+  came n d h = elim grown.was [
+    | inl same ↦ inl (rw same at h)
+    | inr more ↦ by number n (rw more at h)
+  ]
+    where
+      by : (m n : ScalarNumber) → scalar_numbered (with_scalar old m e) n ≡ Some d
+          → (scalar_numbered old n ≡ Some d) ⊎ (d ≡ e)
+      by (Small i) (Small j) h = old_or_last old.small e j d h
+      by (Long i) (Long j) h = old_or_last old.long e j d h
+      by (Small i) (Long j) h = inl h
+      by (Long i) (Small j) h = inl h
+
+  few_more : length new.small + length new.long ≤ length old.small + length old.long + 1
+  few_more = elim grown.was [
+    | inl same ↦ rw same (omega arith)
+    | inr more ↦ rw more (by number)
+  ]
+    where
+      by : (m : ScalarNumber)
+          → length (with_scalar old m e).small + length (with_scalar old m e).long
+          ≤ length old.small + length old.long + 1
+      by (Small i) = omega (arith, length-append old.small (e ∷ []))
+      by (Long i) = omega (arith, length-append old.long (e ∷ []))
 
 module _ {scalars : ScalarLists} {es : List EventEntry} {unclosed : List ℕ}
     (kept : IsValidTable scalars es unclosed) where
@@ -355,26 +381,21 @@ module _ {scalars : ScalarLists} {es : List EventEntry} {unclosed : List ℕ}
       → scalar_numbered scalars i ≡ Some d → list_any (names i) (es ++ e ∷ []) ≡ true
   still_used e i d h = named_more i es e (kept.used i d h)
 
-  still_fewer : (e : EventEntry)
-      → length scalars.small + length scalars.long ≤ length (es ++ e ∷ [])
-  still_fewer e = omega (arith, kept.fewer, length-append es (e ∷ []))
+  kept_more : (e : EventEntry) {after : List ℕ} → AreEntriesOf scalars (es ++ e ∷ []) after
+      → IsValidTable scalars (es ++ e ∷ []) after
+  kept_more e entries_are = record {
+    apart = kept.apart;
+    used = still_used e;
+    fewer = omega (arith, kept.fewer, length-append es (e ∷ []));
+    entries_are = entries_are;
+  }
 
   pub kept_start : (e : EventEntry) → is_start e ≡ true → index_after_entry (length es) e ≡ length es + 1
       → IsValidTable scalars (es ++ e ∷ []) (unclosed ++ length es ∷ [])
-  kept_start e starts following = record {
-    apart = kept.apart;
-    used = still_used e;
-    fewer = still_fewer e;
-    entries_are = entries_start kept.entries_are e starts following;
-  }
+  kept_start e starts following = kept_more e (entries_start kept.entries_are e starts following)
 
   pub kept_stray : unclosed ≡ [] → IsValidTable scalars (es ++ entry.End ∷ []) []
-  kept_stray none = record {
-    apart = kept.apart;
-    used = still_used entry.End;
-    fewer = still_fewer entry.End;
-    entries_are = entries_stray kept.entries_are none;
-  }
+  kept_stray none = kept_more entry.End (entries_stray kept.entries_are none)
 
   pub kept_end : (start : ℕ) (outer : List ℕ) → unclosed ≡ outer ++ start ∷ []
       → IsValidTable scalars (ended_at es start) outer
@@ -383,7 +404,8 @@ module _ {scalars : ScalarLists} {es : List EventEntry} {unclosed : List ℕ}
     used = λ i d h. closing_used kept.entries_are start outer is i ∙ still_used entry.End i d h;
     fewer = omega (
       arith,
-      still_fewer entry.End,
+      kept.fewer,
+      length-append es (entry.End ∷ []),
       length-set (es ++ entry.End ∷ []) start (closed_at (entry_at (es ++ entry.End ∷ []) start)
           (length es + 1)),
     );
@@ -394,7 +416,7 @@ module _ {scalars : ScalarLists} {es : List EventEntry} {unclosed : List ℕ}
   module _ {new : ScalarLists} {i : ScalarNumber} {e : PlainEvent} (leaf : is_leaf e ≡ true)
       (grown : Grown scalars new i e) where
     grown_shown : events_of_entries new es ≡ events_of_entries scalars es
-    grown_shown = shown_kept scalars new grown.keeps es kept.entries_are.sound
+    grown_shown = shown_kept scalars new (keeps grown) es kept.entries_are.sound
 
     at : event_numbered new i ≡ e
     at = numbered_is new i e grown.stored
@@ -418,14 +440,15 @@ module _ {scalars : ScalarLists} {es : List EventEntry} {unclosed : List ℕ}
     pub kept_scalar : IsValidTable new (es ++ entry.Scalar i ∷ []) unclosed
     kept_scalar = record {
       apart = grown.apart;
-      used = λ j d h. elim (grown.came j d h) [
+      used = λ j d h. elim (came grown j d h) [
         | inl a ↦ still_used (entry.Scalar i) j d a
-        | inr b ↦ subst (λ n. list_any (names n) (es ++ entry.Scalar i ∷ []) ≡ true) (only j b) refers
+        | inr b ↦ subst (λ n. list_any (names n) (es ++ entry.Scalar i ∷ []) ≡ true)
+            (only j (h ∙ ap Some b)) refers
       ];
-      fewer = omega (arith, grown.one, kept.fewer, length-append es (entry.Scalar i ∷ []));
+      fewer = omega (arith, few_more grown, kept.fewer, length-append es (entry.Scalar i ∷ []));
       entries_are = entries_scalar
           (record {
-            sound = λ p lt. (one_kept scalars new grown.keeps (entry_at es p)
+            sound = λ p lt. (one_kept scalars new (keeps grown) (entry_at es p)
                 (kept.entries_are.sound p lt)).0;
             starts = kept.entries_are.starts ∙ ap unclosed_after (sym grown_shown);
             skips = λ p lt. kept.entries_are.skips p lt ∙ ap (λ l. skip_after l p) (sym grown_shown);
@@ -439,7 +462,7 @@ module _ {scalars : ScalarLists} {es : List EventEntry} {unclosed : List ℕ}
       → IsValidTable scalars now unclosed
   kept_repeated i leaf r pushed same =
       either r (λ l. IsValidTable scalars l unclosed) pushed same
-      (kept_scalar leaf (grown_none scalars i _ kept.apart (leaf_stored scalars i leaf))) kept
+      (kept_more (entry.Scalar i) (entries_scalar kept.entries_are i leaf)) kept
 
   -- ---- what is read of an entry
 

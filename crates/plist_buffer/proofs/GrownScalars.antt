@@ -1,18 +1,19 @@
 -- The scalars of a table after one was inserted into one of its two sets.
-use Rattle.std.proofs.Common.{◌≡◌, ◌⊎◌, inl, ℕ, Bool, true, if◌then◌else◌, List, [], ◌∷◌, ◌++◌, map, Some, sym, ◌∙◌, arith}
+use Rattle.std.proofs.Common.{◌≡◌, ◌⊎◌, inl, inr, ℕ, Bool, true, if◌then◌else◌, List, [], ◌∷◌, ◌++◌, map, Some, sym, ap, ◌∙◌}
 use Rattle.std.specs.Prelude.{slice_get}
 use Rattle.std.specs.List.{IsDistinct}
 use Rattle.plist_base.specs.Events.{PlainEvent}
 use Rattle.plist_base.specs.PackedScalars.{packed_eq}
-use Rattle.plist_buffer.specs.StoredScalars.{event_of_small, event_of_long}
-use Rattle.plist_buffer.specs.declared.entries.ScalarNumber.{ScalarNumber}
+use Rattle.plist_buffer.specs.EventTable.{lists_in}
+use Rattle.plist_buffer.specs.StoredScalars.{event_of_small, event_of_long, events_of_small}
+use Rattle.plist_buffer.specs.declared.event_table.EventTable.{EventTable}
 use Rattle.plist_buffer.specs.declared.entries.ScalarNumber.TheVariants.{Small, Long}
 use Rattle.plist_buffer.specs.declared.long_scalar.LongScalar.{LongScalar}
 use Rattle.plist_base.specs.declared.packed_scalar.PackedScalar.{PackedScalar}
-use Rattle.plist_buffer.specs.inner.Entries.{AreDistinct, all_scalars, lists_of, scalar_numbered}
+use Rattle.plist_buffer.specs.inner.Entries.{AreDistinct, ScalarLists, all_scalars, lists_of}
 use Rattle.plist_buffer.proofs.EntryEvents.{Grown}
 use Rattle.plist_buffer.proofs.SameScalars.{small_same, same_small, long_eq, long_same, same_long, small_or_long}
-use Rattle.plist_buffer.proofs.SetKeys.{distinct_both, distinct_first, distinct_second, key_at, keys_apart, keys_extend, keys_from, keys_grow, mapped}
+use Rattle.plist_buffer.proofs.SetKeys.{distinct_both, distinct_first, distinct_second, grown, key_at, keys_apart, mapped}
 
 -- no scalar is in both sets
 never_both : (small : List PackedScalar) (long : List LongScalar) (i j : ℕ) (e : PlainEvent)
@@ -31,56 +32,34 @@ both_apart small long first second =
     distinct_both (map event_of_small small) (map event_of_long long) first second
     (never_both small long)
 
+-- a scalar was added to one of the two lists, or to neither
+added : {a b c : List PlainEvent} (lists : List PlainEvent → ScalarLists)
+    → (a ≡ b) ⊎ (a ≡ c) → (lists a ≡ lists b) ⊎ (lists a ≡ lists c)
+added lists (inl is) = inl (ap lists is)
+added lists (inr is) = inr (ap lists is)
+
 -- a small scalar was inserted, unless it was there
-module _ (old new : List PackedScalar) (long : List LongScalar) (x : PackedScalar) (b : Bool)
-    (is : new ≡ (if b then old else old ++ x ∷ []))
-    (apart : AreDistinct (all_scalars (lists_of old long))) (unique : IsDistinct packed_eq new) where
-  small_kept : (n : ScalarNumber) (d : PlainEvent)
-      → scalar_numbered (lists_of old long) n ≡ Some d → scalar_numbered (lists_of new long) n ≡ Some d
-  small_kept (Small j) d p = keys_extend packed_eq event_of_small b old new x is j d p
-  small_kept (Long j) d p = p
-
-  small_came : (n : ScalarNumber) (d : PlainEvent) → scalar_numbered (lists_of new long) n ≡ Some d
-      → (scalar_numbered (lists_of old long) n ≡ Some d)
-      ⊎ (scalar_numbered (lists_of new long) n ≡ Some (event_of_small x))
-  small_came (Small j) d p = keys_from packed_eq event_of_small b old new x is j d p
-  small_came (Long j) d p = inl p
-
-  pub grown_small : (i : ℕ)
-      → (y : PackedScalar) × (slice_get new i ≡ Some y) × (packed_eq x y ≡ true)
-      → Grown (lists_of old long) (lists_of new long) (Small i) (event_of_small x)
-  grown_small i h = record {
-    keeps = small_kept;
-    stored = key_at packed_eq event_of_small new i x h.0 (small_same x h.0) h.1 h.2;
-    apart = both_apart new long (keys_apart packed_eq event_of_small same_small new unique)
-        (distinct_second _ _ apart);
-    came = small_came;
-    one = omega (arith, (keys_grow packed_eq event_of_small b old new x is).1);
-  }
+pub grown_small : (held : EventTable) {new : List PackedScalar} (x : PackedScalar) (b : Bool)
+    → new ≡ (if b then held.small.keys else held.small.keys ++ x ∷ []) → IsDistinct packed_eq new
+    → (i : ℕ) → (y : PackedScalar) × (slice_get new i ≡ Some y) × (packed_eq x y ≡ true)
+    → Grown (lists_in held) (lists_of new held.long.keys) (Small i) (event_of_small x)
+grown_small held {new} x b is unique i (y, here, same) = record {
+  was = added (λ small. record { small = small; long = map event_of_long held.long.keys })
+      (grown packed_eq event_of_small b held.small.keys new x is);
+  stored = key_at packed_eq event_of_small new i x y (small_same x y) here same;
+  apart = both_apart new held.long.keys (keys_apart packed_eq event_of_small same_small new unique)
+      (distinct_second _ _ held.kept.apart);
+}
 
 -- a long scalar was inserted, unless it was there
-module _ (small : List PackedScalar) (old new : List LongScalar) (x : LongScalar) (b : Bool)
-    (is : new ≡ (if b then old else old ++ x ∷ []))
-    (apart : AreDistinct (all_scalars (lists_of small old))) (unique : IsDistinct long_eq new) where
-  long_kept : (n : ScalarNumber) (d : PlainEvent)
-      → scalar_numbered (lists_of small old) n ≡ Some d → scalar_numbered (lists_of small new) n ≡ Some d
-  long_kept (Long j) d p = keys_extend long_eq event_of_long b old new x is j d p
-  long_kept (Small j) d p = p
-
-  long_came : (n : ScalarNumber) (d : PlainEvent) → scalar_numbered (lists_of small new) n ≡ Some d
-      → (scalar_numbered (lists_of small old) n ≡ Some d)
-      ⊎ (scalar_numbered (lists_of small new) n ≡ Some (event_of_long x))
-  long_came (Long j) d p = keys_from long_eq event_of_long b old new x is j d p
-  long_came (Small j) d p = inl p
-
-  pub grown_long : (i : ℕ)
-      → (y : LongScalar) × (slice_get new i ≡ Some y) × (long_eq x y ≡ true)
-      → Grown (lists_of small old) (lists_of small new) (Long i) (event_of_long x)
-  grown_long i h = record {
-    keeps = long_kept;
-    stored = key_at long_eq event_of_long new i x h.0 (long_same x h.0) h.1 h.2;
-    apart = both_apart small new (distinct_first _ _ apart)
-        (keys_apart long_eq event_of_long same_long new unique);
-    came = long_came;
-    one = omega (arith, (keys_grow long_eq event_of_long b old new x is).1);
-  }
+pub grown_long : (held : EventTable) {new : List LongScalar} (x : LongScalar) (b : Bool)
+    → new ≡ (if b then held.long.keys else held.long.keys ++ x ∷ []) → IsDistinct long_eq new
+    → (i : ℕ) → (y : LongScalar) × (slice_get new i ≡ Some y) × (long_eq x y ≡ true)
+    → Grown (lists_in held) (lists_of held.small.keys new) (Long i) (event_of_long x)
+grown_long held {new} x b is unique i (y, here, same) = record {
+  was = added (λ long. record { small = events_of_small held.small.keys; long = long })
+      (grown long_eq event_of_long b held.long.keys new x is);
+  stored = key_at long_eq event_of_long new i x y (long_same x y) here same;
+  apart = both_apart held.small.keys new (distinct_first _ _ held.kept.apart)
+      (keys_apart long_eq event_of_long same_long new unique);
+}

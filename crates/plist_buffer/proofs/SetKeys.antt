@@ -1,11 +1,11 @@
 -- Keys of a set: equal keys have the same view.
-use Rattle.std.proofs.Common.{◌≡◌, ◌⊎◌, inl, inr, ℕ, zero, suc, ◌+◌, ◌<◌, ◌≤◌, Bool, true, false, if◌then◌else◌, List, [], ◌∷◌, ◌++◌, length, map, take, position, Option, None, Some, refl, sym, ap, ◌∙◌, subst, arith, append-nil}
+use Rattle.std.proofs.Common.{◌≡◌, ◌⊎◌, inl, inr, ℕ, zero, suc, ◌+◌, ◌<◌, Bool, true, false, if◌then◌else◌, List, [], ◌∷◌, ◌++◌, length, map, take, position, Option, None, Some, refl, sym, ap, ◌∙◌, subst, arith, append-nil}
 use Rattle.std.proofs.Math.Seq.{take-append_seam, take-length}
-use Rattle.std.proofs.lemmas.List.{length-append, map-append}
+use Rattle.std.proofs.lemmas.List.{map-append}
 use Rattle.std.proofs.lemmas.List.Quantifiers.{position-Some}
 use Rattle.std.specs.Prelude.{slice_get, IfSome}
 use Rattle.std.specs.List.{AllByRecursion, IsDistinct}
-use Rattle.std.proofs.lemmas.Option.{slice_get-map, slice_get-get_or, slice_get_within}
+use Rattle.std.proofs.lemmas.Option.{slice_get-map, slice_get-get_or}
 use Rattle.plist_buffer.specs.inner.Entries.{AreDistinct}
 
 module _ {T P : Type 0} (same : T → T → Bool) (view : T → P) where
@@ -17,7 +17,7 @@ module _ {T P : Type 0} (same : T → T → Bool) (view : T → P) where
       cc (slice_get-map view cs i, same_key s)
 
   -- after an insert there is at most one more key
-  grown : (b : Bool) (old new : List T) (x : T) → new ≡ (if b then old else old ++ x ∷ [])
+  pub grown : (b : Bool) (old new : List T) (x : T) → new ≡ (if b then old else old ++ x ∷ [])
       → (map view new ≡ map view old) ⊎ (map view new ≡ map view old ++ view x ∷ [])
   grown true old new x e = inl (ap (map _) e)
   grown false old new x e = inr (cc (map-append view old (x ∷ [])))
@@ -41,15 +41,6 @@ module _ {T P : Type 0} (same : T → T → Bool) (view : T → P) where
         front (y ∷ xs) ys zero h = refl
         front (y ∷ xs) ys (suc i) h = front xs ys i (omega arith)
 
-    pub keys_grow : (length (map view old) ≤ length (map view new))
-        × (length (map view new) ≤ length (map view old) + 1)
-    keys_grow =
-        let one = length-append (map view old) (view x ∷ []) in
-        elim (grown b old new x e) [
-          | inl s ↦ let n = ap length s in (omega (arith, n), omega (arith, n))
-          | inr g ↦ let n = ap length g in (omega (arith, n, one), omega (arith, n, one))
-        ]
-
     -- a key is one of those before, or the one that was inserted
     pub key_came : (i : ℕ) → i < length (map view new)
         → (i < length (map view old)) ⊎ (slice_get (map view new) i ≡ Some (view x))
@@ -68,19 +59,6 @@ module _ {T P : Type 0} (same : T → T → Bool) (view : T → P) where
           | inr r ↦ inr r
         ]
 
-    -- no key is lost
-    pub keys_extend : (i : ℕ) (k : P) → slice_get (map view old) i ≡ Some k
-        → slice_get (map view new) i ≡ Some k
-    keys_extend i k h = keys_kept i (slice_get_within (map view old) i k h) ∙ h
-
-    -- a key was there, or it is the inserted one
-    pub keys_from : (i : ℕ) (k : P) → slice_get (map view new) i ≡ Some k
-        → (slice_get (map view old) i ≡ Some k) ⊎ (slice_get (map view new) i ≡ Some (view x))
-    keys_from i k h = elim (key_came i (slice_get_within (map view new) i k h)) [
-      | inl l ↦ inl (sym (keys_kept i l) ∙ h)
-      | inr r ↦ inr r
-    ]
-
   -- if keys that are the same as x have its view, the key that is found for x has it
   pub key_found : (x : T) → ((y : T) → same x y ≡ true → view x ≡ view y) → (cs : List T)
       (found : Option ℕ) → found ≡ position (same x) cs
@@ -94,17 +72,6 @@ module _ {T P : Type 0} (same : T → T → Bool) (view : T → P) where
         slice_get-get_or (d ∷ cs) i d f.0,
         same_key _ f.1,
       )
-
-  -- the key with a number has the view that is stored with this number
-  pub key_read : (cs : List T) (i : ℕ) (x : T) (shown : P) → slice_get (map view cs) i ≡ Some shown
-      → Some x ≡ slice_get cs i → shown ≡ view x
-  key_read cs i x shown stored found = cc (slice_get-map view cs i, stored, found)
-
-  -- if the inserted key is removed, the keys are the old ones
-  pub keys_back : (b : Bool) (old new : List T) (x : T) → new ≡ (if b then old else old ++ x ∷ [])
-      → take (length old) new ≡ old
-  keys_back true old new x e = cc (take-length old)
-  keys_back false old new x e = cc (take-append_seam old (x ∷ []))
 
   module _ (key_same : (x y : T) → view x ≡ view y → same x y ≡ true) where
     no_key : (x : T) (cs : List T) (j : ℕ) → AllByRecursion (λ y. same x y ≡ false) cs
@@ -125,6 +92,17 @@ module _ {T P : Type 0} (same : T → T → Bool) (view : T → P) where
     keys_apart (x ∷ cs) d zero (suc j) k p q = absurd (no_key x cs j d.0 (cc))
     keys_apart (x ∷ cs) d (suc i) zero k p q = absurd (no_key x cs i d.0 (cc))
     keys_apart (x ∷ cs) d (suc i) (suc j) k p q = ap suc (keys_apart cs d.1 i j k p q)
+
+-- the key with a number has the view that is stored with this number
+pub key_read : {T P : Type 0} (view : T → P) (cs : List T) (i : ℕ) {x : T} {shown : P}
+    → slice_get (map view cs) i ≡ Some shown → Some x ≡ slice_get cs i → shown ≡ view x
+key_read view cs i stored found = cc (slice_get-map view cs i, stored, found)
+
+-- if the inserted key is removed, the keys are the old ones
+pub keys_back : {T : Type 0} (b : Bool) {old new left : List T} {n : ℕ} (x : T)
+    → left ≡ take n new → n ≡ length old → new ≡ (if b then old else old ++ x ∷ []) → left ≡ old
+keys_back true {old} x taken long e = cc (take-length old)
+keys_back false {old} x taken long e = cc (take-append_seam old (x ∷ []))
 
 -- ---- two lists of keys, one after the other
 
@@ -152,6 +130,14 @@ module _ {K : Type 0} where
     | inl l ↦ inl l
     | inr r ↦ inr (r.0, omega (arith, r.1), r.2)
   ]
+
+  -- a key of a list with one more key was there, or is that key
+  pub old_or_last : (a : List K) (x : K) (i : ℕ) (k : K) → slice_get (a ++ x ∷ []) i ≡ Some k
+      → (slice_get a i ≡ Some k) ⊎ (k ≡ x)
+  old_or_last [] x zero k h = inr cc
+  old_or_last [] x (suc i) k h = cc
+  old_or_last (y ∷ a) x zero k h = inl h
+  old_or_last (y ∷ a) x (suc i) k h = old_or_last a x i k h
 
   module _ (a b : List K) where
     pub distinct_first : AreDistinct (a ++ b) → AreDistinct a

@@ -7,9 +7,8 @@ use Rattle.plist_base.specs.Trees.{Tree, Leaf, Array, Dictionary, Trees, NoTrees
 use Rattle.plist_base.specs.Bracketing.{without_length, lengthless}
 use Rattle.plist_buffer.specs.Occurrences.{event_count}
 use Rattle.plist_buffer.specs.inner.Columns.{ends_before, ends_in, kind_in}
-use Rattle.plist_buffer.specs.inner.Entries.{ScalarLists, all_scalars, lists_of, events_of_entries, event_of_entry}
+use Rattle.plist_buffer.specs.inner.Entries.{ScalarLists, all_scalars, lists_of, events_of_entries}
 use Rattle.plist_buffer.specs.inner.UnclosedStarts.{skip_after}
-use Rattle.plist_buffer.specs.declared.entries.EventEntry.{EventEntry}
 
 -- the event as it is buffered, without the length of a start
 abbrev pub plain_event : Event → PlainEvent
@@ -27,10 +26,6 @@ scalars_of held = all_scalars (lists_in held)
 -- the events of a table, without the lengths of starts
 abbrev pub plain_events : EventTable → List PlainEvent
 plain_events held = events_of_entries (lists_in held) held.entries
-
--- the event of an entry
-abbrev pub entry_event : EventTable → EventEntry → PlainEvent
-entry_event held entry = event_of_entry (lists_in held) entry
 
 -- is the event an end?
 abbrev pub is_end : PlainEvent → Bool

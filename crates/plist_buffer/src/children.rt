@@ -1,10 +1,10 @@
 //! The children of a collection among the buffered events.
 
-ghost use Rattle.std.specs.Prelude.{◌≡◌, ◌<◌, ◌⊎◌, [], true, false, length};
+ghost use Rattle.std.specs.Prelude.{◌≡◌, ◌<◌, ◌⊎◌, [], true, false, length, ◌^◌, ◌-◌};
 ghost use Rattle.plist_base.specs.Events.{shape_of};
-ghost use Rattle.plist_buffer.specs.Children.{half_of, indices_left};
+ghost use Rattle.plist_buffer.specs.Children.{half_of, indices_left, child_at, last_at};
 ghost use Rattle.plist_buffer.specs.declared.children.Half.{Half};
-ghost use Rattle.plist_buffer.specs.EventTable.{plain_events, table_event};
+ghost use Rattle.plist_buffer.specs.EventTable.{plain_events, table_event, HasItem, LacksItem};
 
 use crate::event_table::EventTable;
 use plist_base::EventShape;
@@ -30,9 +30,6 @@ pub enum Child {
 }
 
 impl Child {
-    ghost use Rattle.std.specs.Prelude.{◌^◌, ◌-◌};
-    ghost use Rattle.plist_buffer.specs.Children.{child_at, last_at};
-
     // Returns the index of the child, given the index at which its item or pair begins.
     #[inline(always)]
     fn index(self, first: usize) -> usize
@@ -86,9 +83,6 @@ pub struct Children<'p, 'e> {
 }
 
 impl<'p, 'e> Children<'p, 'e> {
-    ghost use Rattle.std.specs.Prelude.{true};
-    ghost use Rattle.plist_buffer.specs.EventTable.{HasItem, LacksItem};
-
     /// Creates an iterator over one half of the children of the collection that begins at an index.
     /// It yields nothing for a scalar, for an end, and for the keys of an array.
     #[inline(always)]

@@ -5,13 +5,13 @@
 //! and data of more than eight bytes don't wait.
 
 ghost use Rattle.std.proofs.Props.{props};
-ghost use Rattle.std.specs.Prelude.{◌≡◌, ◌<◌, ◌++◌, ℕ, List, Some, length, IfSome};
+ghost use Rattle.std.specs.Prelude.{◌≡◌, ◌<◌, ◌++◌, ℕ, List, Some, length, IfSome, ◌≢◌, [], false, true, None, IfErr, OnOk, OnErr};
 ghost use Rattle.plist_base.specs.Events.{ScalarEvent, event_of};
 ghost use Rattle.plist_base.specs.Trees.{String};
-ghost use Rattle.plist_buffer.specs.EventTable.{plain_events};
-ghost use Rattle.plist_buffer.specs.StoredScalars.{event_of_small, events_of_small};
+ghost use Rattle.plist_buffer.specs.EventTable.{plain_events, event_at, table_event};
+ghost use Rattle.plist_buffer.specs.StoredScalars.{event_of_small, events_of_small, scalar_of_long_ref};
 ghost use Rattle.plist_buffer.specs.declared.expects.Expect.TheVariants.{Items};
-ghost use Rattle.plist_buffer.specs.declared.expects.Transition.TheVariants.{Kept};
+ghost use Rattle.plist_buffer.specs.declared.expects.Transition.TheVariants.{Kept, Refused};
 ghost use Rattle.plist_buffer.specs.inner.Expected.{ExpectsNext, change_on, expected_inside, innermost, next_expected};
 
 use crate::event_table::EventTable;
@@ -111,18 +111,11 @@ fn next_expected(
 }
 
 impl EventBuffer {
-    ghost use Rattle.std.specs.Prelude.{◌≡◌, ◌≢◌, ◌<◌, [], length, false, true, None, IfErr, IfSome, OnOk, OnErr};
-    ghost use Rattle.plist_base.specs.Events.{ScalarEvent, event_of};
     ghost use Rattle.plist_base.specs.PackedScalars.{IsUnpackable};
-    ghost use Rattle.plist_base.specs.Trees.{String};
     ghost use Rattle.plist_base.specs.Utf16Strings.{string_of_utf16};
     ghost use Rattle.plist_base.specs.ByteTests.{EachByte};
-    ghost use Rattle.plist_buffer.specs.StoredScalars.{event_of_small, scalar_of_long_ref};
     ghost use Rattle.plist_buffer.specs.EventBuffers.{buffered_events, is_whole, misplaced_error, Accepts, BuffersNext, BuffersSame, CanTake, RejectsEvent};
-    ghost use Rattle.plist_buffer.specs.EventTable.{event_at, plain_events, table_event};
-    ghost use Rattle.plist_buffer.specs.declared.expects.Transition.TheVariants.{Refused};
     ghost use Rattle.plist_buffer.specs.inner.Entries.{is_leaf};
-    ghost use Rattle.plist_buffer.specs.inner.Expected.{change_on};
 
     /// Creates a buffer without events. It allocates no memory.
     pub fn new(alloc: Global) -> EventBuffer

@@ -1,11 +1,11 @@
 //! The table of a property list's events, which stores every different scalar once.
 
-ghost use Rattle.std.specs.Prelude.{◌≡◌, ◌^◌, ◌<◌, true, length, OnOk, OnErr, ◌-◌};
+ghost use Rattle.std.specs.Prelude.{◌≡◌, ◌^◌, ◌<◌, true, length, OnOk, OnErr, ◌-◌, [], ℕ, List, None, Some, false, IfSome, ◌+◌};
 ghost use Rattle.std.proofs.Props.{props};
 ghost use Rattle.std.specs.Cow.{cow_slice_items, cow_str_bytes};
 ghost use Rattle.plist_base.specs.Events.{EndCollection, ScalarEvent, shape_of};
 ghost use Rattle.plist_base.specs.Outcomes.{OnlyMemory};
-ghost use Rattle.plist_buffer.specs.inner.Entries.{is_leaf, AreValidEntries};
+ghost use Rattle.plist_buffer.specs.inner.Entries.{is_leaf, lists_of, IsValidTable, entry_at, event_numbered, event_of_entry, index_after_entry, is_start, scalar_numbered, KeepsScalars};
 
 mod batches;
 mod copies;
@@ -40,7 +40,8 @@ pub struct EventTable<'e> {
     // their tables is full.
     small_full_at: usize,
     long_full_at: usize,
-    ghost kept: { AreValidEntries small.keys long.keys entries unclosed } by { Prim.hlevel props },
+    ghost kept: { IsValidTable (lists_of small.keys long.keys) entries
+        unclosed } by { Prim.hlevel props },
     ghost few: { length entries < 2 ^ 63 },
 }
 
@@ -69,11 +70,9 @@ fn bytes_of_text<'e>(text: CowStr<'e>) -> CowSlice<'e, u8>
 
 impl<'e> EventTable<'e> {
     ghost use Rattle.plist_buffer.specs.StoredScalars.{IsStored, event_of_long, event_of_small, scalar_of_ref};
-    ghost use Rattle.std.specs.Prelude.{[], ℕ, List, None, Some, false, IfSome, ◌+◌};
     ghost use Rattle.plist_base.specs.Trees.{String as StringScalar};
-    ghost use Rattle.plist_buffer.specs.EventTable.{plain_event, plain_events, scalars_of, lists_in, collection_number, count_collections, EndsCollection, GrowsBy, HasItem, IsScalarAt, LacksItem, table_event, entry_event};
+    ghost use Rattle.plist_buffer.specs.EventTable.{plain_event, plain_events, scalars_of, lists_in, collection_number, count_collections, EndsCollection, GrowsBy, HasItem, IsScalarAt, LacksItem, table_event};
     ghost use Rattle.plist_buffer.specs.inner.Columns.{scalar_named};
-    ghost use Rattle.plist_buffer.specs.inner.Entries.{entry_at, event_numbered, is_start, scalar_numbered, IsUnclosed, KeepsScalars};
     ghost use Rattle.plist_buffer.specs.inner.Expected.{expected_inside, innermost};
     ghost use Rattle.plist_buffer.specs.inner.UnclosedStarts.{skip_after};
 
@@ -278,8 +277,10 @@ impl<'e> EventTable<'e> {
     // Appends a start. Its entry stores the index after itself until the collection is closed.
     fn start(&mut self, entry: EventEntry) -> Result<(), AllocError>
         requires starts { is_start entry ≡ true }
-        requires after { IsUnclosed (length (plain_events self.old)) entry }
-        ensures events { OnOk result (GrowsBy self.old (entry_event self.old entry) self.new) }
+        requires after { index_after_entry (length (plain_events self.old)) entry
+            ≡ length (plain_events self.old) + 1 }
+        ensures events { OnOk result (GrowsBy self.old
+            (event_of_entry (lists_in self.old) entry) self.new) }
         ensures unchanged { OnErr result (plain_events self.new ≡ plain_events self.old) }
     {
         self.unclosed.push(self.entries.len())?;

@@ -1,8 +1,9 @@
 //! Strings and data of more than eight bytes, as a table stores them.
 
-ghost use Rattle.std.specs.Prelude.{◌≡◌, ◌<◌, IfSome};
+ghost use Rattle.std.specs.Prelude.{◌≡◌, ◌<◌, IfSome, false, length, IfOk};
 ghost use Rattle.std.proofs.Props.{props};
 ghost use Rattle.plist_buffer.specs.inner.LongContents.{bytes_stored, form_in, scalar_from, IsLongIn};
+ghost use Rattle.plist_base.specs.Trees.{String as StringScalar};
 
 use crate::short_bytes::ShortBytes;
 use crate::stored_scalar::ScalarRef;
@@ -34,7 +35,6 @@ pub struct LongRef<'a> {
 
 impl<'a> LongRef<'a> {
     ghost use Rattle.plist_base.specs.ByteTests.{EachByte};
-    ghost use Rattle.plist_base.specs.Trees.{String as StringScalar};
     ghost use Rattle.plist_base.specs.Utf16Strings.{string_of_utf16};
     ghost use Rattle.plist_buffer.specs.StoredScalars.{scalar_of_long_ref};
 
@@ -147,9 +147,7 @@ pub struct LongScalar<'e> {
 }
 
 impl<'e> LongScalar<'e> {
-    ghost use Rattle.std.specs.Prelude.{false, length, IfOk};
     ghost use Rattle.std.specs.Cow.{cow_slice_items};
-    ghost use Rattle.plist_base.specs.Trees.{String as StringScalar};
     ghost use Rattle.plist_buffer.specs.AsciiTexts.{is_ascii_text};
     ghost use Rattle.plist_buffer.specs.StoredScalars.{IsStored, scalar_of_long, scalar_of_long_ref, scalar_of_ref};
 

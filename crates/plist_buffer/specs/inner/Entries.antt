@@ -101,11 +101,6 @@ index_after_entry index other = index + 1
 abbrev pub index_after_at : List EventEntry → (index : ℕ) → ℕ
 index_after_at entries index = index_after_entry index (entry_at entries index)
 
--- the index after the entry's tree is the one after the entry itself, as it is while a start is
--- open
-abbrev pub IsUnclosed : (index : ℕ) → EventEntry → Type 0
-IsUnclosed index entry = index_after_entry index entry ≡ index + 1
-
 -- the entry with `following` as the index after its end, if it is a start
 abbrev pub closed_at : EventEntry → ℕ → EventEntry
 closed_at (entry.Array old) following = entry.Array following
@@ -140,8 +135,3 @@ pub record IsValidTable (scalars : ScalarLists) (entries : List EventEntry)
 -- the events of these scalars
 abbrev pub lists_of : List PackedScalar → List LongScalar → ScalarLists
 lists_of small long = record { small = events_of_small small; long = map event_of_long long }
-
--- the invariant of a table with these different scalars
-abbrev pub AreValidEntries : List PackedScalar → List LongScalar → List EventEntry
-    → (unclosed : List ℕ) → Type 0
-AreValidEntries small long entries unclosed = IsValidTable (lists_of small long) entries unclosed

@@ -16,15 +16,6 @@ impl<'e> EventTable<'e> {
     ghost use Rattle.plist_buffer.specs.EventTable.{plain_events, lists_in, GrowsBy};
     ghost use Rattle.plist_buffer.specs.inner.Entries.{scalar_numbered, AreFound, KeepsScalars};
 
-    // Returns the index of a scalar among the small ones, or `None` if no equal one is stored.
-    #[inline(always)]
-    fn find_small(&self, scalar: &PackedScalar) -> Option<usize>
-        ensures { IfSome result (λ index. scalar_numbered (lists_in self.now)
-            (ScalarNumber.Small index) ≡ Some (event_of_small scalar.now)) }
-    {
-        self.small.get_index_of(scalar)
-    }
-
     // Returns the index of each of at most `BATCH_SIZE` scalars among the small ones, or `None`
     // for those that aren't stored. The loop does nothing else, so that the look-ups wait for
     // memory together.
@@ -35,7 +26,7 @@ impl<'e> EventTable<'e> {
     {
         let mut found = [None; BATCH_SIZE];
         for index in 0..scalars.len() {
-            found[index] = self.find_small(&scalars[index]);
+            found[index] = self.small.get_index_of(&scalars[index]);
         }
         found
     }

@@ -45,16 +45,6 @@ impl EventTable<'static> {
         self.push_long(LongScalar::encode(alloc, text)?)
     }
 
-    // Appends data of more than eight bytes, which is copied unless equal data is stored.
-    fn copy_long_data(&mut self, alloc: Global, bytes: &[u8]) -> Result<(), AllocError>
-        requires { 8 < length bytes.now }
-        ensures events { OnOk result (GrowsBy self.old
-            (ScalarEvent (DataScalar bytes.now)) self.new) }
-        ensures unchanged { OnErr result (plain_events self.new ≡ plain_events self.old) }
-    {
-        self.copy_long(alloc, LongRef::new(Form::Data, bytes))
-    }
-
     // Appends a string of more than eight bytes. An owned one is moved, and so its hash is computed
     // only once.
     #[inline(always)]
@@ -70,8 +60,8 @@ impl EventTable<'static> {
         }
     }
 
-    // Appends data of more than eight bytes. Owned data is moved, and so its hash is computed only
-    // once.
+    // Appends data of more than eight bytes, which is copied unless equal data is stored. Owned data
+    // is moved, and so its hash is computed only once.
     #[inline(always)]
     fn take_long_data(&mut self, alloc: Global, bytes: CowSlice<'_, u8>) -> Result<(), AllocError>
         requires { 8 < length (cow_slice_items bytes) }
@@ -80,7 +70,9 @@ impl EventTable<'static> {
         ensures unchanged { OnErr result (plain_events self.new ≡ plain_events self.old) }
     {
         match bytes {
-            CowSlice::Borrowed(borrowed) => self.copy_long_data(alloc, borrowed),
+            CowSlice::Borrowed(borrowed) => {
+                self.copy_long(alloc, LongRef::new(Form::Data, borrowed))
+            }
             CowSlice::Owned(owned) => {
                 self.push_long(LongScalar::new(Form::Data, CowSlice::Owned(owned)))
             }
