@@ -1,13 +1,13 @@
 -- The buffered events after scalars that waited were appended to the table, after another scalar
 -- waits, and after another event was appended.
-use Rattle.std.proofs.Common.{◌≡◌, ◌≢◌, ℕ, ◌<◌, List, [], ◌∷◌, ◌++◌, Option, Some, true, length, take, drop, refl, sym, ap, ◌∙◌, append_assoc, append-nil, arith}
+use Rattle.std.proofs.Common.{◌≡◌, ◌≢◌, ℕ, ◌<◌, List, [], ◌∷◌, ◌++◌, Option, Some, true, length, take, drop, refl, sym, ap, ◌∙◌, append_assoc, append-nil, arith, rules}
 use Rattle.std.proofs.lemmas.List.{map-append, take-append-drop}
 use Rattle.std.proofs.Math.ListN.{get_or-append}
 use Rattle.std.specs.Option.{is_none}
 use Rattle.plist_base.specs.Bracketing.{without_length}
-use Rattle.plist_base.specs.Events.{EndCollection, PlainEvent, ScalarEvent}
+use Rattle.plist_base.specs.Events.{PlainEvent, ScalarEvent}
 use Rattle.plist_base.specs.PackedScalars.{scalar_of_packed}
-use Rattle.plist_base.specs.Trees.{Scalar, String}
+use Rattle.plist_base.specs.Trees.{Scalar}
 use Rattle.plist_buffer.specs.StoredScalars.{event_of_small, events_of_small}
 use Rattle.plist_buffer.specs.EventTable.{event_at, plain_events, table_event}
 use Rattle.plist_buffer.specs.EventBuffers.{buffered_events, BuffersSame, RejectsEvent, TestsWhole}
@@ -15,7 +15,7 @@ use Rattle.plist_buffer.specs.declared.event_buffer.EventBuffer.{EventBuffer}
 use Rattle.plist_buffer.specs.declared.event_buffer.PushError.TheVariants.{OutOfMemory}
 use Rattle.plist_buffer.specs.declared.event_table.EventTable.{EventTable}
 use Rattle.plist_buffer.specs.declared.expects.Expect.{Expect}
-use Rattle.plist_buffer.specs.declared.expects.Expect.TheVariants.{Items, Pairs}
+use Rattle.plist_buffer.specs.declared.expects.Expect.TheVariants.{Items}
 use Rattle.plist_buffer.specs.declared.expects.Transition.{Transition}
 use Rattle.plist_buffer.specs.declared.expects.Transition.TheVariants.{Kept, Refused}
 use Rattle.plist_base.specs.declared.packed_scalar.PackedScalar.{PackedScalar}
@@ -29,19 +29,17 @@ pub still_buffered : {waiting slice left : List PackedScalar} (held : EventTable
     {after : List PlainEvent} (k : ℕ) → slice ≡ waiting
     → after ≡ plain_events held ++ events_of_small (take k slice) → left ≡ drop k waiting
     → after ++ events_of_small left ≡ plain_events held ++ events_of_small waiting
-still_buffered {waiting} {slice} {left} held {after} k same grown rest =
-    let before = plain_events held in
-    let first = events_of_small (take k waiting) in
-    let others = events_of_small (drop k waiting) in
-    (λ i. (grown ∙ ap (λ l. before ++ events_of_small (take k l)) same) i ++ events_of_small (rest i))
-    ∙ append_assoc before first others
-    ∙ ap (λ l. before ++ l) (sym (map-append event_of_small (take k waiting) (drop k waiting))
-    ∙ ap events_of_small (take-append-drop k waiting))
+still_buffered {waiting} held k same grown rest = grind (
+  arith,
+  append_assoc {A = PlainEvent},
+  map-append event_of_small (take k waiting) (drop k waiting),
+  take-append-drop k waiting,
+)
 
 -- an event of the table is a buffered one
 pub event_in_table : (s : EventBuffer) (index : ℕ) → index < length (plain_events s.held)
     → event_at (buffered_events s) index ≡ table_event s.held index
-event_in_table s index within = get_or-append (plain_events s.held) _ EndCollection index within
+event_in_table s index within = grind (arith, get_or-append (plain_events s.held))
 
 -- the event and those of `s` are in the table and wait, and `next` is expected after them
 pub record Holds (s : EventBuffer) (e : PlainEvent) (table : List PlainEvent)
@@ -100,9 +98,7 @@ after_waiting s t same x is kept grown =
   where
     items : (next : Option Expect) (x : Scalar) → change_on next (ScalarEvent x) ≡ Kept
         → next ≡ Some Items
-    items (Some Items) x is = refl
-    items (Some Pairs) (String text) is = cc
-    items next x is = cc
+    items next x is = search rules
 
 -- the scalar of an earlier event was appended to the table, and no scalar waits
 pub after_repeating : (s : EventBuffer) (index : ℕ) {c : Transition} {table : List PlainEvent}

@@ -1,9 +1,8 @@
 -- The children of a collection: how a walk finds them, and which they are in a tree.
-use Rattle.std.proofs.Common.{◌≡◌, inl, inr, ℕ, zero, suc, ◌+◌, ◌^◌, ◌<◌, ◌≤◌, Bool, true, false, if◌then◌else◌, List, [], ◌∷◌, length, drop, refl, ap, sym, ◌∙◌, arith}
+use Rattle.std.proofs.Common.{◌≡◌, ℕ, zero, suc, ◌+◌, ◌^◌, ◌<◌, ◌≤◌, Bool, true, false, if◌then◌else◌, List, [], ◌∷◌, length, drop, refl, ap, sym, ◌∙◌, arith, rules}
 use Rattle.std.specs.List.{AllByRecursion}
-use Rattle.std.proofs.lemmas.Bool.Decides.{leb_tells}
 use Rattle.std.proofs.lemmas.List.{get_or_past}
-use Rattle.plist_base.specs.Events.{PlainEvent, StartArray, StartDictionary, EndCollection, ScalarEvent}
+use Rattle.plist_base.specs.Events.{PlainEvent, EndCollection}
 use Rattle.plist_base.specs.Trees.{Tree, Leaf, Array, Dictionary, Trees, NoTrees, TreeAnd, Members, NoMembers, MemberAnd}
 use Rattle.plist_buffer.specs.Children.{child_at, last_at, children_within, children_from, children_after, half_of}
 use Rattle.plist_buffer.specs.EventTable.{HasItem, is_end, event_at, item_indices, key_indices, lists_in, plain_events, value_indices, keys_in, values_in}
@@ -24,22 +23,15 @@ past_end : (es : List PlainEvent) (q : ℕ) → length es ≤ q → is_end (even
 past_end es q h = ap is_end (get_or_past es q EndCollection h)
 
 pub item_within : (es : List PlainEvent) (q : ℕ) → is_end (event_at es q) ≡ false → q < length es
-item_within es q h = elim (leb_tells (length es) q) [
-  | inl a ↦ cc (past_end es q a.1)
-  | inr b ↦ b.1
-]
+item_within es q h = grind (arith, past_end es q)
 
 last_after : (child : Child) (q : ℕ) → q ≤ last_at child q
-last_after Item q = omega arith
-last_after Key q = omega arith
-last_after Value q = omega arith
+last_after child q = search rules
 
 -- the two lists are equal if both are empty, or if what follows their first item is equal
 unless : (b c : Bool) (x : ℕ) (u v : List ℕ) → (b ≡ false → c ≡ false → u ≡ v)
     → (if b then [] else (if c then [] else x ∷ u)) ≡ (if b then [] else (if c then [] else x ∷ v))
-unless true c x u v h = refl
-unless false true x u v h = refl
-unless false false x u v h = ap (λ l. x ∷ l) (h refl refl)
+unless b c x u v h = search rules
 
 module _ (child : Child) (es : List PlainEvent) where
   onward : (q : ℕ) → is_end (event_at es (last_at child q)) ≡ false
@@ -77,36 +69,29 @@ module _ (child : Child) (es : List PlainEvent) where
 child_is : (child : Child) (es : List PlainEvent) (q : ℕ) → is_end (event_at es q) ≡ false
     → is_end (event_at es (last_at child q)) ≡ false
     → is_end (event_at es (child_at child q)) ≡ false
-child_is Item es q e f = e
-child_is Key es q e f = e
-child_is Value es q e f = f
+child_is child es q e f = search rules
 
 module _ (es : List PlainEvent) where
-  if_items : (b c : Bool) (x : ℕ) (l : List ℕ)
-      → (b ≡ false → c ≡ false → HasItem es x × AllByRecursion (HasItem es) l)
-      → AllByRecursion (HasItem es) (if b then [] else (if c then [] else x ∷ l))
-  if_items true c x l h = tt
-  if_items false true x l h = tt
-  if_items false false x l h = h refl refl
+  -- what is true of no children, and of one and those after it, is true of those that are found
+  found : (b c : Bool) (x : ℕ) (l : List ℕ) (P : List ℕ → Type 0) → P []
+      → (b ≡ false → c ≡ false → P (x ∷ l)) → P (if b then [] else (if c then [] else x ∷ l))
+  found true c x l P none some = none
+  found false true x l P none some = none
+  found false false x l P none some = some refl refl
 
   items_within : (most : ℕ) (child : Child) (q : ℕ)
       → AllByRecursion (HasItem es) (children_within most child es q)
   items_within zero child q = tt
   items_within (suc most) child q =
-      if_items _ _ _ _ (λ e f. let i = child_is child es q e f in
+      found _ _ _ _ (AllByRecursion (HasItem es)) tt (λ e f. let i = child_is child es q e f in
       ((item_within es _ i, i), items_within most child (skip_after es (last_at child q))))
-
-  if_few : (b c : Bool) (x n : ℕ) (l : List ℕ) → length l ≤ n
-      → length (if b then [] else (if c then [] else x ∷ l)) ≤ suc n
-  if_few true c x n l h = omega arith
-  if_few false true x n l h = omega arith
-  if_few false false x n l h = omega (arith, h)
 
   few_within : (most : ℕ) (child : Child) (q : ℕ)
       → length (children_within most child es q) ≤ most
   few_within zero child q = omega arith
   few_within (suc most) child q =
-      if_few _ _ _ most _ (few_within most child (skip_after es (last_at child q)))
+      found _ _ _ _ (λ l. length l ≤ suc most) (omega arith)
+      (λ e f. omega (arith, few_within most child (skip_after es (last_at child q))))
 
   -- what is true of no children and of those of a collection is true of any children
   any_children : (P : List ℕ → Type 0) → P []
@@ -115,12 +100,7 @@ module _ (es : List PlainEvent) where
   any_children P none some half index = by (event_at es index) half (index + 1)
     where
       by : (event : PlainEvent) (half : Half) (q : ℕ) → P (children_after event half es q)
-      by (StartArray hint) Keys q = none
-      by (StartArray hint) Values q = some Item q
-      by (StartDictionary hint) Keys q = some Key q
-      by (StartDictionary hint) Values q = some Value q
-      by EndCollection half q = none
-      by (ScalarEvent x) half q = none
+      by event half q = search (rules, none, some)
 
   -- there are at most as many children as events, and each is an item
   pub few_children : (half : Half) (index : ℕ) → length (half_of es half index) ≤ length es

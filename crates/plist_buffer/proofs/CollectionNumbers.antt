@@ -1,11 +1,10 @@
 -- The numbers of collections: each closed collection has one of its own.
-use Rattle.std.proofs.Common.{◌≡◌, ◌≢◌, ◌==◌, ℕ, zero, suc, ◌+◌, ◌-◌, ◌<◌, ◌≤◌, if◌then◌else◌, List, [], ◌∷◌, ◌++◌, false, length, drop, get_or, map, take, Option, None, Some, inl, inr, refl, ap, sym, ◌∙◌, subst, arith, length-append, append_assoc}
-use Rattle.std.proofs.lemmas.Bool.{ne_eqb}
-use Rattle.std.proofs.lemmas.Bool.Decides.{eqb_tells, leb_tells}
+use Rattle.std.proofs.Common.{◌≡◌, ◌≢◌, ◌==◌, ℕ, zero, suc, ◌+◌, ◌-◌, ◌<◌, ◌≤◌, if◌then◌else◌, List, [], ◌∷◌, ◌++◌, false, length, drop, get_or, map, take, Option, None, Some, inl, inr, refl, ap, ◌∙◌, arith, length-append, append_assoc}
+use Rattle.std.proofs.lemmas.Bool.Decides.{nat_tests, eqb_tells}
 use Rattle.std.proofs.Math.ListN.{get_or-map}
 use Rattle.std.proofs.lemmas.List.{get_or_default, length-map, take_all}
 use Rattle.plist_base.specs.Bracketing.{lengthless, lengthless_items, lengthless_pairs}
-use Rattle.plist_base.specs.Events.{PlainEvent, EndCollection, ScalarEvent, StartArray, StartDictionary}
+use Rattle.plist_base.specs.Events.{PlainEvent, EndCollection, StartArray, StartDictionary}
 use Rattle.plist_base.specs.Trees.{Tree, Leaf, Array, Dictionary, Trees, NoTrees, TreeAnd, Members, NoMembers, MemberAnd}
 use Rattle.plist_buffer.specs.EventTable.{EndsCollection, HasItem, IsBracketed, collection_number, count_collections, event_at, is_end, lists_in, plain_events}
 use Rattle.plist_buffer.specs.Occurrences.{event_count, OccursAt, ItemsOccurAt, PairsOccurAt}
@@ -42,20 +41,13 @@ open_past : (es : List PlainEvent) (index r : ℕ) (unclosed : List ℕ) → r <
     → open_at es index r unclosed ≡ None
 open_past [] index r unclosed lt = refl
 open_past (e ∷ es) index r unclosed lt =
-    rw (ne_eqb r index (λ e. omega arith))
-    (open_past es (index + 1) r (unclosed_after_event e index unclosed) (omega arith))
+    grind (arith, nat_tests, open_past es (index + 1) r (unclosed_after_event e index unclosed))
 
 -- an event after which it is known where the tree at q ends closes that tree
 changed : (e : PlainEvent) (index : ℕ) (unclosed : List ℕ) (q given : ℕ)
     → skip_after_event e index unclosed q given ≢ given
     → (innermost unclosed ≡ Some q) × (skip_after_event e index unclosed q given ≡ index + 1)
-changed EndCollection index [] q given other = absurd (other refl)
-changed EndCollection index (i ∷ outer) q given other = elim (eqb_tells q i) [
-  | inl e ↦ (ap Some (sym e.1), ap (λ b. if b then index + 1 else given) e.0)
-  | inr n ↦ absurd (other (ap (λ b. if b then index + 1 else given) n.0))
-]
-changed (ScalarEvent x) index unclosed q given other = absurd (other refl)
-changed e index unclosed q given other = absurd (other refl)
+changed e index unclosed q given other = grind (arith, nat_tests)
 
 -- if the tree that begins at q ends after the event at r, q is the innermost open start before it
 closes : (es : List PlainEvent) (index r q given : ℕ) (unclosed : List ℕ)
@@ -65,21 +57,13 @@ closes [] index r q given unclosed is other = absurd (other is)
 closes (e ∷ es) index r q given unclosed is other =
     let next = skip_after_event e index unclosed q given in
     let unclosed_next = unclosed_after_event e index unclosed in
-    elim (eqb_tells r index) [
-      | inl same ↦ rw same.0 (elim (eqb_tells next (suc r)) [
-        | inl now ↦ (changed e index unclosed q given (λ k. other (sym k ∙ now.1))).0
-        | inr later ↦ cc (
-          closes es (index + 1) r q next unclosed_next is later.1,
-          open_past es (index + 1) r unclosed_next (omega (arith, same.1)),
-        )
-      ])
-      | inr apart ↦ rw apart.0 (closes es (index + 1) r q next unclosed_next is (λ now.
-          apart.1 (omega (
-            arith,
-            now,
-            (changed e index unclosed q given (λ k. other (sym k ∙ now))).1,
-          ))))
-    ]
+    grind (
+      arith,
+      nat_tests,
+      changed e index unclosed q given,
+      closes es (index + 1) r q next unclosed_next,
+      open_past es (index + 1) r unclosed_next,
+    )
 
 -- two trees that end at the same index, and have more than one event, begin at the same index
 ends_once : (es : List PlainEvent) (p q r : ℕ) → skip_after es p ≡ suc r → p + 1 ≢ suc r
@@ -210,23 +194,24 @@ module _ (es : List PlainEvent) where
     closed_in_items : (ts : Trees) (q r : ℕ) → ItemsOccurAt es ts q → event_at es r ≡ EndCollection
         → q ≤ r → r < q + length (lengthless_items ts) → IsClosedBy r
     closed_in_items NoTrees q r s ends le lt = absurd (omega (arith, le, lt))
-    closed_in_items (TreeAnd t ts) q r s ends le lt = elim (leb_tells (q + event_count t) r) [
-      | inl after ↦ closed_in_items ts (q + event_count t) r (occurs_next s) ends after.1
-          (omega (arith, lt, length-append (lengthless t) (lengthless_items ts)))
-      | inr within ↦ closed_in t q r (occurs_item s) ends le within.1
-    ]
+    closed_in_items (TreeAnd t ts) q r s ends le lt = grind (
+      arith,
+      closed_in_items ts (q + event_count t) r (occurs_next s) ends,
+      closed_in t q r (occurs_item s) ends,
+      length-append (lengthless t) (lengthless_items ts),
+    )
 
     closed_in_pairs : (ms : Members) (q r : ℕ) → PairsOccurAt es ms q
         → event_at es r ≡ EndCollection → q ≤ r → r < q + length (lengthless_pairs ms)
         → IsClosedBy r
     closed_in_pairs NoMembers q r s ends le lt = absurd (omega (arith, le, lt))
-    closed_in_pairs (MemberAnd k t ms) q r s ends le lt =
-        elim (leb_tells (q + 1 + event_count t) r) [
-          | inl after ↦ closed_in_pairs ms (q + 1 + event_count t) r (occurs_next_pair s) ends
-              after.1 (omega (arith, lt, length-append (lengthless t) (lengthless_pairs ms)))
-          | inr within ↦ closed_in t (q + 1) r (occurs_value s) ends
-              (omega (arith, le, begins_apart _ q r (occurs_key s) ends)) within.1
-        ]
+    closed_in_pairs (MemberAnd k t ms) q r s ends le lt = grind (
+      arith,
+      begins_apart _ q r (occurs_key s) ends,
+      closed_in_pairs ms (q + 1 + event_count t) r (occurs_next_pair s) ends,
+      closed_in t (q + 1) r (occurs_value s) ends,
+      length-append (lengthless t) (lengthless_pairs ms),
+    )
 
 module _ (held : EventTable) where
   abbrev es : List PlainEvent
@@ -259,9 +244,13 @@ module _ (held : EventTable) where
   number_below t p s =
       let last = last_kind t p s in
       let forward = skip_forward es p (occurs_in s.occurs) in
-      subst (λ ks. collection_number held p < ends_in ks) (take_all (length kinds) kinds (omega arith))
-      (ends_rise kinds (skip_after es p - 1) (length kinds) last.0
-      (omega (arith, last.1, forward.0)) (omega arith))
+      grind (
+        arith,
+        ends_rise kinds (skip_after es p - 1) (length kinds) last.0,
+        last.1,
+        forward.0,
+        take_all (length kinds) kinds,
+      )
 
   -- two collections have different numbers
   pub numbers_apart : (t u : Tree) (p q : ℕ) → IsCollectionAt es t p → IsCollectionAt es u q
@@ -271,14 +260,16 @@ module _ (held : EventTable) where
       let b = last_kind u q r in
       let forward_p = skip_forward es p (occurs_in s.occurs) in
       let forward_q = skip_forward es q (occurs_in r.occurs) in
-      let before : skip_after es p - 1 < skip_after es q - 1
-      → collection_number held p < collection_number held q = λ h. ends_rise kinds (skip_after es p - 1) (skip_after es q - 1) a.0 h
-      (omega (arith, b.1)) in
-      let after : skip_after es q - 1 < skip_after es p - 1
-      → collection_number held q < collection_number held p = λ h. ends_rise kinds (skip_after es q - 1) (skip_after es p - 1) b.0 h
-      (omega (arith, a.1)) in
-      let ends : skip_after es q ≡ suc (skip_after es p - 1) =
-      grind (arith, before, after, same, forward_p.0, forward_q.0) in
+      let ends : skip_after es q ≡ suc (skip_after es p - 1) = grind (
+        arith,
+        ends_rise kinds (skip_after es p - 1) (skip_after es q - 1) a.0,
+        ends_rise kinds (skip_after es q - 1) (skip_after es p - 1) b.0,
+        a.1,
+        b.1,
+        same,
+        forward_p.0,
+        forward_q.0,
+      ) in
       ends_once es p q (skip_after es p - 1) (omega (arith, forward_p.0))
       (λ h. omega (arith, h, skip_ends es t p s.occurs, s.large))
       ends

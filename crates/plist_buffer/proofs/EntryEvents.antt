@@ -1,10 +1,10 @@
 -- The events that the entries of a table represent, and how each call maintains their invariants.
-use Rattle.std.proofs.Common.{◌≡◌, eqb, ◌⊎◌, inl, inr, ℕ, zero, suc, ◌+◌, ◌-◌, ◌^◌, ◌<◌, Bool, true, false, if◌then◌else◌, ◌≤◌, Option, None, Some, Result, Ok, Err, OnOk, OnErr, List, [], ◌∷◌, ◌++◌, length, set, slice_get, reverse, refl, ap, sym, ◌∙◌, subst, arith}
+use Rattle.std.proofs.Common.{rules, ◌≡◌, ◌≢◌, eqb, ◌⊎◌, inl, inr, ℕ, zero, suc, ◌+◌, ◌-◌, ◌^◌, ◌<◌, Bool, true, false, if◌then◌else◌, ◌≤◌, None, Some, Result, OnOk, OnErr, List, [], ◌∷◌, ◌++◌, length, set, slice_get, get_or, reverse, refl, ap, sym, ◌∙◌, subst, arith}
 use Rattle.std.proofs.Math.ListN.{get_or-append}
 use Rattle.std.proofs.Math.Seq.{get_or-append_seam, map-set_same}
 use Rattle.std.proofs.lemmas.Bool.{eq-eqb, eqb-true, ne_eqb}
 use Rattle.std.proofs.lemmas.Bool.Decides.{eqb_tells, leb_tells}
-use Rattle.std.proofs.lemmas.List.{length-map, length-append, length-set, map-append, reverse-append, get_or-map, get_or_default, get_or_past}
+use Rattle.std.proofs.lemmas.List.{length-map, length-append, length-set, map-append, reverse-append, get_or-map, get_or_default, get_or_past, get_or-set_same, get_or-set_other}
 use Rattle.std.proofs.lemmas.List.Folds.{Any-from_list_any, list_any-append, list_any_at}
 use Rattle.std.proofs.lemmas.Option.{slice_get-get_or, slice_get_within}
 use Rattle.std.specs.List.{list_any}
@@ -21,11 +21,23 @@ use Rattle.plist_buffer.specs.declared.entries.ScalarNumber.TheVariants.{Small, 
 use Rattle.plist_buffer.specs.inner.Columns.{scalar_named, index_of_number}
 use Rattle.plist_buffer.specs.inner.Entries.{AreDistinct, ScalarLists, all_scalars, event_numbered, same_number, scalar_numbered, is_leaf, entry_at, event_of_entry, events_of_entries, is_sound, is_start, index_after_entry, index_after_at, closed_at, ended_at, names, AreEntriesOf, IsValidTable, KeepsScalars}
 use Rattle.plist_buffer.specs.inner.UnclosedStarts.{unclosed_after_event, unclosed_after, skip_after_event, skip_after, without_innermost}
-use Rattle.plist_buffer.proofs.Changes.{at_set, at_more}
 use Rattle.plist_buffer.proofs.Columns.{indexed, unnamed}
 use Rattle.plist_buffer.proofs.SetKeys.{first_of_both, old_or_last, second_of_both}
 use Rattle.plist_buffer.proofs.OpenStarts as opened
 use Rattle.plist_buffer.proofs.OpenStarts.{open_more, skip_more, skip_forward, innermost_starts}
+
+-- ---- what is at an index after an item is replaced, and after one is appended
+
+at_set : {A : Type 0} (xs : List A) (p : ℕ) (x d : A) (q : ℕ) (P : A → Type 0) → p < length xs
+    → (q ≡ p → P x) → (q ≢ p → P (get_or xs q d)) → P (get_or (set xs p x) q d)
+at_set xs p x d q P lt same other =
+    grind (arith, get_or-set_same xs p x d, get_or-set_other xs p q x d, same, other)
+
+at_more : {A : Type 0} (xs : List A) (x d : A) (q : ℕ) (P : A → Type 0)
+    → q < length (xs ++ x ∷ []) → (q ≡ length xs → P x) → (q < length xs → P (get_or xs q d))
+    → P (get_or (xs ++ x ∷ []) q d)
+at_more xs x d q P lt last other =
+    grind (arith, get_or-append_seam xs x [] d, get_or-append xs (x ∷ []) d q, length-append xs (x ∷ []), last, other)
 
 -- ---- the events of entries
 
@@ -53,25 +65,16 @@ named_more i es e h =
 -- an index at which a test finds an event that passes is within the list
 pub below : (f : PlainEvent → Bool) (es : List PlainEvent) (i : ℕ) → f EndCollection ≡ false
     → f (event_at es i) ≡ true → i < length es
-below f es i none h = elim (leb_tells (length es) i) [
-  | inl a ↦ cc (ap f (get_or_past es i EndCollection a.1))
-  | inr b ↦ b.1
-]
+below f es i none h = grind (arith, get_or_past)
 
 leaf_is : (e : PlainEvent) → is_leaf e ≡ true → (x : Scalar) × (e ≡ ScalarEvent x)
-leaf_is (ScalarEvent x) h = (x, refl)
-leaf_is e h = cc
+leaf_is e h = search rules
 
 -- a scalar with a number is stored
 leaf_stored : (scalars : ScalarLists) (number : ScalarNumber)
     → is_leaf (event_numbered scalars number) ≡ true
     → scalar_numbered scalars number ≡ Some (event_numbered scalars number)
-leaf_stored scalars number leaf = by (scalar_numbered scalars number) leaf
-  where
-    by : (found : Option PlainEvent) → is_leaf (unwrap_or found EndCollection) ≡ true
-        → found ≡ Some (unwrap_or found EndCollection)
-    by None h = cc
-    by (Some e) h = refl
+leaf_stored scalars number leaf = grind arith
 
 pub numbered_is : (scalars : ScalarLists) (number : ScalarNumber) (e : PlainEvent)
     → scalar_numbered scalars number ≡ Some e → event_numbered scalars number ≡ e
@@ -81,44 +84,31 @@ numbered_is scalars number e h = ap (λ o. unwrap_or o EndCollection) h
 pub stored_among_all : (scalars : ScalarLists) (number : ScalarNumber) (e : PlainEvent)
     → scalar_numbered scalars number ≡ Some e
     → slice_get (all_scalars scalars) (index_of_number scalars number) ≡ Some e
-stored_among_all scalars (Small i) e h = first_of_both scalars.small scalars.long i e h
-stored_among_all scalars (Long i) e h = second_of_both scalars.small scalars.long i e h
+stored_among_all scalars number e h =
+    grind (arith, first_of_both {K = PlainEvent}, second_of_both {K = PlainEvent})
 
 -- an entry that refers to the scalar with a number names the scalar's index
 index_named : (scalars : ScalarLists) (number : ScalarNumber) (e : EventEntry)
     → names number e ≡ true → scalar_named scalars e ≡ Some (index_of_number scalars number)
-index_named scalars (Small i) (entry.Scalar (Small j)) h = ap Some (eqb-true j i h)
-index_named scalars (Long i) (entry.Scalar (Long j)) h =
-    ap (λ n. Some (length scalars.small + n)) (eqb-true j i h)
-index_named scalars number e h = cc
+index_named scalars number e h = grind (arith, eqb-true)
 
 -- different numbers have different indices
 same_numbers : (scalars : ScalarLists) (m n : ScalarNumber) (d e : PlainEvent)
     → scalar_numbered scalars m ≡ Some d → scalar_numbered scalars n ≡ Some e
     → index_of_number scalars m ≡ index_of_number scalars n → m ≡ n
-same_numbers scalars (Small i) (Small j) d e p q is = ap Small is
-same_numbers scalars (Long i) (Long j) d e p q is = ap Long (omega (arith, is))
-same_numbers scalars (Small i) (Long j) d e p q is =
-    absurd (omega (arith, is, slice_get_within scalars.small i d p))
-same_numbers scalars (Long i) (Small j) d e p q is =
-    absurd (omega (arith, is, slice_get_within scalars.small j e q))
+same_numbers scalars m n d e p q is = grind (arith, slice_get_within scalars.small)
 
 number_same : (n : ScalarNumber) → same_number n n ≡ true
-number_same (Small i) = eq-eqb i i refl
-number_same (Long i) = eq-eqb i i refl
+number_same n = grind (arith, eq-eqb)
 
 pub leaf_without_length : (e : PlainEvent) → is_leaf e ≡ true → without_length e ≡ e
-leaf_without_length e h = let f = leaf_is e h in rw f.1 refl
+leaf_without_length e h = search rules
 
 -- more scalars change no event of the entries
 module _ (old new : ScalarLists) (keeps : KeepsScalars old new) where
   one_kept : (e : EventEntry) → is_sound old e ≡ true → (is_sound new e ≡ true)
       × (event_of_entry new e ≡ event_of_entry old e)
-  one_kept (entry.Scalar number) h =
-      let same
-      = numbered_is new number _ (keeps number _ (leaf_stored old number h)) in
-      (ap is_leaf same ∙ h, ap without_length same)
-  one_kept e h = (refl, refl)
+  one_kept e h = grind (arith, keeps, leaf_stored old, numbered_is new)
 
   shown_kept : (es : List EventEntry) → ((p : ℕ) → p < length es
       → is_sound old (entry_at es p) ≡ true)
@@ -204,9 +194,7 @@ module _ {scalars : ScalarLists} {es : List EventEntry} {unclosed : List ℕ}
 
       by : (e : EventEntry) → is_start e ≡ true → index_after_entry (length es) e ≡ length es + 1
           → AreEntriesOf scalars (es ++ e ∷ []) (unclosed ++ length es ∷ [])
-      by (entry.Array k) s b = entries_more (entry.Array k) _ refl b opens (λ p k. refl)
-      by (entry.Dictionary k) s b = entries_more (entry.Dictionary k) _ refl b opens (λ p k. refl)
-      by e s b = cc
+      by e s b = grind (arith, entries_more e (unclosed ++ length es ∷ []), opens)
 
   -- an end is appended while nothing is open
   entries_stray : unclosed ≡ [] → AreEntriesOf scalars (es ++ entry.End ∷ []) []
@@ -240,12 +228,7 @@ module _ {scalars : ScalarLists} {es : List EventEntry} {unclosed : List ℕ}
         → ((m n : ℕ) → f (entry.Array m) ≡ f (entry.Array n))
         → ((m n : ℕ) → f (entry.Dictionary m) ≡ f (entry.Dictionary n))
         → f closing ≡ f (entry_at ended start)
-    closing_same f array dictionary = by _ _
-      where
-        by : (e : EventEntry) (n : ℕ) → f (closed_at e n) ≡ f e
-        by (entry.Array following) n = array n following
-        by (entry.Dictionary following) n = dictionary n following
-        by e n = refl
+    closing_same f array dictionary = grind (arith, array, dictionary)
 
     same_named : (i : ScalarNumber) (l : List EventEntry) (p : ℕ) (e : EventEntry) → p < length l
         → names i e ≡ names i (entry_at l p)
@@ -270,12 +253,7 @@ module _ {scalars : ScalarLists} {es : List EventEntry} {unclosed : List ℕ}
 
     start_of : (e : EventEntry) → is_sound scalars e ≡ true
         → opened.is_start (event_of_entry scalars e) ≡ true → is_start e ≡ true
-    start_of (entry.Scalar i) h s =
-        let f = leaf_is _ h in
-        let never : opened.is_start (without_length (event_numbered scalars i))
-        ≡ false = rw f.1 refl in cc
-    start_of entry.End h s = cc
-    start_of e h s = refl
+    start_of e h s = grind (arith, leaf_is)
 
     pub start_stored : is_start (entry_at es start) ≡ true
     start_stored =
@@ -286,9 +264,7 @@ module _ {scalars : ScalarLists} {es : List EventEntry} {unclosed : List ℕ}
     closing_behind = by _ (ap is_start (entry_before es entry.End start start_within) ∙ start_stored)
       where
         by : (e : EventEntry) {n : ℕ} → is_start e ≡ true → index_after_entry start (closed_at e n) ≡ n
-        by (entry.Array following) h = refl
-        by (entry.Dictionary following) h = refl
-        by e h = cc
+        by e h = search rules
 
     entries_end : AreEntriesOf scalars (ended_at es start) outer
     entries_end =
@@ -314,14 +290,12 @@ module _ {scalars : ScalarLists} {es : List EventEntry} {unclosed : List ℕ}
 -- an entry was appended, or none was because an allocation failed
 pub either_few : {T E : Type 0} (r : Result T E) (es now : List EventEntry)
     → OnOk r (length now < 2 ^ 63) → OnErr r (now ≡ es) → length es < 2 ^ 63 → length now < 2 ^ 63
-either_few (Ok x) es now small same few = small
-either_few (Err x) es now small same few = rw same few
+either_few r es now small same few = grind arith
 
 pub either : {T E : Type 0} (r : Result T E) {es more now : List EventEntry} (P : List EventEntry
     → Type 0)
     → OnOk r (now ≡ more) → OnErr r (now ≡ es) → P more → P es → P now
-either (Ok x) P is same new old = rw is new
-either (Err x) P is same new old = rw same old
+either r P is same new old = search rules
 
 -- the lists with one more scalar
 abbrev pub with_scalar : ScalarLists → ScalarNumber → PlainEvent → ScalarLists
@@ -339,41 +313,15 @@ pub record Grown (old new : ScalarLists) (number : ScalarNumber) (e : PlainEvent
 module _ {old new : ScalarLists} {number : ScalarNumber} {e : PlainEvent}
     (grown : Grown old new number e) where
   pub keeps : KeepsScalars old new
-  keeps n d h = elim grown.was [ inl same ↦ rw same h | inr more ↦ rw more (by number n h) ]
-    where
-      by : (m n : ScalarNumber) → scalar_numbered old n ≡ Some d
-          → scalar_numbered (with_scalar old m e) n ≡ Some d
-      by (Small i) (Small j) h = first_of_both old.small (e ∷ []) j d h
-      by (Long i) (Long j) h = first_of_both old.long (e ∷ []) j d h
-      by (Small i) (Long j) h = h
-      by (Long i) (Small j) h = h
+  keeps n d h = grind (arith, grown.was, first_of_both {K = PlainEvent})
 
   -- each scalar was there, or is the new one
   came : (n : ScalarNumber) (d : PlainEvent) → scalar_numbered new n ≡ Some d
       → (scalar_numbered old n ≡ Some d) ⊎ (d ≡ e)
-  came n d h = elim grown.was [
-    | inl same ↦ inl (rw same at h)
-    | inr more ↦ by number n (rw more at h)
-  ]
-    where
-      by : (m n : ScalarNumber) → scalar_numbered (with_scalar old m e) n ≡ Some d
-          → (scalar_numbered old n ≡ Some d) ⊎ (d ≡ e)
-      by (Small i) (Small j) h = old_or_last old.small e j d h
-      by (Long i) (Long j) h = old_or_last old.long e j d h
-      by (Small i) (Long j) h = inl h
-      by (Long i) (Small j) h = inl h
+  came n d h = grind (arith, grown.was, old_or_last {K = PlainEvent})
 
   few_more : length new.small + length new.long ≤ length old.small + length old.long + 1
-  few_more = elim grown.was [
-    | inl same ↦ rw same (omega arith)
-    | inr more ↦ rw more (by number)
-  ]
-    where
-      by : (m : ScalarNumber)
-          → length (with_scalar old m e).small + length (with_scalar old m e).long
-          ≤ length old.small + length old.long + 1
-      by (Small i) = omega (arith, length-append old.small (e ∷ []))
-      by (Long i) = omega (arith, length-append old.long (e ∷ []))
+  few_more = grind (arith, grown.was, length-append {A = PlainEvent})
 
 module _ {scalars : ScalarLists} {es : List EventEntry} {unclosed : List ℕ}
     (kept : IsValidTable scalars es unclosed) where
@@ -509,9 +457,7 @@ module _ {scalars : ScalarLists} {es : List EventEntry} {unclosed : List ℕ}
     end_there ends = by (entry_at es index) refl
       where
         by : (e : EventEntry) → entry_at es index ≡ e → entry_at es index ≡ entry.End
-        by (entry.Scalar number) is = cc (scalar_leaf is, ap is_leaf ends)
-        by entry.End is = is
-        by e is = cc (there, ap (event_of_entry scalars) is, ends)
+        by e is = grind (arith, scalar_leaf, there, ends)
 
     -- the entry at which a closed collection begins is a start
     pub start_there : is_end (event_at (events_of_entries scalars es) index) ≡ false

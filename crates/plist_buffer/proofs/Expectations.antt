@@ -1,12 +1,11 @@
 -- What is expected after the buffered events, and how one more event changes that.
-use Rattle.std.proofs.Common.{◌≡◌, ◌≢◌, List, [], ◌∷◌, ◌++◌, Option, IfSome, map, option_and_then, None, Some, true, refl, sym, ap, ◌∙◌, subst, rules}
+use Rattle.std.proofs.Common.{◌≡◌, ◌≢◌, List, [], ◌∷◌, ◌++◌, Option, IfSome, map, option_and_then, None, Some, true, refl, sym, ap, ◌∙◌, rules, arith}
 use Rattle.std.specs.Option.{is_none}
 use Rattle.plist_base.specs.Bracketing.{without_length, AreTreeEvents, CanContinue}
-use Rattle.plist_base.specs.Events.{PlainEvent, StartArray, StartDictionary, EndCollection, ScalarEvent}
-use Rattle.plist_base.specs.Trees.{String}
+use Rattle.plist_base.specs.Events.{PlainEvent, EndCollection}
 use Rattle.plist_buffer.specs.Expects.{transition_of, changed, step, expected_after}
 use Rattle.plist_buffer.specs.declared.expects.Expect.{Expect}
-use Rattle.plist_buffer.specs.declared.expects.Expect.TheVariants.{OneValue, Items, Pairs}
+use Rattle.plist_buffer.specs.declared.expects.Expect.TheVariants.{OneValue}
 use Rattle.plist_buffer.specs.declared.expects.Transition.{Transition}
 use Rattle.plist_buffer.specs.declared.expects.Transition.TheVariants.{Refused}
 use Rattle.plist_base.proofs.Lengths.{alike_last}
@@ -29,8 +28,7 @@ inside_alone (OpenDictionary ∷ outer) = refl
 
 inside_same : (kinds : List OpenKind) (expects : List Expect) → map expects_in kinds ≡ expects
     → map expects_in kinds ≡ inside_of expects
-inside_same kinds expects is =
-    subst (λ l. map expects_in kinds ≡ inside_of l) is (sym (inside_alone kinds))
+inside_same kinds expects is = grind (arith, inside_alone)
 
 open_snoc : (es : List PlainEvent) (e : PlainEvent) (kinds : List OpenKind)
     → open_after (es ++ e ∷ []) kinds ≡ open_after_event e (open_after es kinds)
@@ -51,40 +49,24 @@ ended : (top : Expect) (rest : List Expect) (kinds : List OpenKind)
     → map expects_in kinds ≡ top ∷ rest
     → Goes (innermost (map expects_in (open_after_event EndCollection kinds)))
     (open_after_event EndCollection kinds) rest
-ended top rest [] is = cc
-ended top rest (kind ∷ outer) is =
-    let tail : map expects_in outer ≡ rest = cc in
-    (inside_same outer rest tail, ap innermost tail)
+ended top rest kinds is = grind (arith, inside_same)
 
 goes : (top : Expect) (rest : List Expect) (e : PlainEvent) (kinds : List OpenKind)
     → map expects_in kinds ≡ inside_of (top ∷ rest)
     → IfSome (changed (transition_of top e) top rest) (Goes (next_expected (transition_of top e) (Some top)
     (innermost (map expects_in (open_after_event e kinds)))) (open_after_event e kinds))
-goes OneValue rest (StartArray hint) kinds is = (ap (λ l. Items ∷ l) is, refl)
-goes OneValue rest (StartDictionary hint) kinds is = (ap (λ l. Pairs ∷ l) is, refl)
-goes OneValue rest EndCollection kinds is = tt
-goes OneValue rest (ScalarEvent x) kinds is = (inside_same kinds rest is, ap innermost is)
-goes Items rest (StartArray hint) kinds is = (ap (λ l. Items ∷ l) is, refl)
-goes Items rest (StartDictionary hint) kinds is = (ap (λ l. Pairs ∷ l) is, refl)
-goes Items rest EndCollection kinds is = ended Items rest kinds is
-goes Items rest (ScalarEvent x) kinds is = (is, refl)
-goes Pairs rest EndCollection kinds is = ended Pairs rest kinds is
-goes Pairs rest (ScalarEvent (String text)) kinds is = (is, refl)
-goes Pairs rest e kinds is = tt
+goes top rest e kinds is = grind (arith, inside_same, ended)
 
 -- while something is expected, this is expected in the open collections
 inside_all : (next : Option Expect) (e : PlainEvent) (kinds : List OpenKind)
     → change_on next e ≢ Refused
     → map expects_in kinds ≡ inside_of (all_expected next (map expects_in kinds))
-inside_all None e kinds n = absurd (n refl)
-inside_all (Some OneValue) e kinds n = refl
-inside_all (Some other) e kinds n = sym (inside_alone kinds)
+inside_all next e kinds n = grind (arith, inside_alone)
 
 changed_to : {P : List Expect → Type 0} (c : Transition) (top : Expect) (rest : List Expect)
     → c ≢ Refused → IfSome (changed c top rest) P
     → (new : List Expect) × (changed c top rest ≡ Some new) × P new
-changed_to Refused top rest n p = absurd (n refl)
-changed_to c top rest n p = (_, refl, p)
+changed_to c top rest n p = search rules
 
 -- an event that isn't rejected leads to a new stack
 stepped : (next : Option Expect) (expects : List Expect) (e : PlainEvent) (kinds : List OpenKind)
@@ -98,14 +80,10 @@ stepped next (top ∷ rest) e kinds first is n =
 
 rejected : (expects : List Expect) (e : PlainEvent) → change_on (innermost expects) e ≡ Refused
     → step expects e ≡ None
-rejected [] e r = refl
-rejected (top ∷ rest) e r = ap (λ c. changed c top rest) r
+rejected expects e r = search rules
 
 all_again : (expects : List Expect) → all_expected (innermost expects) (inside_of expects) ≡ expects
-all_again [] = refl
-all_again (OneValue ∷ rest) = refl
-all_again (Items ∷ rest) = refl
-all_again (Pairs ∷ rest) = refl
+all_again expects = search rules
 
 -- nothing is expected if and only if the events are a tree's
 tests_whole : (es : List PlainEvent) (expects : List Expect) → expected_after es ≡ Some expects

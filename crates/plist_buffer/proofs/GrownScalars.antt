@@ -1,5 +1,5 @@
 -- The scalars of a table after one was inserted into one of its two sets.
-use Rattle.std.proofs.Common.{◌≡◌, ◌⊎◌, inl, inr, ℕ, Bool, true, if◌then◌else◌, List, [], ◌∷◌, ◌++◌, map, Some, sym, ap, ◌∙◌}
+use Rattle.std.proofs.Common.{◌≡◌, ◌⊎◌, ℕ, Bool, true, if◌then◌else◌, List, [], ◌∷◌, ◌++◌, map, Some, sym, ◌∙◌, rules}
 use Rattle.std.specs.Prelude.{slice_get}
 use Rattle.std.specs.List.{IsDistinct}
 use Rattle.plist_base.specs.Events.{PlainEvent}
@@ -35,8 +35,7 @@ both_apart small long first second =
 -- a scalar was added to one of the two lists, or to neither
 added : {a b c : List PlainEvent} (lists : List PlainEvent → ScalarLists)
     → (a ≡ b) ⊎ (a ≡ c) → (lists a ≡ lists b) ⊎ (lists a ≡ lists c)
-added lists (inl is) = inl (ap lists is)
-added lists (inr is) = inr (ap lists is)
+added lists is = search rules
 
 -- a small scalar was inserted, unless it was there
 pub grown_small : (held : EventTable) {new : List PackedScalar} (x : PackedScalar) (b : Bool)

@@ -1,6 +1,6 @@
 -- The innermost open start decides what is expected in its collection.
-use Rattle.std.proofs.Common.{◌≡◌, ◌⊎◌, inl, inr, ℕ, ◌<◌, true, List, [], ◌∷◌, ◌++◌, length, reverse, drop, map, Option, None, Some, refl, sym, ap, ◌∙◌}
-use Rattle.plist_base.specs.Events.{PlainEvent, StartArray, StartDictionary, EndCollection, ScalarEvent, shape_of}
+use Rattle.std.proofs.Common.{◌≡◌, ◌⊎◌, ℕ, ◌<◌, true, List, [], ◌∷◌, ◌++◌, length, reverse, drop, map, Option, None, Some, refl, sym, ap, ◌∙◌, rules, arith}
+use Rattle.plist_base.specs.Events.{PlainEvent, StartArray, StartDictionary, EndCollection, shape_of}
 use Rattle.plist_buffer.specs.declared.expects.Expect.{Expect}
 use Rattle.plist_buffer.specs.declared.expects.Expect.TheVariants.{Items, Pairs}
 use Rattle.plist_buffer.specs.declared.event_table.EventTable.{EventTable}
@@ -27,12 +27,7 @@ module _ (all : List PlainEvent) where
   one_inside : (e : PlainEvent) (p : ℕ) (unclosed : List ℕ) (kinds : List OpenKind)
       → event_at all p ≡ e → map expect_at unclosed ≡ map expects_in kinds
       → map expect_at (unclosed_after_event e p unclosed) ≡ map expects_in (open_after_event e kinds)
-  one_inside (StartArray hint) p unclosed kinds is same = λ i. expect_of (is i) ∷ same i
-  one_inside (StartDictionary hint) p unclosed kinds is same = λ i. expect_of (is i) ∷ same i
-  one_inside EndCollection p [] [] is same = refl
-  one_inside EndCollection p (q ∷ outer) (kind ∷ more) is same = cc
-  one_inside EndCollection p unclosed kinds is same = cc
-  one_inside (ScalarEvent x) p unclosed kinds is same = same
+  one_inside e p unclosed kinds is same = grind arith
 
   all_inside : (es : List PlainEvent) (p : ℕ) (unclosed : List ℕ) (kinds : List OpenKind)
       → drop p all ≡ es → map expect_at unclosed ≡ map expects_in kinds
@@ -54,9 +49,7 @@ expect_of_kind other = None
 
 start_expects : (e : PlainEvent) → is_start e ≡ true
     → expect_of_kind (shape_of e) ≡ Some (expect_of e)
-start_expects (StartArray hint) is = refl
-start_expects (StartDictionary hint) is = refl
-start_expects e is = cc
+start_expects e is = search rules
 
 module _ (table : EventTable) where
   abbrev events : List PlainEvent
@@ -70,15 +63,16 @@ module _ (table : EventTable) where
     pub last_expects : (k : EventShape) → k ≡ shape_of (event_at events q)
         → expect_of_kind k ≡ innermost (expected_inside events)
     last_expects k k_is =
-        ap expect_of_kind k_is ∙ start_expects _ (was_start table.kept.entries_are q outer is)
-        ∙ ap (λ l. innermost (map (expect_at events) l))
-        (sym (unclosed_is table.kept.entries_are q outer is))
-        ∙ ap innermost (inside_is events)
+        grind (
+          arith,
+          start_expects (event_at events q) (was_start table.kept.entries_are q outer is),
+          unclosed_is table.kept.entries_are q outer is,
+          inside_is events,
+        )
 
     pub last_is_start : (k : EventShape) → k ≡ shape_of (event_at events q)
         → (k ≡ shape.Scalar) ⊎ (k ≡ shape.EndCollection) → None ≡ innermost (expected_inside events)
-    last_is_start k k_is (inl other) = ap expect_of_kind (sym other) ∙ last_expects k k_is
-    last_is_start k k_is (inr other) = ap expect_of_kind (sym other) ∙ last_expects k k_is
+    last_is_start k k_is other = grind (arith, last_expects k k_is)
 
   pub none_expects : table.unclosed ≡ [] → None ≡ innermost (expected_inside events)
   none_expects none =

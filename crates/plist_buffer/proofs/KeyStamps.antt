@@ -1,13 +1,13 @@
 -- Stamps on the keys of a dictionary: a key with the dictionary's stamp has occurred in it before.
-use Rattle.std.proofs.Common.{◌≡◌, ◌≢◌, inl, inr, ℕ, ◌+◌, ◌<◌, true, false, Some, List, [], ◌∷◌, length, get_or, set, refl, ap, sym, ◌∙◌, subst, arith}
+use Rattle.std.proofs.Common.{◌≡◌, ◌≢◌, inl, inr, ℕ, ◌+◌, ◌<◌, true, false, Some, List, [], ◌∷◌, length, get_or, set, refl, ap, sym, ◌∙◌, subst, arith, rules}
 use Rattle.std.specs.List.{AllByRecursion}
-use Rattle.std.specs.Prelude.{slice_get, ⊤}
+use Rattle.std.specs.Prelude.{◌↔◌, slice_get, ⊤}
 use Rattle.std.proofs.lemmas.Bool.Decides.{eqb_tells}
 use Rattle.std.proofs.lemmas.List.{get_or-set_same, get_or-set_other}
 use Rattle.std.proofs.lemmas.List.Elements.{All-get_or, All-set, All-from_get_or}
 use Rattle.std.proofs.lemmas.Option.{slice_get_within, same_Some}
 use Rattle.plist_base.specs.Bracketing.{lengthless}
-use Rattle.plist_base.specs.Events.{PlainEvent, EndCollection, ScalarEvent, shape_of}
+use Rattle.plist_base.specs.Events.{PlainEvent, ScalarEvent, shape_of}
 use Rattle.plist_base.specs.Trees.{String, Tree, Leaf, Array, Dictionary, Trees, NoTrees, TreeAnd, Members, NoMembers, MemberAnd}
 use Rattle.plist_base.specs.declared.event.EventShape.TheVariants as shape
 use Rattle.plist_buffer.specs.EventTable.{AllBelow, event_at, is_end, key_indices}
@@ -105,37 +105,26 @@ same_key : (k l : List ℕ) → ScalarEvent (String k) ≡ ScalarEvent (String l
 same_key k l p = cc
 
 module _ {es : List PlainEvent} where
-  lacks_down : (e : PlainEvent) (key : List ℕ) (ms : Members) (q : ℕ) → PairsOccurAt es ms q
-      → e ≡ ScalarEvent (String key) → LacksEvent es e (key_indices ms q) → Lacks key ms
-  lacks_down e key NoMembers q s is h = tt
-  lacks_down e key (MemberAnd k t ms) q s is h = (
-    (λ same. h.0 (is ∙ ap (λ l. ScalarEvent (String l)) same ∙ sym (stands_single (occurs_key s)))),
-    lacks_down e key ms _ (occurs_next_pair s) is h.1,
-  )
+  -- an event differs from those of keys if and only if its key differs from the keys
+  lacks : (e : PlainEvent) (key : List ℕ) (ms : Members) (q : ℕ) → PairsOccurAt es ms q
+      → e ≡ ScalarEvent (String key) → LacksEvent es e (key_indices ms q) ↔ Lacks key ms
+  lacks e key NoMembers q s is = ((λ h. tt), λ h. tt)
+  lacks e key (MemberAnd k t ms) q s is =
+      let here = stands_single (occurs_key s) in
+      let next = lacks e key ms _ (occurs_next_pair s) is in (
+        (λ h. ((λ same. h.0 (is ∙ ap (λ l. ScalarEvent (String l)) same ∙ sym here)), next.0 h.1)),
+        λ h. ((λ same. h.0 (same_key key k (sym is ∙ same ∙ here))), next.1 h.1),
+      )
 
-  lacks_up : (e : PlainEvent) (key : List ℕ) (ms : Members) (q : ℕ) → PairsOccurAt es ms q
-      → e ≡ ScalarEvent (String key) → Lacks key ms → LacksEvent es e (key_indices ms q)
-  lacks_up e key NoMembers q s is h = tt
-  lacks_up e key (MemberAnd k t ms) q s is h = (
-    (λ same. h.0 (same_key key k (sym is ∙ same ∙ stands_single (occurs_key s)))),
-    lacks_up e key ms _ (occurs_next_pair s) is h.1,
-  )
-
-  pub differ_down : (ms : Members) (q : ℕ) → PairsOccurAt es ms q → Differ es (key_indices ms q)
-      → HasDistinctKeys ms
-  differ_down NoMembers q s d = tt
-  differ_down (MemberAnd k t ms) q s d = (
-    lacks_down _ k ms _ (occurs_next_pair s) (stands_single (occurs_key s)) d.0,
-    differ_down ms _ (occurs_next_pair s) d.1,
-  )
-
-  pub differ_up : (ms : Members) (q : ℕ) → PairsOccurAt es ms q → HasDistinctKeys ms
-      → Differ es (key_indices ms q)
-  differ_up NoMembers q s d = tt
-  differ_up (MemberAnd k t ms) q s d = (
-    lacks_up _ k ms _ (occurs_next_pair s) (stands_single (occurs_key s)) d.0,
-    differ_up ms _ (occurs_next_pair s) d.1,
-  )
+  pub differ : (ms : Members) (q : ℕ) → PairsOccurAt es ms q
+      → Differ es (key_indices ms q) ↔ HasDistinctKeys ms
+  differ NoMembers q s = ((λ d. tt), λ d. tt)
+  differ (MemberAnd k t ms) q s =
+      let first = lacks _ k ms _ (occurs_next_pair s) (stands_single (occurs_key s)) in
+      let next = differ ms _ (occurs_next_pair s) in (
+        (λ d. (first.0 d.0, next.0 d.1)),
+        λ d. (first.1 d.0, next.1 d.1),
+      )
 
 -- ---- the stamps
 
@@ -153,8 +142,7 @@ IfDictionary (Dictionary ms) = HasDistinctKeys ms
 IfDictionary t = Unit {0}
 
 goes_on : (e : PlainEvent) → shape_of e ≡ shape.StartDictionary → is_end e ≡ false
-goes_on EndCollection k = cc
-goes_on e k = refl
+goes_on e k = search rules
 
 module _ (es : List PlainEvent) where
   module _ (each : (p : ℕ) (ms : Members) → OccursAt es (Dictionary ms) p

@@ -1,5 +1,5 @@
 -- Buffered events are those of a tree without their lengths.
-use Rattle.std.proofs.Common.{◌≡◌, List, [], ◌∷◌, map, refl, sym, ◌∙◌}
+use Rattle.std.proofs.Common.{◌≡◌, List, [], ◌∷◌, map, refl, sym, ◌∙◌, arith}
 use Rattle.plist_base.specs.Bracketing.{bracketing, lengthless, without_length, AreAlike, AreTreeEvents}
 use Rattle.plist_base.specs.Trees.{Tree}
 use Rattle.plist_base.proofs.Lengths.{lengthless-is, without_length-twice}
@@ -11,8 +11,7 @@ use Rattle.plist_buffer.specs.inner.Entries.{ScalarLists, event_of_entry, events
 
 shown_twice : (scalars : ScalarLists) (e : EventEntry)
     → without_length (event_of_entry scalars e) ≡ event_of_entry scalars e
-shown_twice scalars (entry.Scalar number) = without_length-twice _
-shown_twice scalars e = refl
+shown_twice scalars e = grind (arith, without_length-twice)
 
 all_twice : (scalars : ScalarLists) (es : List EventEntry)
     → map without_length (events_of_entries scalars es) ≡ events_of_entries scalars es

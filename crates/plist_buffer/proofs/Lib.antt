@@ -1,5 +1,4 @@
 pub mod Columns
-pub mod Changes
 pub mod TreeOccurrences
 pub mod TreeStarts
 pub mod OpenStarts

@@ -1,7 +1,7 @@
 -- Which bytes are long scalars in their forms.
-use Rattle.std.proofs.Common.{◌≡◌, ◌∙◌, ◌<◌, inl, inr, ℕ, zero, suc, true, false, List, [], ◌∷◌, length, ap, refl, arith, IsUtf8, nat_lt}
-use Rattle.std.specs.Prelude.{IsAscii, if◌then◌else◌}
-use Rattle.std.proofs.lemmas.Bool.{and_parts, cases_Bool, ltb-true}
+use Rattle.std.proofs.Common.{◌≡◌, ◌<◌, ℕ, zero, suc, true, false, List, [], ◌∷◌, length, refl, arith, IsUtf8, nat_lt}
+use Rattle.std.specs.Prelude.{IsAscii}
+use Rattle.std.proofs.lemmas.Bool.{and_parts, ltb-true}
 use Rattle.std.proofs.lemmas.Str.{IsUtf8-from_ascii}
 use Rattle.plist_base.specs.Utf16.{utf16_form}
 use Rattle.plist_base.proofs.Utf16Forms.{form_back, form_valid}
@@ -21,14 +21,7 @@ ascii_bytes (byte ∷ rest) all (suc i) =
 -- a string that is stored in ASCII is one in UTF-8
 pub ascii_valid : (stored : Form) (bytes : List ℕ) → IsLongIn stored bytes → stored ≡ form.Ascii
     → IsUtf8 bytes
-ascii_valid form.Wide bytes is other = absurd cc
-ascii_valid form.Data bytes is other = absurd cc
-ascii_valid form.Ascii bytes is one = elim (cases_Bool (is_ascii_text bytes)) [
-  | inl t ↦ IsUtf8-from_ascii bytes (ascii_bytes bytes t)
-  | inr f ↦
-      let other = is.own ∙ ap (λ b. if b then form.Ascii else form.Wide) f in
-      absurd cc
-]
+ascii_valid stored bytes is one = grind (arith, IsUtf8-from_ascii, ascii_bytes, is.own)
 
 -- a string in ASCII is stored as it is
 pub ascii_long : (text : List ℕ) → 8 < length text → is_ascii_text text ≡ true
@@ -38,8 +31,4 @@ ascii_long text long ascii = record { long = long; own = rw ascii refl; valid = 
 -- a string that isn't ASCII is stored in UTF-16
 pub wide_long : (text : List ℕ) → IsUtf8 text → 8 < length text → is_ascii_text text ≡ false
     → IsLongIn form.Wide (utf16_form text)
-wide_long text utf8 long wide = record {
-  long = rw (form_back text utf8) long;
-  own = rw (form_back text utf8) (rw wide refl);
-  valid = λ own. form_valid text utf8;
-}
+wide_long text utf8 long wide = grind (arith, form_back text utf8, form_valid text utf8)

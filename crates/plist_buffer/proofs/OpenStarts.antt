@@ -1,10 +1,9 @@
 -- Which starts are open after some events, and where the tree that begins at an index ends.
-use Rattle.std.proofs.Common.{◌≡◌, ◌≢◌, ℕ, suc, ◌+◌, ◌<◌, ◌≤◌, Bool, true, false, if◌then◌else◌, List, [], ◌∷◌, ◌++◌, length, drop, take, refl, ap, sym, ◌∙◌, subst, arith, length-append, length-drop, add-zero}
+use Rattle.std.proofs.Common.{◌≡◌, ◌≢◌, ℕ, suc, ◌+◌, ◌<◌, ◌≤◌, Bool, true, false, List, [], ◌∷◌, ◌++◌, length, drop, take, refl, ap, sym, ◌∙◌, subst, arith, length-append, length-drop, add-zero, rules}
 use Rattle.std.specs.List.{AllByRecursion}
-use Rattle.std.proofs.lemmas.Bool.{eq-eqb, ne_eqb}
 use Rattle.std.proofs.lemmas.Bool.Decides.{nat_tests}
 use Rattle.std.proofs.lemmas.List.{take-append-drop, length-take-le}
-use Rattle.plist_base.specs.Events.{PlainEvent, StartArray, StartDictionary, EndCollection, ScalarEvent}
+use Rattle.plist_base.specs.Events.{PlainEvent, StartArray, StartDictionary, EndCollection}
 use Rattle.plist_base.specs.Trees.{Tree, Leaf, Array, Dictionary, Trees, NoTrees, TreeAnd, Members, NoMembers, MemberAnd}
 use Rattle.plist_base.specs.Bracketing.{lengthless, lengthless_items, lengthless_pairs}
 use Rattle.plist_buffer.specs.EventTable.{event_at}
@@ -19,29 +18,25 @@ open_append : (a b : List PlainEvent) (p : ℕ) (unclosed : List ℕ)
     → unclosed_from (a ++ b) p unclosed ≡ unclosed_from b (p + length a) (unclosed_from a p unclosed)
 open_append [] b p unclosed = ap (λ k. unclosed_from b k _) (sym (add-zero p))
 open_append (e ∷ a) b p unclosed =
-    let k : p + 1 + length a ≡ p + length (e ∷ a) = omega arith in
-    rw (← k) (open_append a b _ _)
+    grind (arith, open_append a b (p + 1) (unclosed_after_event e p unclosed))
 
 skip_append : (a b : List PlainEvent) (p : ℕ) (unclosed : List ℕ) (q given : ℕ)
     → skip_from (a ++ b) p unclosed q given
     ≡ skip_from b (p + length a) (unclosed_from a p unclosed) q (skip_from a p unclosed q given)
 skip_append [] b p unclosed q given = ap (λ k. skip_from b k _ q _) (sym (add-zero p))
 skip_append (e ∷ a) b p unclosed q given =
-    let k : p + 1 + length a ≡ p + length (e ∷ a) = omega arith in
-    rw (← k) (skip_append a b _ _ q _)
+    grind (arith, skip_append a b (p + 1) (unclosed_after_event e p unclosed) q (skip_after_event e p unclosed q given))
 
 -- one more event changes the open starts as `unclosed_after_event` says
 pub open_more : (es : List PlainEvent) (e : PlainEvent)
     → unclosed_after (es ++ e ∷ []) ≡ unclosed_after_event e (length es) (unclosed_after es)
 open_more es e =
-    let z : 0 + length es ≡ length es = omega arith in
-    cc (open_append es (e ∷ []) 0 [])
+    grind (arith, open_append es (e ∷ []) 0 [])
 
 pub skip_more : (es : List PlainEvent) (e : PlainEvent) (q : ℕ) → skip_after (es ++ e ∷ []) q
     ≡ skip_after_event e (length es) (unclosed_after es) q (skip_after es q)
 skip_more es e q =
-    let z : 0 + length es ≡ length es = omega arith in
-    cc (skip_append es (e ∷ []) 0 [] q (q + 1))
+    grind (arith, skip_append es (e ∷ []) 0 [] q (q + 1))
 
 -- ---- trees
 
@@ -83,11 +78,12 @@ skip_end : (body : List PlainEvent) (q given : ℕ) (unclosed : List ℕ)
     → skip_from (body ++ EndCollection ∷ []) (q + 1) (q ∷ unclosed) q given
     ≡ q + suc (length (body ++ EndCollection ∷ []))
 skip_end body q given unclosed h =
-    skip_append body (EndCollection ∷ []) (q + 1) (q ∷ unclosed) q given
-    ∙ ap (λ b. skip_after_event EndCollection (q + 1 + length body) b q
-    (skip_from body (q + 1) (q ∷ unclosed) q given)) h
-    ∙ ap (λ b. if b then q + 1 + length body + 1 else skip_from body (q + 1) (q ∷ unclosed) q given)
-    (eq-eqb q q refl) ∙ omega (arith, length-append body (EndCollection ∷ []))
+    grind (
+      arith,
+      nat_tests,
+      skip_append body (EndCollection ∷ []) (q + 1) (q ∷ unclosed) q given,
+      length-append body (EndCollection ∷ []),
+    )
 
 skip_tree : (t : Tree) (q : ℕ) (unclosed : List ℕ) → skip_from (lengthless t) q unclosed q (q + 1)
     ≡ q + event_count t
@@ -104,11 +100,7 @@ Lacks q indices = AllByRecursion (λ index. index ≢ q) indices
 
 one_apart : (e : PlainEvent) (p q given : ℕ) (unclosed : List ℕ) → p ≢ q → Lacks q unclosed
     → Lacks q (unclosed_after_event e p unclosed) × (skip_after_event e p unclosed q given ≡ given)
-one_apart EndCollection p q given [] off l = (tt, refl)
-one_apart EndCollection p q given (i ∷ outer) off l =
-    (l.1, ap (λ b. if b then p + 1 else given) (ne_eqb q i (λ e. l.0 (sym e))))
-one_apart (ScalarEvent x) p q given unclosed off l = (l, refl)
-one_apart e p q given unclosed off l = ((off, l), refl)
+one_apart e p q given unclosed off l = grind (arith, nat_tests)
 
 -- no other event begins the tree at this index, or ends it
 apart : (es : List PlainEvent) (p q given : ℕ) (unclosed : List ℕ)
@@ -153,10 +145,7 @@ skip_ends es t q s =
 
 one_within : (e : PlainEvent) (p q given n : ℕ) (unclosed : List ℕ) → q ≤ p → p < n → q < given
     → given ≤ n → (q < skip_after_event e p unclosed q given) × (skip_after_event e p unclosed q given ≤ n)
-one_within EndCollection p q given n [] a b c d = (c, d)
-one_within EndCollection p q given n (i ∷ outer) a b c d =
-    (grind (arith, nat_tests), grind (arith, nat_tests))
-one_within e p q given n unclosed a b c d = (c, d)
+one_within e p q given n unclosed a b c d = grind (arith, nat_tests)
 
 all_within : (es : List PlainEvent) (p q given n : ℕ) (unclosed : List ℕ) → q ≤ p → p + length es ≤ n
     → q < given → given ≤ n
@@ -187,10 +176,7 @@ module _ (all : List PlainEvent) where
 
   one_starts : (e : PlainEvent) (p : ℕ) (unclosed : List ℕ) → event_at all p ≡ e → Starts unclosed
       → Starts (unclosed_after_event e p unclosed)
-  one_starts EndCollection p [] is a = tt
-  one_starts EndCollection p (i ∷ outer) is a = a.1
-  one_starts (ScalarEvent x) p unclosed is a = a
-  one_starts e p unclosed is a = (ap is_start is, a)
+  one_starts e p unclosed is a = search rules
 
   all_start : (es : List PlainEvent) (p : ℕ) (unclosed : List ℕ) → drop p all ≡ es → Starts unclosed
       → Starts (unclosed_from es p unclosed)

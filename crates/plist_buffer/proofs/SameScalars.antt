@@ -1,11 +1,10 @@
 -- The tests of scalars decide whether two of them are equal.
-use Rattle.std.proofs.Common.{◌≡◌, ◌∙◌, ◌⊎◌, inl, inr, ℕ, ◌≤◌, Bool, true, false, List, ap, sym, subst, arith}
+use Rattle.std.proofs.Common.{◌≡◌, ◌⊎◌, ℕ, ◌≤◌, Bool, true, false, List, ap, subst, arith, rules}
 use Rattle.std.specs.Str.{bytes_eq}
-use Rattle.std.proofs.lemmas.Bool.{cases_Bool, both_ways as never_both}
 use Rattle.std.proofs.lemmas.Slice.Eq.{bytes_eq-Decides}
 use Rattle.plist_base.specs.Events.{ScalarEvent}
 use Rattle.plist_base.specs.Scalars.{scalar_eq, scalar_is, scalar_refl}
-use Rattle.plist_base.specs.Trees.{Scalar, Data, String}
+use Rattle.plist_base.specs.Trees.{Scalar}
 use Rattle.plist_base.specs.PackedScalars.{packed_eq, scalar_of_packed}
 use Rattle.plist_base.specs.Packing.{IsPackable}
 use Rattle.plist_base.proofs.PackedScalars.{is_packed_eq, packed_is}
@@ -22,18 +21,12 @@ abbrev pub Tells : {K : Type 0} → (K → K → Bool) → K → K → Type 0
 Tells eq a b = Answers (eq a b) a b
 
 pub bytes_tell : (a b : List ℕ) → Tells bytes_eq a b
-bytes_tell a b =
-    elim (cases_Bool _) [
-      | inl t ↦ inl (t, (bytes_eq-Decides a b).0 t)
-      | inr f ↦ inr
-          (f, λ e. never_both _ f ((bytes_eq-Decides a b).1 e))
-    ]
+bytes_tell a b = grind (arith, bytes_eq-Decides a b)
 
 -- a test that decides whether parts are equal decides it for what is made of them
 made : {A B : Type 0} {r : Bool} {a b : A} (make : A → B) → (make a ≡ make b → a ≡ b)
     → Answers r a b → Answers r (make a) (make b)
-made make back (inl h) = inl (h.0, ap make h.1)
-made make back (inr h) = inr (h.0, λ e. h.1 (back e))
+made make back h = grind arith
 
 pub tells_made : {A B : Type 0} (eq : A → A → Bool) (test : B → B → Bool) (make : A → B) (a b : A)
     → test (make a) (make b) ≡ eq a b → (make a ≡ make b → a ≡ b) → Tells eq a b
@@ -43,18 +36,10 @@ tells_made eq test make a b is back given = rw is (made make back given)
 -- two tests that decide the same have the same result
 pub tells_both : {A B : Type 0} (f : A → A → Bool) (g : B → B → Bool) (a b : A) (c d : B)
     → Tells f a b → Tells g c d → (a ≡ b → c ≡ d) → (c ≡ d → a ≡ b) → f a b ≡ g c d
-tells_both f g a b c d (inl e) (inl k) to from = e.0 ∙ sym k.0
-tells_both f g a b c d (inl e) (inr k) to from = absurd (k.1 (to e.1))
-tells_both f g a b c d (inr e) (inl k) to from = absurd (e.1 (from k.1))
-tells_both f g a b c d (inr e) (inr k) to from = e.0 ∙ sym k.0
+tells_both f g a b c d e k to from = search rules
 
 pub scalars_tell : (a b : Scalar) → Tells scalar_eq a b
-scalars_tell a b =
-    elim (cases_Bool (scalar_eq a b)) [
-      | inl t ↦ inl (t, scalar_is a b t)
-      | inr f ↦ inr
-          (f, λ e. never_both _ f (subst (λ y. scalar_eq a y ≡ true) e (scalar_refl a)))
-    ]
+scalars_tell a b = grind (arith, scalar_is a b, scalar_refl a)
 
 -- ---- stored scalars
 
@@ -88,9 +73,7 @@ same_long a b h = event_same (scalar_of_long a) (scalar_of_long b) h
 
 -- a packed string or packed data has at most eight bytes
 packable_bytes : (scalar : Scalar) → IsPackable scalar → bytes_in_scalar scalar ≤ 8
-packable_bytes (String text) kept = kept.0
-packable_bytes (Data bytes) kept = kept
-packable_bytes scalar kept = omega arith
+packable_bytes scalar kept = search rules
 
 -- no packed scalar is a long one
 pub small_or_long : (a : PackedScalar) (b : LongScalar) → event_of_small a ≡ event_of_long b → ⊥

@@ -1,12 +1,20 @@
 -- Keys of a set: equal keys have the same view.
-use Rattle.std.proofs.Common.{◌≡◌, ◌⊎◌, inl, inr, ℕ, zero, suc, ◌+◌, ◌<◌, Bool, true, false, if◌then◌else◌, List, [], ◌∷◌, ◌++◌, length, map, take, position, Option, None, Some, refl, sym, ap, ◌∙◌, subst, arith, append-nil}
+use Rattle.std.proofs.Common.{◌≡◌, ◌⊎◌, inl, inr, ℕ, zero, suc, ◌+◌, ◌<◌, Bool, true, false, if◌then◌else◌, List, [], ◌∷◌, ◌++◌, length, map, take, position, Option, None, Some, refl, sym, ap, arith}
 use Rattle.std.proofs.Math.Seq.{take-append_seam, take-length}
 use Rattle.std.proofs.lemmas.List.{map-append}
 use Rattle.std.proofs.lemmas.List.Quantifiers.{position-Some}
 use Rattle.std.specs.Prelude.{slice_get, IfSome}
 use Rattle.std.specs.List.{AllByRecursion, IsDistinct}
-use Rattle.std.proofs.lemmas.Option.{slice_get-map, slice_get-get_or}
+use Rattle.std.proofs.lemmas.Option.{slice_get_cases, slice_get_within, slice_get-map, slice_get-get_or}
 use Rattle.plist_buffer.specs.inner.Entries.{AreDistinct}
+
+-- a key of a list with one more key was there, or is that key
+pub old_or_last : {K : Type 0} (a : List K) (x : K) (i : ℕ) (k : K) → slice_get (a ++ x ∷ []) i ≡ Some k
+    → (slice_get a i ≡ Some k) ⊎ (k ≡ x)
+old_or_last [] x zero k h = inr cc
+old_or_last [] x (suc i) k h = cc
+old_or_last (y ∷ a) x zero k h = inl h
+old_or_last (y ∷ a) x (suc i) k h = old_or_last a x i k h
 
 module _ {T P : Type 0} (same : T → T → Bool) (view : T → P) where
   -- if an item at an index is the same as x, the key at that index is that of x
@@ -19,45 +27,34 @@ module _ {T P : Type 0} (same : T → T → Bool) (view : T → P) where
   -- after an insert there is at most one more key
   pub grown : (b : Bool) (old new : List T) (x : T) → new ≡ (if b then old else old ++ x ∷ [])
       → (map view new ≡ map view old) ⊎ (map view new ≡ map view old ++ view x ∷ [])
-  grown true old new x e = inl (ap (map _) e)
-  grown false old new x e = inr (cc (map-append view old (x ∷ [])))
+  grown b old new x e = grind (arith, map-append)
 
   module _ (b : Bool) (old new : List T) (x : T)
       (e : new ≡ (if b then old else old ++ x ∷ [])) where
-    pub keys_more : (more : List P) × (map view new ≡ map view old ++ more)
-    keys_more = elim (grown b old new x e) [
-      | inl s ↦ ([], s ∙ sym (append-nil _))
-      | inr g ↦ (view x ∷ [], g)
-    ]
-
     -- inserting a key changes no key before it
     pub keys_kept : (i : ℕ) → i < length (map view old)
         → slice_get (map view new) i ≡ slice_get (map view old) i
-    keys_kept i h =
-        let more = keys_more in cc (front (map view old) more.0 i h)
+    keys_kept i h = elim (grown b old new x e) [
+      | inl s ↦ cc
+      | inr g ↦ cc (front (map view old) i h)
+    ]
       where
-        front : (xs ys : List P) (i : ℕ) → i < length xs → slice_get (xs ++ ys) i ≡ slice_get xs i
-        front [] ys i h = absurd (omega arith)
-        front (y ∷ xs) ys zero h = refl
-        front (y ∷ xs) ys (suc i) h = front xs ys i (omega arith)
+        front : (xs : List P) (i : ℕ) → i < length xs
+            → slice_get (xs ++ view x ∷ []) i ≡ slice_get xs i
+        front [] i h = absurd (omega arith)
+        front (y ∷ xs) zero h = refl
+        front (y ∷ xs) (suc i) h = front xs i (omega arith)
 
     -- a key is one of those before, or the one that was inserted
     pub key_came : (i : ℕ) → i < length (map view new)
         → (i < length (map view old)) ⊎ (slice_get (map view new) i ≡ Some (view x))
-    key_came i h = elim (grown b old new x e) [
-      | inl s ↦ inl (rw (← s) h)
-      | inr g ↦ rw g (last _ i (rw (← g) h))
-    ]
-      where
-        last : (xs : List P) (i : ℕ) → i < length (xs ++ view x ∷ [])
-            → (i < length xs) ⊎ (slice_get (xs ++ view x ∷ []) i ≡ Some (view x))
-        last [] zero h = inr refl
-        last [] (suc i) h = absurd (omega arith)
-        last (y ∷ xs) zero h = inl (omega arith)
-        last (y ∷ xs) (suc i) h = elim (last xs i (omega arith)) [
-          | inl l ↦ inl (omega arith)
-          | inr r ↦ inr r
-        ]
+    key_came i h = grind (
+      arith,
+      grown b old new x e,
+      slice_get_cases (map view new) i,
+      old_or_last (map view old) (view x) i,
+      slice_get_within (map view old) i,
+    )
 
   -- if keys that are the same as x have its view, the key that is found for x has it
   pub key_found : (x : T) → ((y : T) → same x y ≡ true → view x ≡ view y) → (cs : List T)
@@ -77,11 +74,8 @@ module _ {T P : Type 0} (same : T → T → Bool) (view : T → P) where
     no_key : (x : T) (cs : List T) (j : ℕ) → AllByRecursion (λ y. same x y ≡ false) cs
         → slice_get (map view cs) j ≡ Some (view x) → ⊥
     no_key x [] j a h = cc
-    no_key x (y ∷ cs) zero a h = let k : view y
-        ≡ view x = cc in never _ (key_same x y (sym k)) a.0
-      where
-        never : (b : Bool) → b ≡ true → b ≡ false → ⊥
-        never b p q = cc
+    no_key x (y ∷ cs) zero a h =
+        let k : view y ≡ view x = cc in cc (key_same x y (sym k), a.0)
     no_key x (y ∷ cs) (suc j) a h = no_key x cs j a.1 h
 
     -- different keys have different views
@@ -101,8 +95,7 @@ key_read view cs i stored found = cc (slice_get-map view cs i, stored, found)
 -- if the inserted key is removed, the keys are the old ones
 pub keys_back : {T : Type 0} (b : Bool) {old new left : List T} {n : ℕ} (x : T)
     → left ≡ take n new → n ≡ length old → new ≡ (if b then old else old ++ x ∷ []) → left ≡ old
-keys_back true {old} x taken long e = cc (take-length old)
-keys_back false {old} x taken long e = cc (take-append_seam old (x ∷ []))
+keys_back b x taken long e = grind (arith, take-length, take-append_seam)
 
 -- ---- two lists of keys, one after the other
 
@@ -116,11 +109,9 @@ module _ {K : Type 0} where
   pub second_of_both : (a b : List K) (i : ℕ) (k : K) → slice_get b i ≡ Some k
       → slice_get (a ++ b) (length a + i) ≡ Some k
   second_of_both [] b i k h =
-      let same : i ≡ length {A = K} [] + i = omega arith in
-      subst (λ n. slice_get b n ≡ Some k) same h
+      grind arith
   second_of_both (x ∷ a) b i k h =
-      let same : suc (length a + i) ≡ length (x ∷ a) + i = omega arith in
-      subst (λ n. slice_get (x ∷ a ++ b) n ≡ Some k) same (second_of_both a b i k h)
+      grind (arith, second_of_both a b i k h)
 
   one_of_both : (a b : List K) (i : ℕ) (k : K) → slice_get (a ++ b) i ≡ Some k
       → (slice_get a i ≡ Some k) ⊎ ((j : ℕ) × (i ≡ length a + j) × (slice_get b j ≡ Some k))
@@ -131,24 +122,13 @@ module _ {K : Type 0} where
     | inr r ↦ inr (r.0, omega (arith, r.1), r.2)
   ]
 
-  -- a key of a list with one more key was there, or is that key
-  pub old_or_last : (a : List K) (x : K) (i : ℕ) (k : K) → slice_get (a ++ x ∷ []) i ≡ Some k
-      → (slice_get a i ≡ Some k) ⊎ (k ≡ x)
-  old_or_last [] x zero k h = inr cc
-  old_or_last [] x (suc i) k h = cc
-  old_or_last (y ∷ a) x zero k h = inl h
-  old_or_last (y ∷ a) x (suc i) k h = old_or_last a x i k h
-
   module _ (a b : List K) where
     pub distinct_first : AreDistinct (a ++ b) → AreDistinct a
-    distinct_first apart i j k p q =
-        apart i j k (first_of_both a b i k p) (first_of_both a b j k q)
+    distinct_first apart i j k p q = grind (arith, apart i j k, first_of_both a b)
 
     pub distinct_second : AreDistinct (a ++ b) → AreDistinct b
     distinct_second apart i j k p q =
-        let same = apart (length a + i) (length a + j) k (second_of_both a b i k p)
-        (second_of_both a b j k q) in
-        omega (arith, same)
+        grind (arith, apart (length a + i) (length a + j) k, second_of_both a b)
 
     -- keys are distinct if those of both lists are, and no key is in both
     pub distinct_both : AreDistinct a → AreDistinct b
@@ -160,10 +140,7 @@ module _ {K : Type 0} where
         by : (slice_get a i ≡ Some k) ⊎ ((n : ℕ) × (i ≡ length a + n) × (slice_get b n ≡ Some k))
             → (slice_get a j ≡ Some k) ⊎ ((n : ℕ) × (j ≡ length a + n) × (slice_get b n ≡ Some k))
             → i ≡ j
-        by (inl s) (inl t) = first i j k s t
-        by (inl s) (inr t) = absurd (never i t.0 k s t.2)
-        by (inr s) (inl t) = absurd (never j s.0 k t s.2)
-        by (inr s) (inr t) = let same = second s.0 t.0 k s.2 t.2 in omega (arith, same, s.1, t.1)
+        by s t = grind (arith, first i j k, never i, never j, second)
 
 -- a key of a mapped list is the image of an item
 pub mapped : {T P : Type 0} (view : T → P) (cs : List T) (i : ℕ) (k : P)

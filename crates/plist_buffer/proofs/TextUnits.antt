@@ -1,12 +1,13 @@
 -- The units of a string.
-use Rattle.std.proofs.Common.{◌≡◌, inl, inr, ℕ, ◌+◌, ◌*◌, ◌/◌, ◌<◌, ◌≤◌, Bool, true, false, List, [], ◌∷◌, ◌++◌, length, flat_map, chars, IsUtf8, nat_lt, refl, ap, sym, ◌∙◌, arith, length-append}
+use Rattle.std.proofs.Common.{rules, ◌≡◌, ℕ, ◌+◌, ◌*◌, ◌<◌, ◌≤◌, Bool, true, false, List, [], ◌∷◌, ◌++◌, length, flat_map, chars, IsUtf8, nat_lt, refl, ap, sym, ◌∙◌, arith, length-append}
 use Rattle.std.specs.Char.Escape.{encode_utf16}
 use Rattle.std.specs.Char.{encode_utf8, len_utf8}
 use Rattle.std.specs.Int.{bytes_high_first}
 use Rattle.std.specs.Prelude.{◌&&◌}
 use Rattle.std.specs.Str.{encode_utf8_all}
 use Rattle.std.proofs.Math.Utf8.{scalars}
-use Rattle.std.proofs.lemmas.Bool.{lt-ltb, le-ltb, cases_lt}
+use Rattle.std.proofs.lemmas.Bool.{lt-ltb}
+use Rattle.std.proofs.lemmas.Bool.Decides.{nat_tests}
 use Rattle.std.proofs.lemmas.Grind.{flat_map-append}
 use Rattle.std.proofs.lemmas.List.{nil_from_length}
 use Rattle.std.proofs.lemmas.List.Elements.{All-from_get_or}
@@ -35,19 +36,7 @@ units_are text cs s e = ap (flat_map _) (ap chars (sym e) ∙ chars-encodes cs s
 
 -- a character has no more units than bytes
 pub few_units : (c : ℕ) → length (encode_utf16 c) ≤ length (encode_utf8 c)
-few_units c =
-    elim (cases_lt c 0x1_0000) [
-      | inl low ↦ rw (lt-ltb c 0x1_0000 low) (omega (arith, length-encode c, least))
-      | inr high ↦ rw (le-ltb c 0x1_0000 high) (omega (arith, length-encode c, most high))
-    ]
-  where
-    least : 1 ≤ len_utf8 c
-    least = grind arith
-
-    most : 0x1_0000 ≤ c → 2 ≤ len_utf8 c
-    most h =
-        rw (le-ltb c 0x80 (omega arith), le-ltb c 0x800 (omega arith), le-ltb c _ h)
-        (omega arith)
+few_units c = grind (arith, nat_tests, length-encode)
 
 pub few_units_in : (cs : List ℕ) → length (flat_map encode_utf16 cs) ≤ length (encode_utf8_all cs)
 few_units_in [] = omega arith
@@ -87,41 +76,19 @@ form_length text = two_bytes (units_of text)
 -- a character from 128 on isn't ASCII
 wide_char : (c : ℕ) → 128 ≤ c → is_ascii_text (encode_utf8 c) ≡ false
 unfolding encode_utf8
-wide_char c from = elim (cases_lt c 0x800) [
-  | inl two ↦ rw (le-ltb c 0x80 from, lt-ltb c 0x800 two, le-ltb (192 + c / 64) 128 (omega arith)) refl
-  | inr three ↦ elim (cases_lt c 0x1_0000) [
-    | inl low ↦ rw (
-      le-ltb c 0x80 from,
-      le-ltb c 0x800 three,
-      lt-ltb c 0x1_0000 low,
-      le-ltb (224 + c / 4096) 128 (omega arith),
-    ) refl
-    | inr high ↦ rw (
-      le-ltb c 0x80 from,
-      le-ltb c 0x800 three,
-      le-ltb c 0x1_0000 high,
-      le-ltb (240 + c / 262144) 128 (omega arith),
-    ) refl
-  ]
-]
+wide_char c from = grind (arith, nat_tests)
 
 and_false : (b : Bool) → b && false ≡ false
-and_false true = refl
-and_false false = refl
+and_false b = search rules
 
 -- characters aren't ASCII if the first one isn't
 pub wide_first : (c : ℕ) (cs : List ℕ) → 128 ≤ c → is_ascii_text (encode_utf8_all (c ∷ cs)) ≡ false
-wide_first c cs from =
-    list_all-append (λ byte. nat_lt byte 128) (encode_utf8 c) (encode_utf8_all cs)
-    ∙ ap (λ b. b && is_ascii_text (encode_utf8_all cs)) (wide_char c from)
+wide_first c cs from = grind (arith, list_all-append (λ byte. nat_lt byte 128) (encode_utf8 c), wide_char c from)
 
 -- characters aren't ASCII if those after the first one aren't
 pub wide_later : (c : ℕ) (cs : List ℕ) → is_ascii_text (encode_utf8_all cs) ≡ false
     → is_ascii_text (encode_utf8_all (c ∷ cs)) ≡ false
-wide_later c cs later =
-    list_all-append (λ byte. nat_lt byte 128) (encode_utf8 c) (encode_utf8_all cs)
-    ∙ ap (λ b. is_ascii_text (encode_utf8 c) && b) later
-    ∙ and_false (is_ascii_text (encode_utf8 c))
+wide_later c cs later = grind (arith, list_all-append (λ byte. nat_lt byte 128) (encode_utf8 c), and_false)
 
 -- the bytes of a character and of those that follow it
 pub bytes_step : (c : ℕ) (cs : List ℕ)

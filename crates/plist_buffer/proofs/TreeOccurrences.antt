@@ -13,7 +13,7 @@ drop_twice n p es = simp drop-drop
 
 -- if `a` and then `b` are the events from an index on, `b` begins at the index after `a`
 pub past : (a b es : List PlainEvent) (p : ℕ) → drop p es ≡ a ++ b → drop (p + length a) es ≡ b
-past a b es p h = cc (drop_twice _ p es, drop-append_seam a b)
+past a b es p h = cc (drop_twice (length a) p es, drop-append_seam a b)
 
 pub past_one : (e : PlainEvent) (b es : List PlainEvent) (p : ℕ) → drop p es ≡ e ∷ b
     → drop (p + 1) es ≡ b

@@ -1,5 +1,5 @@
 -- The positions of a tree are those of its events, and each event that isn't an end has one.
-use Rattle.std.proofs.Common.{◌≡◌, ℕ, zero, suc, ◌+◌, ◌<◌, false, List, [], ◌∷◌, ◌++◌, length, map, Some, refl, ap, sym, ◌∙◌, subst, arith, add-zero, append_assoc, append-nil}
+use Rattle.std.proofs.Common.{◌≡◌, ℕ, zero, suc, ◌+◌, ◌<◌, false, List, [], ◌∷◌, ◌++◌, length, map, Some, refl, ap, sym, ◌∙◌, subst, arith, add-zero, append_assoc, append-nil, rules}
 use Rattle.std.specs.List.{AllByRecursion, flat_map}
 use Rattle.std.proofs.lemmas.Grind.{flat_map-append}
 use Rattle.std.proofs.lemmas.List.{map-append}
@@ -31,11 +31,7 @@ indices_append : (a b : List PlainEvent) (p : ℕ)
     → indices_from (a ++ b) p ≡ indices_from a p ++ indices_from b (p + length a)
 indices_append [] b p = ap (indices_from b) (sym (add-zero p))
 indices_append (e ∷ a) b p =
-    let k : p + 1 + length a ≡ p + length (e ∷ a) = omega arith in
-    ap (λ l. index_of e p ++ l) (indices_append a b (p + 1)
-    ∙ ap (λ n. indices_from a (p + 1) ++ indices_from b n) k)
-    ∙ sym (append_assoc (index_of e p) (indices_from a (p + 1))
-    (indices_from b (p + length (e ∷ a))))
+    grind (arith, indices_append a b (p + 1), append_assoc {A = ℕ})
 
 abbrev index : ℕ × Tree → ℕ
 index one = one.0
@@ -70,16 +66,14 @@ mutual
 module _ (R : ℕ → Type 0) where
   first_start : (e : PlainEvent) (p : ℕ) → AllByRecursion R (index_of e p) → is_end e ≡ false
       → R (p + 0)
-  first_start EndCollection p a n = cc
-  first_start e p a n = rw (add-zero p) a.0
+  first_start e p a n = search rules
 
   at_start : (es : List PlainEvent) (p q : ℕ) → AllByRecursion R (indices_from es p)
       → q < length es → is_end (event_at es q) ≡ false → R (p + q)
   at_start [] p q a lt n = absurd (omega arith)
   at_start (e ∷ es) p zero a lt n = first_start e p (all_left R _ _ a) n
   at_start (e ∷ es) p (suc q) a lt n =
-      let k : p + 1 + q ≡ p + suc q = omega arith in
-      rw (← k) (at_start es (p + 1) q (all_right R (index_of e p) _ a) (omega (arith, lt)) n)
+      grind (arith, at_start es (p + 1) q (all_right R (index_of e p) _ a))
 
 -- ---- positions
 

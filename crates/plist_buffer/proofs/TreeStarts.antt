@@ -1,5 +1,5 @@
 -- The events at which trees begin.
-use Rattle.std.proofs.Common.{◌≡◌, ◌⊎◌, inl, inr, ℕ, ◌+◌, ◌-◌, ◌<◌, ◌≤◌, false, None, List, ◌∷◌, ◌++◌, length, drop, ap, sym, ◌∙◌, arith, length-append, length-drop, add-zero}
+use Rattle.std.proofs.Common.{◌≡◌, ◌⊎◌, ℕ, ◌+◌, ◌-◌, ◌<◌, ◌≤◌, false, None, List, ◌∷◌, ◌++◌, length, drop, ap, sym, ◌∙◌, arith, length-append, length-drop, add-zero, rules}
 use Rattle.std.proofs.lemmas.List.{get_or-drop}
 use Rattle.plist_base.specs.Trees as trees
 use Rattle.plist_base.specs.Events.{PlainEvent, StartArray, StartDictionary, EndCollection, ScalarEvent}
@@ -48,8 +48,7 @@ module _ {es : List PlainEvent} {p : ℕ} where
 -- a scalar and an end don't begin a collection
 pub no_start : {k : EventShape} → (k ≡ shape.Scalar) ⊎ (k ≡ shape.EndCollection)
     → (k ≡ shape.StartArray → ⊥) × (k ≡ shape.StartDictionary → ⊥)
-no_start (inl is) = ((λ e. cc), λ e. cc)
-no_start (inr is) = ((λ e. cc), λ e. cc)
+no_start is = search rules
 
 pub begins : {es : List PlainEvent} (t : Tree) (p : ℕ) → OccursAt es t p
     → is_end (event_at es p) ≡ false

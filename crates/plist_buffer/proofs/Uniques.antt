@@ -1,6 +1,6 @@
 -- Lists without their repeated items, and what mapping a function over them does; and facts about
 -- all items of a list.
-use Rattle.std.proofs.Common.{◌≡◌, inl, inr, ℕ, ◌<◌, ◌≤◌, Bool, true, false, cond, ◌||◌, eqb, List, [], ◌∷◌, ◌++◌, length, map, refl, ap}
+use Rattle.std.proofs.Common.{◌≡◌, inl, inr, ℕ, ◌<◌, ◌≤◌, Bool, true, cond, ◌||◌, eqb, List, [], ◌∷◌, ◌++◌, length, map, refl, ap, rules, arith}
 use Rattle.std.specs.List.{list_any, AllByRecursion, IsDistinct}
 use Rattle.std.specs.Set.{is_member, unique_keys}
 use Rattle.std.proofs.lemmas.Bool.Decides.{eqb_tells}
@@ -35,8 +35,7 @@ module _ {A : Type 0} (P : A → Type 0) where
 
   all_kept : (b : Bool) (x : A) (xs : List A) → P x → AllByRecursion P xs
       → AllByRecursion P (cond b xs (x ∷ xs))
-  all_kept true x xs p a = a
-  all_kept false x xs p a = (p, a)
+  all_kept b x xs p a = search rules
 
   -- what is true of all items is true of those that are kept
   pub all_unique : (eq : A → A → Bool) (xs : List A) → AllByRecursion P xs
@@ -51,11 +50,7 @@ module _ {A : Type 0} (P : A → Type 0) where
 pub any_has : (P : ℕ → Type 0) (xs : List ℕ) (q : ℕ) → AllByRecursion P xs
     → list_any (eqb q) xs ≡ true → P q
 any_has P [] q a h = cc
-any_has P (x ∷ xs) q a h =
-    elim (eqb_tells q x) [
-      | inl e ↦ rw e.1 a.0
-      | inr d ↦ any_has P xs q a.1 (cc)
-    ]
+any_has P (x ∷ xs) q a h = grind (arith, eqb_tells q x, a.0, any_has P xs q a.1)
 
 -- a list of different numbers below a count is no longer than the count
 pub few_below : (count : ℕ) (xs : List ℕ) → AllByRecursion (λ x. x < count) xs → IsDistinct eqb xs
@@ -98,9 +93,7 @@ module _ {A B : Type 0} (eqa : A → A → Bool) (eqb : B → B → Bool) (f : A
 
   seen_cond : (b c : Bool) (us : List A) (x : A) (vs : List B) → b ≡ c → map f us ≡ vs
       → map f (cond b us (x ∷ us)) ≡ cond c vs (f x ∷ vs)
-  seen_cond true true us x vs e h = h
-  seen_cond false false us x vs e h = ap (λ l. f x ∷ l) h
-  seen_cond b c us x vs e h = cc
+  seen_cond b c us x vs e h = search rules
 
   -- two tests that agree keep the same items
   pub unique_seen : (xs : List A) → AllByRecursion P xs

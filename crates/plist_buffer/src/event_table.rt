@@ -304,10 +304,7 @@ impl<'e> EventTable<'e> {
                 self.unclosed.pop();
                 Ok(())
             }
-            None => {
-                self.entries.push(EventEntry::End)?;
-                Ok(())
-            }
+            None => self.entries.push(EventEntry::End),
         }
     }
 
@@ -329,8 +326,7 @@ impl<'e> EventTable<'e> {
         ensures scalars { lists_in self.new ≡ lists_in self.old }
         ensures unchanged { OnErr result (plain_events self.new ≡ plain_events self.old) }
     {
-        self.entries.push(EventEntry::Scalar(number))?;
-        Ok(())
+        self.entries.push(EventEntry::Scalar(number))
     }
 
     // Appends the scalar at an index once more.

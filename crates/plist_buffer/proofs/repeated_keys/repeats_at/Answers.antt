@@ -8,7 +8,7 @@ use Rattle.plist_buffer.specs.EventTable.{plain_events, event_at, scalars_of, Ha
 use Rattle.plist_buffer.specs.declared.children.Half.TheVariants.{Keys}
 use Rattle.plist_buffer.specs.inner.Entries.{is_leaf}
 use Rattle.plist_buffer.proofs.ChildIndices.{are_items, keys_are_in}
-use Rattle.plist_buffer.proofs.KeyStamps.{Differ, Tells, below_set, differ_down, differ_up, keys_leaves, tells_end, tells_next, tells_repeats, tells_start}
+use Rattle.plist_buffer.proofs.KeyStamps.{Differ, Tells, below_set, differ, keys_leaves, tells_end, tells_next, tells_repeats, tells_start}
 use Rattle.plist_buffer.proofs.TreeOccurrences.{occurs_pairs}
 use Rattle.plist_buffer.proofs.repeated_keys.repeats_at.Goals as goal
 use Rattle.plist_buffer.proofs.repeated_keys.repeats_at.Goals.{After-into_iter-key-iterator as Begun, In-Some as Next}
@@ -60,7 +60,7 @@ returns-then-stamp-clause-repeats c = λ ms s d.
     let is = begun a.After-into_iter-key-iterator ∙ keys_are_in _ (Dictionary ms) c.args.start s in
     tells_repeats (tells a.In-Some) c.in-Some-scalar_index.scalar c.args.events.now.kept.apart
     c.in-Some-scalar_index.ensures.some (c.stamp.ensures.repeated c.if-stamp.true)
-    (subst (Differ _) (sym is) (differ_up ms _ (occurs_pairs s) d))
+    (subst (Differ _) (sym is) ((differ ms _ (occurs_pairs s)).1 d))
 
 pub loop-key-preserved : goal.loop-key-preserved
 loop-key-preserved c =
@@ -92,5 +92,5 @@ pub returns-clause-repeats : goal.returns-clause-repeats
 returns-clause-repeats c = λ ms s.
     let a = goal.at.returns-clause-repeats c in
     let is = begun a.After-into_iter-key-iterator ∙ keys_are_in _ (Dictionary ms) c.args.start s in
-    differ_down ms _ (occurs_pairs s) (subst (Differ _) is
+    (differ ms _ (occurs_pairs s)).0 (subst (Differ _) is
     (tells_end (subst (Tells _ _ _ _ _) c.in-None.ensures.steps.0 c.loop-key.invariant.tells)))

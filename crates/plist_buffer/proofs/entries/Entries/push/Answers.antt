@@ -1,17 +1,16 @@
-use Rattle.std.proofs.Common.{◌≡◌, length, ap, arith}
-use Rattle.std.proofs.lemmas.List.{length_push}
-use Rattle.plist_buffer.proofs.Columns.{columns_more, ends_below, entries_more, long_entries}
+use Rattle.std.proofs.Common.{arith, refl}
+use Rattle.plist_buffer.proofs.Columns.{columns_more, ends_below, entries_pushed, long_columns}
 use Rattle.plist_buffer.proofs.entries.Entries.push.Goals as goal
 
 pub overflow_add-self : goal.overflow_add-self
 overflow_add-self c =
-    let s = c.self.inside in
+    let kinds = c.self.inside.kinds in
     omega (
       arith,
-      ends_below c.self.invariant,
-      s.kinds.ok.0,
-      s.kinds.ok.1,
-      s.kinds.small,
+      ends_below c.self.invariant c.self.view_is,
+      kinds.ok.0,
+      kinds.ok.1,
+      kinds.small,
       c.one_if_end.ensures.small,
     )
 
@@ -34,20 +33,15 @@ returns-clause-pushed c =
       c.in_ok-push.ensures.pushed,
       c.kind_in-kind.ensures,
       c.number_in.ensures,
-      ← c.self.view_is,
-    ) (entries_more _ _ _ _ c.self.invariant.long)
+    ) (entries_pushed c.self.invariant c.self.view_is c.args.entry)
 
 pub returns-clause-small : goal.returns-clause-small
 returns-clause-small c =
-    let s = c.self.inside in
     let now = c.push_reserved.new.self in
-    let same : length now.items ≡ length c.push.new.self = omega (
+    omega (
       arith,
-      c.self.invariant.long,
-      ap length c.in_ok-reserve.ensures.items,
-      ap length c.push_reserved.ensures.items,
-      ap length c.in_ok-push.ensures.pushed,
-      length_push c.reserve.new.self.items c.kind_in-kind.result,
-      length_push s.numbers c.number_in.result,
-    ) in
-    omega (arith, long_entries now.items c.push.new.self same, now.ok.0, now.ok.1, now.small)
+      (long_columns (invariant_of-self-2 c) refl).0,
+      now.ok.0,
+      now.ok.1,
+      now.small,
+    )
