@@ -1,9 +1,9 @@
 -- The events that the entries of a table represent, and how each call maintains their invariants.
-use Rattle.std.proofs.Common.{rules, ◌≡◌, ◌≢◌, eqb, ◌⊎◌, inl, inr, ℕ, zero, suc, ◌+◌, ◌-◌, ◌^◌, ◌<◌, Bool, true, false, if◌then◌else◌, ◌≤◌, None, Some, Result, OnOk, OnErr, List, [], ◌∷◌, ◌++◌, length, set, slice_get, get_or, reverse, refl, ap, sym, ◌∙◌, subst, arith}
+use Rattle.std.proofs.Common.{rules, ◌≡◌, ◌≢◌, ◌⊎◌, inl, inr, ℕ, zero, suc, ◌+◌, ◌-◌, ◌^◌, ◌<◌, Bool, true, false, ◌≤◌, None, Some, Result, OnOk, OnErr, List, [], ◌∷◌, ◌++◌, length, set, slice_get, get_or, reverse, refl, ap, sym, ◌∙◌, subst, arith}
 use Rattle.std.proofs.Math.ListN.{get_or-append}
 use Rattle.std.proofs.Math.Seq.{get_or-append_seam, map-set_same}
-use Rattle.std.proofs.lemmas.Bool.{eq-eqb, eqb-true, ne_eqb}
-use Rattle.std.proofs.lemmas.Bool.Decides.{eqb_tells, leb_tells}
+use Rattle.std.proofs.lemmas.Bool.{eq-eqb, eqb-true}
+use Rattle.std.proofs.lemmas.Bool.Decides.{nat_tests, leb_tells}
 use Rattle.std.proofs.lemmas.List.{length-map, length-append, length-set, map-append, reverse-append, get_or-map, get_or_default, get_or_past, get_or-set_same, get_or-set_other}
 use Rattle.std.proofs.lemmas.List.Folds.{Any-from_list_any, list_any-append, list_any_at}
 use Rattle.std.proofs.lemmas.Option.{slice_get-get_or, slice_get_within}
@@ -55,12 +55,6 @@ entry_before es e p lt = get_or-append es _ _ p lt
 
 entry_last : (es : List EventEntry) (e : EventEntry) → entry_at (es ++ e ∷ []) (length es) ≡ e
 entry_last es e = get_or-append_seam es e [] _
-
--- if an entry refers to a scalar, one still does after another entry is appended
-named_more : (i : ScalarNumber) (es : List EventEntry) (e : EventEntry) → list_any (names i) es ≡ true
-    → list_any (names i) (es ++ e ∷ []) ≡ true
-named_more i es e h =
-    cc (list_any-append (names i) es (e ∷ []))
 
 -- an index at which a test finds an event that passes is within the list
 pub below : (f : PlainEvent → Bool) (es : List PlainEvent) (i : ℕ) → f EndCollection ≡ false
@@ -152,18 +146,18 @@ module _ {scalars : ScalarLists} {es : List EventEntry} {unclosed : List ℕ}
         sound = sound;
         starts = starts ∙ ap (λ n. unclosed_after_event e n (unclosed_after events)) (sym long)
             ∙ sym (open_more events e) ∙ ap unclosed_after (sym is);
-        skips = λ p lt. elim (eqb_tells p (length es)) [
-          | inl d ↦
-              let f = skip_forward (events_of_entries scalars now) p
-              (omega (arith, lt, long_shown scalars now)) in
-              ap (index_after_at now) d.1 ∙ last ∙ omega (arith, f, d.1, more, long_shown scalars now)
-          | inr d ↦
-              let b : p < length es = omega (arith, lt, more, d.1) in
-              before p b
-              ∙ ap (skip_after_event e (length es) (unclosed_after events) p) (t.skips p b)
-              ∙ ap (λ n. skip_after_event e n (unclosed_after events) p (skip_after events p)) (sym long)
-              ∙ sym (skip_more events e p) ∙ ap (λ l. skip_after l p) (sym is)
-        ];
+        skips = λ p lt. grind (
+          arith,
+          skip_forward (events_of_entries scalars now) p,
+          long_shown scalars now,
+          last,
+          more,
+          long,
+          before p,
+          t.skips p,
+          skip_more events e p,
+          is,
+        );
       }
 
   -- an entry is appended that closes no start
@@ -274,16 +268,21 @@ module _ {scalars : ScalarLists} {es : List EventEntry} {unclosed : List ℕ}
         ∙ sound_ended start within)
         (λ d. sound_ended p (omega (arith, lt, length-set ended start closing))))
         (sym (ap without_innermost unclosed_is))
-        (λ p lt. rw unclosed_is (at_set ended start closing entry.End p
-        (λ d. index_after_entry p d ≡ (if eqb p start then length es + 1 else index_after_at es p)) within
-        (λ d. ap (λ k. index_after_entry k closing) d ∙ closing_behind
-        ∙ sym (ap (λ b. if b then length es + 1 else index_after_at es p) (eq-eqb p start d)))
-        (λ d. ap (index_after_entry p) (entry_before es entry.End p lt)
-        ∙ sym (ap (λ b. if b then length es + 1 else index_after_at es p) (ne_eqb p start d)))))
-        (at_set ended start closing entry.End (length es)
-        (λ d. index_after_entry (length es) d ≡ length es + 1)
-        within (λ d. absurd (omega (arith, d, start_within)))
-        (λ d. ap (index_after_entry (length es)) (entry_last es entry.End)))
+        (λ p lt. grind (
+          arith,
+          nat_tests,
+          unclosed_is,
+          get_or-set_same ended start closing entry.End within,
+          get_or-set_other ended start p closing entry.End,
+          closing_behind,
+          entry_before es entry.End p lt,
+        ))
+        (grind (
+          arith,
+          get_or-set_other ended start (length es) closing entry.End,
+          entry_last es entry.End,
+          start_within,
+        ))
 
 -- ---- the calls
 
@@ -327,7 +326,7 @@ module _ {scalars : ScalarLists} {es : List EventEntry} {unclosed : List ℕ}
     (kept : IsValidTable scalars es unclosed) where
   still_used : (e : EventEntry) (i : ScalarNumber) (d : PlainEvent)
       → scalar_numbered scalars i ≡ Some d → list_any (names i) (es ++ e ∷ []) ≡ true
-  still_used e i d h = named_more i es e (kept.used i d h)
+  still_used e i d h = cc (list_any-append (names i) es (e ∷ []), kept.used i d h)
 
   kept_more : (e : EventEntry) {after : List ℕ} → AreEntriesOf scalars (es ++ e ∷ []) after
       → IsValidTable scalars (es ++ e ∷ []) after

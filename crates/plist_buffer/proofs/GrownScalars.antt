@@ -15,22 +15,15 @@ use Rattle.plist_buffer.proofs.EntryEvents.{Grown}
 use Rattle.plist_buffer.proofs.SameScalars.{small_same, same_small, long_eq, long_same, same_long, small_or_long}
 use Rattle.plist_buffer.proofs.SetKeys.{distinct_both, distinct_first, distinct_second, grown, key_at, keys_apart, mapped}
 
--- no scalar is in both sets
-never_both : (small : List PackedScalar) (long : List LongScalar) (i j : ℕ) (e : PlainEvent)
-    → slice_get (map event_of_small small) i ≡ Some e → slice_get (map event_of_long long) j ≡ Some e
-    → ⊥
-never_both small long i j e p q =
-    let a = mapped event_of_small small i e p in
-    let b = mapped event_of_long long j e q in
-    small_or_long a.0 b.0 (sym a.1 ∙ b.1)
-
 -- all scalars are different if those of each set are
 both_apart : (small : List PackedScalar) (long : List LongScalar)
     → AreDistinct (map event_of_small small) → AreDistinct (map event_of_long long)
     → AreDistinct (all_scalars (lists_of small long))
 both_apart small long first second =
-    distinct_both (map event_of_small small) (map event_of_long long) first second
-    (never_both small long)
+    distinct_both (map event_of_small small) (map event_of_long long) first second (λ i j e p q.
+    let a = mapped event_of_small small i e p in
+    let b = mapped event_of_long long j e q in
+    small_or_long a.0 b.0 (sym a.1 ∙ b.1))
 
 -- a scalar was added to one of the two lists, or to neither
 added : {a b c : List PlainEvent} (lists : List PlainEvent → ScalarLists)

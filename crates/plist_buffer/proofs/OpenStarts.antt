@@ -45,17 +45,11 @@ mutual
   open_tree : (t : Tree) (p : ℕ) (unclosed : List ℕ) → unclosed_from (lengthless t) p unclosed ≡ unclosed
   open_tree (Leaf x) p unclosed = refl
   open_tree (Array ts) p unclosed =
-      cc (
-        open_append (lengthless_items ts) (EndCollection ∷ []) (p + 1) (p ∷ unclosed),
-        open_items ts
-            (p + 1) (p ∷ unclosed),
-      )
+      let inside = open_items ts (p + 1) (p ∷ unclosed) in
+      cc (inside, open_append (lengthless_items ts) (EndCollection ∷ []) (p + 1) (p ∷ unclosed))
   open_tree (Dictionary ms) p unclosed =
-      cc (
-        open_append (lengthless_pairs ms) (EndCollection ∷ []) (p + 1) (p ∷ unclosed),
-        open_pairs ms
-            (p + 1) (p ∷ unclosed),
-      )
+      let inside = open_pairs ms (p + 1) (p ∷ unclosed) in
+      cc (inside, open_append (lengthless_pairs ms) (EndCollection ∷ []) (p + 1) (p ∷ unclosed))
 
   open_items : (ts : Trees) (p : ℕ) (unclosed : List ℕ) → unclosed_from (lengthless_items ts) p unclosed
       ≡ unclosed

@@ -47,16 +47,6 @@ scalars_tell a b = grind (arith, scalar_is a b, scalar_refl a)
 abbrev pub long_eq : LongScalar → LongScalar → Bool
 long_eq a b = scalar_eq (scalar_of_long a) (scalar_of_long b)
 
--- equal scalars have the same event
-same_event : (a b : Scalar) → scalar_eq a b ≡ true → ScalarEvent a ≡ ScalarEvent b
-same_event a b h = ap ScalarEvent (scalar_is a b h)
-
--- scalars with the same event are equal
-event_same : (a b : Scalar) → ScalarEvent a ≡ ScalarEvent b → scalar_eq a b ≡ true
-event_same a b h =
-    let e : a ≡ b = cc in
-    subst (λ x. scalar_eq a x ≡ true) e (scalar_refl a)
-
 pub small_same : (a b : PackedScalar) → packed_eq a b ≡ true → event_of_small a ≡ event_of_small b
 small_same a b h = ap ScalarEvent (packed_is a b h)
 
@@ -66,10 +56,12 @@ same_small a b h =
     is_packed_eq a b e
 
 pub long_same : (a b : LongScalar) → long_eq a b ≡ true → event_of_long a ≡ event_of_long b
-long_same a b h = same_event (scalar_of_long a) (scalar_of_long b) h
+long_same a b h = ap ScalarEvent (scalar_is (scalar_of_long a) (scalar_of_long b) h)
 
 pub same_long : (a b : LongScalar) → event_of_long a ≡ event_of_long b → long_eq a b ≡ true
-same_long a b h = event_same (scalar_of_long a) (scalar_of_long b) h
+same_long a b h =
+    let e : scalar_of_long a ≡ scalar_of_long b = cc in
+    subst (λ x. scalar_eq (scalar_of_long a) x ≡ true) e (scalar_refl (scalar_of_long a))
 
 -- a packed string or packed data has at most eight bytes
 packable_bytes : (scalar : Scalar) → IsPackable scalar → bytes_in_scalar scalar ≤ 8

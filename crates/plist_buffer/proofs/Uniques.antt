@@ -1,10 +1,10 @@
 -- Lists without their repeated items, and what mapping a function over them does; and facts about
 -- all items of a list.
-use Rattle.std.proofs.Common.{◌≡◌, inl, inr, ℕ, ◌<◌, ◌≤◌, Bool, true, cond, ◌||◌, eqb, List, [], ◌∷◌, ◌++◌, length, map, refl, ap, rules, arith}
+use Rattle.std.proofs.Common.{◌≡◌, ℕ, ◌<◌, ◌≤◌, Bool, true, cond, ◌||◌, eqb, List, [], ◌∷◌, ◌++◌, length, map, refl, ap, rules, arith}
 use Rattle.std.specs.List.{list_any, AllByRecursion, IsDistinct}
 use Rattle.std.specs.Set.{is_member, unique_keys}
 use Rattle.std.proofs.lemmas.Bool.Decides.{eqb_tells}
-use Rattle.std.proofs.lemmas.Bool.{or_right}
+use Rattle.std.proofs.lemmas.Bool.{eq-eqb, or_right}
 use Rattle.std.proofs.lemmas.Map.Steps.{length-le_from_distinct_below}
 
 -- ---- along a list
@@ -70,11 +70,7 @@ module _ {A : Type 0} (f : A → ℕ) where
   pub members_self : (xs : List A) → AllByRecursion (λ a. is_member eqb (map f xs) (f a) ≡ true) xs
   members_self [] = tt
   members_self (x ∷ xs) = (
-    elim (eqb_tells (f x) (f x)) [
-      | inl e ↦ ap
-          (λ b. b || is_member eqb (map f xs) (f x)) e.0
-      | inr d ↦ absurd (d.1 refl)
-    ],
+    ap (λ b. b || is_member eqb (map f xs) (f x)) (eq-eqb (f x) (f x) refl),
     self_later (f x) (map f xs) xs (members_self xs),
   )
 

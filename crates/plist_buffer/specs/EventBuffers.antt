@@ -32,10 +32,6 @@ abbrev pub misplaced_fault : List PlainEvent → PlainEvent → Fault
 misplaced_fault held event =
     fault_without_offset (UnexpectedEventType (expected_instead held) (kind_of_event event))
 
--- the error for an event of this kind that can't follow the buffered ones
-abbrev pub misplaced_error : List PlainEvent → (found : EventKind) → PushError
-misplaced_error held found = push_error.Misplaced (expected_instead held) found
-
 -- `answer` says whether the events are those of a tree
 abbrev pub TestsWhole : Bool → List PlainEvent → Type 0
 TestsWhole answer events = MatchBool answer (AreComplete events) (AreTreeEvents events → ⊥)

@@ -4,7 +4,7 @@ ghost use Rattle.std.specs.Prelude.{◌≡◌, ◌<◌, ◌⊎◌, [], true, fal
 ghost use Rattle.plist_base.specs.Events.{shape_of};
 ghost use Rattle.plist_buffer.specs.Children.{half_of, indices_left, child_at, last_at};
 ghost use Rattle.plist_buffer.specs.declared.children.Half.{Half};
-ghost use Rattle.plist_buffer.specs.EventTable.{plain_events, table_event, HasItem, LacksItem};
+ghost use Rattle.plist_buffer.specs.EventTable.{plain_events, table_event};
 
 use crate::event_table::EventTable;
 use plist_base::EventShape;
@@ -104,18 +104,6 @@ impl<'p, 'e> Children<'p, 'e> {
             next,
         }
     }
-
-    // Returns whether the item, or the value of the pair, exists, given the index at which the item
-    // or pair begins, and the index of the item or value. For an item the two indices are equal,
-    // and the caller has already found that a tree begins there.
-    #[inline(always)]
-    fn has_last(&self, first: usize, last: usize) -> bool
-        requires { HasItem (plain_events self.now.events.now) first }
-        ensures yes { result ≡ true → HasItem (plain_events self.now.events.now) last }
-        ensures no { result ≡ false → LacksItem (plain_events self.now.events.now) last }
-    {
-        last == first || self.events.has_item(last)
-    }
 }
 
 impl<'p, 'e> Iterator for Children<'p, 'e> {
@@ -135,7 +123,8 @@ impl<'p, 'e> Iterator for Children<'p, 'e> {
             return None;
         }
         let last = self.child.last(first);
-        if !self.has_last(first, last) {
+        // For an item the two indices are equal.
+        if last != first && !self.events.has_item(last) {
             return None;
         }
         self.next = self.events.index_after(last);

@@ -1,8 +1,9 @@
 //! The entries of buffered events. Each entry has a kind, which takes one byte, and a number, which
 //! takes four bytes as long as the numbers fit.
 
-ghost use Rattle.std.specs.Prelude.{◌≡◌, ◌-◌, ◌^◌, ◌<◌, ◌≤◌, ◌++◌, ◌∷◌, [], length, map, true, OnOk, OnErr};
-ghost use Rattle.plist_buffer.specs.inner.Columns.{ends_before, ends_in, kind_in, number_in, number_named, one_if_end, shape_of_kind, IsEntryNumber};
+ghost use Rattle.std.specs.Prelude.{List, ◌≡◌, ◌-◌, ◌^◌, ◌<◌, ◌≤◌, ◌++◌, ◌∷◌, [], length, map, true, OnOk, OnErr};
+ghost use Rattle.plist_buffer.specs.declared.entries.EventEntry.{EventEntry};
+ghost use Rattle.plist_buffer.specs.inner.Columns.{AreColumns, ends_before, ends_in, entries_from, kind_in, number_in, number_named, one_if_end, shape_of_kind, IsEntryNumber};
 ghost use Rattle.plist_buffer.specs.inner.Entries.{index_after_at, ended_at, entry_at, is_start};
 
 use plist_base::{CompactNumbers, EventShape};
@@ -109,10 +110,6 @@ pub struct Entries {
 }
 
 impl Model for Entries {
-    ghost use Rattle.std.specs.Prelude.{List};
-    ghost use Rattle.plist_buffer.specs.declared.entries.EventEntry.{EventEntry};
-    ghost use Rattle.plist_buffer.specs.inner.Columns.{AreColumns, entries_from};
-
     ghost Value = { List EventEntry };
 
     ghost view = { λ entries. entries_from entries.kinds.items entries.numbers };

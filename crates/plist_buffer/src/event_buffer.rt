@@ -11,7 +11,7 @@ ghost use Rattle.plist_base.specs.Trees.{String};
 ghost use Rattle.plist_buffer.specs.EventTable.{plain_events, event_at, table_event};
 ghost use Rattle.plist_buffer.specs.StoredScalars.{event_of_small, events_of_small, scalar_of_long_ref};
 ghost use Rattle.plist_buffer.specs.declared.expects.Expect.TheVariants.{Items};
-ghost use Rattle.plist_buffer.specs.declared.expects.Transition.TheVariants.{Kept, Refused};
+ghost use Rattle.plist_buffer.specs.declared.expects.Transition.TheVariants.{Refused};
 ghost use Rattle.plist_buffer.specs.inner.Expected.{ExpectsNext, change_on, expected_inside, innermost, next_expected};
 
 use crate::event_table::EventTable;
@@ -114,7 +114,7 @@ impl EventBuffer {
     ghost use Rattle.plist_base.specs.PackedScalars.{IsUnpackable};
     ghost use Rattle.plist_base.specs.Utf16Strings.{string_of_utf16};
     ghost use Rattle.plist_base.specs.ByteTests.{EachByte};
-    ghost use Rattle.plist_buffer.specs.EventBuffers.{buffered_events, is_whole, misplaced_error, Accepts, BuffersNext, BuffersSame, CanTake, RejectsEvent};
+    ghost use Rattle.plist_buffer.specs.EventBuffers.{buffered_events, expected_instead, is_whole, Accepts, BuffersNext, BuffersSame, CanTake, RejectsEvent};
     ghost use Rattle.plist_buffer.specs.inner.Entries.{is_leaf};
 
     /// Creates a buffer without events. It allocates no memory.
@@ -141,7 +141,8 @@ impl EventBuffer {
 
     // Returns the error for an event of this kind that can't follow the buffered ones.
     fn error_of_kind(&self, found: EventKind) -> PushError
-        ensures { result ≡ misplaced_error (buffered_events self.now) found }
+        ensures { result
+            ≡ PushError.Misplaced (expected_instead (buffered_events self.now)) found }
     {
         // While scalars wait, an array is open, so the second test serves only the proof.
         let expected = if self.held.len() == 0 && self.waiting.is_empty() {

@@ -4,7 +4,6 @@ ghost use Rattle.std.specs.Prelude.{◌≡◌, ◌≢◌, ◌+◌, ◌<◌, true
 ghost use Rattle.plist_base.specs.Outcomes.{OnlyMemory};
 ghost use Rattle.plist_base.specs.Events.{shape_of};
 ghost use Rattle.plist_buffer.specs.EventTable.{plain_events, scalars_of, AllBelow, table_event};
-ghost use Rattle.plist_base.specs.declared.event.EventShape.TheVariants.{StartDictionary as DictionaryShape};
 ghost use Rattle.plist_buffer.specs.RepeatedKeys.{TestsKeysOnce, TestsRepeats};
 
 use crate::children::{Children, Half};
@@ -33,7 +32,7 @@ fn repeats_at(events: &EventTable<'_>, start: usize, stamps: &mut Vec<usize>) ->
     requires older { AllBelow (start + 1) stamps.old.items }
     ensures long { length stamps.new.items ≡ length (scalars_of events.now) }
     ensures newer { AllBelow (start + 2) stamps.new.items }
-    ensures begins { result ≡ true → shape_of (table_event events.now start) ≡ DictionaryShape }
+    ensures begins { result ≡ true → shape_of (table_event events.now start) ≡ EventShape.StartDictionary }
     ensures repeats { TestsRepeats events.now start result }
 {
     let EventShape::StartDictionary = events.kind_at(start) else {

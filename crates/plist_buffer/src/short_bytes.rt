@@ -14,7 +14,7 @@ pub struct ShortBytes {
 }
 
 impl ShortBytes {
-    ghost use Rattle.plist_buffer.specs.ShortContents.{short_bytes};
+    ghost use Rattle.plist_buffer.specs.inner.LongContents.{short_bytes};
 
     /// Copies the bytes, or returns `None` if there are more than 30.
     #[inline(always)]

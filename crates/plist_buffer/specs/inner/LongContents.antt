@@ -1,13 +1,17 @@
 -- The forms and bytes of long scalars.
-use Rattle.std.specs.Prelude.{◌≡◌, ℕ, ◌<◌, List, [], length, if◌then◌else◌}
+use Rattle.std.specs.Prelude.{◌≡◌, ℕ, ◌<◌, List, [], length, take, if◌then◌else◌}
 use Rattle.plist_base.specs.Trees.{Scalar, Data, String}
 use Rattle.plist_base.specs.Utf16.{IsUtf16, utf16_form, utf8_of_utf16}
 use Rattle.plist_buffer.specs.AsciiTexts.{is_ascii_text}
-use Rattle.plist_buffer.specs.ShortContents.{short_bytes}
+use Rattle.plist_buffer.specs.declared.short_bytes.ShortBytes.{ShortBytes}
 use Rattle.plist_buffer.specs.declared.long_scalar.LongContent.{LongContent}
 use Rattle.plist_buffer.specs.declared.long_scalar.LongContent.TheVariants as content
 use Rattle.plist_buffer.specs.declared.long_scalar.Form.{Form}
 use Rattle.plist_buffer.specs.declared.long_scalar.Form.TheVariants as form
+
+-- the bytes that are stored in a value itself
+abbrev pub short_bytes : ShortBytes → List ℕ
+short_bytes short = take short.len short.bytes
 
 -- the form in which the string or data is stored
 abbrev pub form_in : LongContent → Form

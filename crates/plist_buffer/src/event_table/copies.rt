@@ -13,8 +13,7 @@ use std::alloc::{AllocError, Global};
 use std::borrow::{CowSlice, CowStr};
 
 impl EventTable<'static> {
-    ghost use Rattle.std.specs.Cow.{cow_slice_items, cow_str_bytes};
-    ghost use Rattle.plist_base.specs.Trees.{Data as DataScalar, String as StringScalar};
+    ghost use Rattle.plist_base.specs.Trees.{String as StringScalar};
     ghost use Rattle.plist_buffer.specs.EventTable.{plain_event, plain_events, GrowsBy};
     ghost use Rattle.plist_buffer.specs.StoredScalars.{scalar_of_long_ref};
 
@@ -45,42 +44,8 @@ impl EventTable<'static> {
         self.push_long(LongScalar::encode(alloc, text)?)
     }
 
-    // Appends a string of more than eight bytes. An owned one is moved, and so its hash is computed
-    // only once.
-    #[inline(always)]
-    fn take_long_text(&mut self, alloc: Global, text: CowStr<'_>) -> Result<(), AllocError>
-        requires { 8 < length (cow_str_bytes text) }
-        ensures events { OnOk result (GrowsBy self.old
-            (ScalarEvent (StringScalar (cow_str_bytes text.entry))) self.new) }
-        ensures unchanged { OnErr result (plain_events self.new ≡ plain_events self.old) }
-    {
-        match text {
-            CowStr::Borrowed(borrowed) => self.copy_long_text(alloc, borrowed),
-            CowStr::Owned(owned) => self.push_long_text(CowStr::Owned(owned)),
-        }
-    }
-
-    // Appends data of more than eight bytes, which is copied unless equal data is stored. Owned data
-    // is moved, and so its hash is computed only once.
-    #[inline(always)]
-    fn take_long_data(&mut self, alloc: Global, bytes: CowSlice<'_, u8>) -> Result<(), AllocError>
-        requires { 8 < length (cow_slice_items bytes) }
-        ensures events { OnOk result (GrowsBy self.old
-            (ScalarEvent (DataScalar (cow_slice_items bytes.entry))) self.new) }
-        ensures unchanged { OnErr result (plain_events self.new ≡ plain_events self.old) }
-    {
-        match bytes {
-            CowSlice::Borrowed(borrowed) => {
-                self.copy_long(alloc, LongRef::new(Form::Data, borrowed))
-            }
-            CowSlice::Owned(owned) => {
-                self.push_long(LongScalar::new(Form::Data, CowSlice::Owned(owned)))
-            }
-        }
-    }
-
     /// Appends a copy of an event that isn't a scalar of at most eight bytes. A string or data that is
-    /// equal to a stored one isn't copied.
+    /// equal to a stored one isn't copied. An owned one is moved, and so its hash is computed only once.
     ///
     /// The function is inlined because most callers pass an event whose kind they know.
     ///
@@ -98,8 +63,14 @@ impl EventTable<'static> {
             Event::StartArray(_) => self.start(EventEntry::Array(following)),
             Event::StartDictionary(_) => self.start(EventEntry::Dictionary(following)),
             Event::EndCollection => self.end(),
-            Event::Data(bytes) => self.take_long_data(alloc, bytes),
-            Event::String(text) => self.take_long_text(alloc, text),
+            Event::Data(CowSlice::Borrowed(bytes)) => {
+                self.copy_long(alloc, LongRef::new(Form::Data, bytes))
+            }
+            Event::Data(CowSlice::Owned(bytes)) => {
+                self.push_long(LongScalar::new(Form::Data, CowSlice::Owned(bytes)))
+            }
+            Event::String(CowStr::Borrowed(text)) => self.copy_long_text(alloc, text),
+            Event::String(CowStr::Owned(text)) => self.push_long_text(CowStr::Owned(text)),
             Event::Boolean(_)
             | Event::Date(_)
             | Event::Integer(_)

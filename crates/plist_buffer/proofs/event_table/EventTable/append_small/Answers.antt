@@ -1,4 +1,4 @@
-use Rattle.std.proofs.Common.{◌≡◌, ℕ, ◌+◌, ◌<◌, false, List, [], ◌∷◌, ◌++◌, length, take, None, Result, Ok, Err, OnOk, slice_index_or, sym, ap, ◌∙◌, append_assoc}
+use Rattle.std.proofs.Common.{rules, arith, ◌≡◌, ℕ, ◌+◌, ◌<◌, false, List, [], ◌∷◌, ◌++◌, length, take, None, Result, OnOk, slice_index_or, append_assoc}
 use Rattle.std.proofs.lemmas.List.{map-append, take_more}
 use Rattle.std.proofs.lemmas.Option.{IfSome_then}
 use Rattle.std.specs.Result.{is_err}
@@ -10,20 +10,19 @@ use Rattle.plist_base.specs.declared.packed_scalar.PackedScalar.{PackedScalar}
 use Rattle.plist_buffer.proofs.event_table.EventTable.append_small.Goals as goal
 
 on_ok : {T E : Type 0} (r : Result T E) {P : Type 0} → false ≡ is_err r → OnOk r P → P
-on_ok (Ok x) is h = h
-on_ok (Err e) is h = cc
+on_ok r is h = search rules
 
 -- after the first i scalars, the next one was appended
 one_more : (before : List PlainEvent) {now after : List PlainEvent} (xs : List PackedScalar) (i : ℕ)
     (x : PackedScalar) → i < length xs → x ≡ slice_index_or xs i x
     → now ≡ before ++ events_of_small (take i xs) → after ≡ now ++ event_of_small x ∷ []
     → after ≡ before ++ events_of_small (take (i + 1) xs)
-one_more before xs i x lt is so_far grown =
-    grown ∙ ap (λ l. l ++ event_of_small x ∷ []) so_far
-    ∙ append_assoc before (events_of_small (take i xs)) (event_of_small x ∷ [])
-    ∙ ap (λ l. before ++ l) (sym (ap events_of_small (take_more xs i x lt
-    ∙ ap (λ y. take i xs ++ y ∷ []) (sym is))
-    ∙ map-append event_of_small (take i xs) (x ∷ [])))
+one_more before xs i x lt is so_far grown = grind (
+  arith,
+  append_assoc before (events_of_small (take i xs)) (event_of_small x ∷ []),
+  take_more xs i x lt,
+  map-append event_of_small (take i xs) (x ∷ []),
+)
 
 pub loop-index-preserved : goal.loop-index-preserved
 loop-index-preserved c =

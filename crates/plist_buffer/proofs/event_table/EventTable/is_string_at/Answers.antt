@@ -14,15 +14,9 @@ returns-in-String c = λ _. (
 )
 
 pub returns-in-Some-AsciiString : goal.returns-in-Some-AsciiString
-returns-in-Some-AsciiString c = λ _. (
-  _,
-  c.in-Some-AsciiString.ensures.some
-      ∙ ap (λ scalar. ScalarEvent (scalar_of_ref scalar)) c.in-Some-AsciiString.field-0-is,
-)
+returns-in-Some-AsciiString c = λ _.
+    (_, rw c.in-Some-AsciiString.field-0-is at c.in-Some-AsciiString.ensures.some)
 
 pub returns-in-Some-WideString : goal.returns-in-Some-WideString
-returns-in-Some-WideString c = λ _. (
-  _,
-  c.in-Some-WideString.ensures.some
-      ∙ ap (λ scalar. ScalarEvent (scalar_of_ref scalar)) c.in-Some-WideString.field-0-is,
-)
+returns-in-Some-WideString c = λ _.
+    (_, rw c.in-Some-WideString.field-0-is at c.in-Some-WideString.ensures.some)
