@@ -1,6 +1,6 @@
 -- What is printed for a second in UTC is parsed as that second. A second is in the years 0 to 9999
 -- if its day is.
-use Rattle.std.proofs.Common.{◌≡◌, ℕ, ℤ, pos, ◌+ℤ◌, ◌*ℤ◌, ◌<ℤ◌, ◌≤ℤ◌, ◌<◌, inl, inr, refl, arith, ◌+◌, ◌*◌, ◌/◌, ◌%◌, ◌≤◌, true, false, List, [], ◌∷◌, ◌++◌, ◌-ℤ◌, Some, sym, ap, subst, ◌∙◌}
+use Rattle.std.proofs.Common.{◌≡◌, ℕ, ℤ, pos, ◌+ℤ◌, ◌*ℤ◌, ◌<ℤ◌, ◌≤ℤ◌, ◌<◌, inl, inr, refl, arith, ◌+◌, ◌*◌, ◌/◌, ◌%◌, true, List, [], ◌∷◌, ◌++◌, ◌-ℤ◌, Some, sym, ap, subst, ◌∙◌}
 use Rattle.std.specs.Int.{int_div_euclid, IsInRange}
 use Rattle.jiff_core.specs.Calendar.{days_from_civil, IsEpochDay, days_in_month}
 use Rattle.jiff_core.specs.Date.{epoch_day}
@@ -10,7 +10,7 @@ use Rattle.jiff_core.proofs.DateLemmas.{cases_date, epoch_day-lt, epoch_day_rang
 use Rattle.plist_base.specs.UnixSeconds.{HasFourDigitYear, day_in, day_number, has_separators, second_of_day, time_in, two_digits, unix_second_of_text, zone_in, IsTextOfSecond}
 use Rattle.std.proofs.lemmas.Bool.{cases_lt}
 use Rattle.std.proofs.lemmas.Fmt.{decimal_digit, decimal_step}
-use Rattle.std.specs.Fmt.{decimal, digit_glyph, padded_integral, char_count}
+use Rattle.std.specs.Fmt.{padded_integral, char_count}
 use Rattle.jiff_core.proofs.CalendarLemmas.{days_in_month_bounds}
 use Rattle.plist_base.specs.UnixSeconds.{utc_text, two_digit_text}
 

@@ -187,6 +187,7 @@ impl FixedBuffer {
     /// Appends the first `count` of eight bytes. There must be room for all eight: copying a fixed
     /// number of bytes takes a single instruction.
     #[inline(always)]
+    #[tactic(auto, using(crate::proofs::Digits::first_after))]
     pub fn push_first(&mut self, bytes: [u8; 8], count: usize)
         requires count { count ≤ 8 }
         requires room { 8 ≤ room self.old }

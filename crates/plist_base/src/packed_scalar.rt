@@ -130,6 +130,7 @@ impl PackedScalar {
 
     /// Packs a real.
     #[inline(always)]
+    #[tactic(auto, using(crate::proofs::PackedScalars::packed_four, crate::proofs::PackedScalars::packed_eight, crate::proofs::PackedScalars::first_four))]
     pub fn of_real(bits: RealBits) -> PackedScalar
         ensures { scalar_of_packed result ≡ RealScalar bits }
     {
@@ -149,6 +150,7 @@ impl PackedScalar {
 
     /// Packs a date.
     #[inline(always)]
+    #[tactic(auto, using(crate::proofs::PackedScalars::packed_date))]
     pub fn of_date(date: Date) -> PackedScalar
         ensures { scalar_of_packed result ≡ DateScalar date }
     {

@@ -152,6 +152,7 @@ impl<'s, W: Write> Sink<'s, W> {
     }
 
     /// Puts bytes after all that were put before.
+    #[tactic(auto, using(crate::proofs::SinkSteps::puts_pending))]
     pub fn put(&mut self, bytes: &[u8])
         ensures { Puts W.contents self.old bytes.now self.new }
     {

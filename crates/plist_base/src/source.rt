@@ -133,6 +133,7 @@ impl Source for Vec<u8> {
 ///
 /// `Io` if a read fails and `UnexpectedEof` if a read returns no byte, each with the offset of that
 /// read. The front of the buffer then contains the bytes from `place` up to that offset.
+#[tactic(auto, using(crate::proofs::Places::fill_more_known))]
 pub fn read_exact_at<S: Source>(source: &mut S, place: u64, buf: &mut [u8]) -> Result<(), Error>
     requires { place + length buf.old < 2 ^ 64 }
     // Result.

@@ -51,6 +51,7 @@ fn unit_at(bytes: &[u8], index: usize) -> u32
 // `None` if the surrogate at the index is unpaired.
 #[cold]
 #[inline(never)]
+#[tactic(auto, using(crate::proofs::Utf16Units::last_unpaired, crate::proofs::Utf16Units::next_pair, crate::proofs::Utf16Units::unpaired))]
 fn pair_at(bytes: &[u8], at: usize) -> Option<(char, usize)>
     requires within { 2 * at + 2 ≤ length bytes.now }
     requires surrogate { (0xd800 ≤ unit_at bytes.now at) × (unit_at bytes.now at < 0xe000) }
@@ -71,6 +72,7 @@ fn pair_at(bytes: &[u8], at: usize) -> Option<(char, usize)>
 // Returns the character that begins with the unit at an index, and the index of the unit after the
 // character, or `None` if the unit is an unpaired surrogate.
 #[inline(always)]
+#[tactic(auto, using(crate::proofs::Utf16Units::next_lone, crate::proofs::Utf16Units::scalar_of))]
 fn char_at(bytes: &[u8], at: usize) -> Option<(char, usize)>
     requires { 2 * at + 2 ≤ length bytes.now }
     ensures { MatchOption result (IsUnpaired bytes.now at) (IsNextChar bytes.now at) }
@@ -95,6 +97,7 @@ fn are_below_surrogates(units: &[u8]) -> bool
 // Returns the index after the next eight units if all of them are less than the surrogates, or else
 // the index after the next character, or `None` if that begins with an unpaired surrogate.
 #[inline(always)]
+#[tactic(auto, using(crate::proofs::Utf16Blocks::after_block))]
 fn after_paired(bytes: &[u8], at: usize) -> Option<usize>
     requires { 2 * at + 2 ≤ length bytes.now }
     ensures { MatchOption result (IsUnpaired bytes.now at) (IsAfterPaired bytes.now at) }
@@ -160,6 +163,7 @@ fn eight_shares(units: u16x8) -> usize
 
 // Returns the eight units from an index on.
 #[inline(always)]
+#[tactic(auto, using(crate::proofs::Utf16Shares::units_of_bytes))]
 fn eight_units(bytes: &[u8], at: usize) -> u16x8
     requires { 2 * at + 16 ≤ length bytes.now }
     ensures { result ≡ take 8 (drop at (numbers_spelled 2 bytes.now)) }
@@ -171,6 +175,7 @@ fn eight_units(bytes: &[u8], at: usize) -> u16x8
 
 // Returns how many bytes all whole blocks of eight units add to their string in UTF-8.
 #[inline(always)]
+#[tactic(auto, using(crate::proofs::Utf16Shares::shares_more))]
 fn block_shares(bytes: &[u8]) -> usize
     ensures value { result ≡ sum_by utf8_share
         (take (8 * (length bytes.now / 16)) (numbers_spelled 2 bytes.now)) }
@@ -225,6 +230,7 @@ impl<'a> Utf16Str<'a> {
     }
 
     /// Returns the number of bytes that the string has in UTF-8.
+    #[tactic(auto, using(crate::proofs::Utf16Forms::share_more, crate::proofs::Utf16Forms::shares_all))]
     pub fn len_utf8(self) -> usize
         ensures { result ≡ length (string_of_utf16 self.entry) }
     {
@@ -285,6 +291,7 @@ impl<'a> Utf16Chars<'a> {
 
     /// Yields the next eight characters if all of them are ASCII. Otherwise yields none of them.
     #[inline(always)]
+    #[tactic(auto, using(crate::proofs::Utf16Blocks::block_chars, crate::proofs::Utf16Blocks::block_paired, crate::proofs::Utf16Blocks::block_yields))]
     pub fn next_eight_ascii(&mut self) -> Option<[u8; 8]>
         ensures yielded { IfSome result
             (λ block. chars_left self.old ≡ block ++ chars_left self.new) }

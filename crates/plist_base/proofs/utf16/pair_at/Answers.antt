@@ -2,20 +2,8 @@ use Rattle.std.proofs.Common.{◌+◌, arith, get_or}
 use Rattle.std.proofs.str.Utf16.{IsPair}
 use Rattle.plist_base.specs.Container.{numbers_spelled}
 use Rattle.plist_base.specs.Utf16.{unit_at}
-use Rattle.plist_base.proofs.Utf16Units.{last_unpaired, next_pair, nth_unit, unpaired}
+use Rattle.plist_base.proofs.Utf16Units.{next_pair, nth_unit, unpaired}
 use Rattle.plist_base.proofs.utf16.pair_at.Goals as goal
-
-pub returns-then-high-ge56320 : goal.returns-then-high-ge56320
-returns-then-high-ge56320 c =
-    let at = c.args.at in
-    let is = c.unit_at-high.ensures.value in
-    elim c.then-high-ge56320.branch [
-      | goal.then-high-ge56320-via-then-high-ge56320 w ↦ unpaired _ at c.requires.within
-          c.requires.surrogate.0 c.requires.surrogate.1
-          (λ pair. omega (arith, pair.1, is, w.if-high-ge56320.true))
-      | goal.then-high-ge56320-via-else-high-ge56320+then-bytes-at w ↦ last_unpaired _ at
-          c.requires.within c.requires.surrogate.0 c.requires.surrogate.1 w.if-bytes-at.true
-    ]
 
 pub returns-then-low-lt56320 : goal.returns-then-low-lt56320
 returns-then-low-lt56320 c =

@@ -1,10 +1,9 @@
-use Rattle.std.proofs.Common.{◌≡◌, ℤ, ◌∙◌, ◌≤ℤ◌, ◌<ℤ◌, pos, refl, sym, subst, arith, rules, FitsSigned, w16, w64}
+use Rattle.std.proofs.Common.{◌≡◌, ℤ, ◌∙◌, ◌≤ℤ◌, ◌<ℤ◌, pos, refl, arith, rules, FitsSigned, w16, w64}
 use Rattle.std.specs.Int.{int_div_euclid}
 use Rattle.std.proofs.lemmas.Int.{to_z-of_z}
 use Rattle.jiff_core.proofs.SignedLemmas.{signed_arith, int_div_euclid-parts}
-use Rattle.jiff_core.specs.Calendar.{IsEpochDay}
 use Rattle.jiff_core.specs.Date.{epoch_day}
-use Rattle.plist_base.proofs.DatePrinting.{before_years, day_of_years, in_years}
+use Rattle.plist_base.proofs.DatePrinting.{before_years, in_years}
 use Rattle.plist_base.proofs.OneDateText.{one_text, year_of_text}
 use Rattle.plist_base.proofs.utc_second.UtcSecond.from_unix_secs.Goals as goal
 use Rattle.plist_base.proofs.utc_second.UtcSecond.from_unix_secs.Goals.{In-Ok}
@@ -44,15 +43,6 @@ returns-in_default-clause-year c =
           (date_of_second (goal.at.returns-in_default-clause-year c).In-Ok) earlier inside),
     )
 
-pub returns-in_default-2-clause-year : goal.returns-in_default-2-clause-year
-returns-in_default-2-clause-year c =
-    let second_fits : FitsSigned w64 c.args.second = search rules in
-    let div : c.div_euclid.result ≡ int_div_euclid c.args.second (pos 86400) = simp to_z-of_z at
-    c.div_euclid.ensures in
-    let fits = day_fits _ _ second_fits div in
-    let succeeds = simp to_z-of_z at c.in_default.ensures.succeeds in
-    (λ h. cc h, λ inside. succeeds.1 (subst IsEpochDay (sym div) (day_of_years _ inside)))
-
 pub returns-in-Ok-clause-only : goal.returns-in-Ok-clause-only
 returns-in-Ok-clause-only c =
     let second_fits : FitsSigned w64 c.args.second = search rules in
@@ -62,8 +52,3 @@ pub returns-in_default-clause-only : goal.returns-in_default-clause-only
 returns-in_default-clause-only c =
     λ other is. let has = (returns-in_default-clause-year c).1 (year_of_text _ _ is)
     in cc
-
-pub returns-in_default-2-clause-only : goal.returns-in_default-2-clause-only
-returns-in_default-2-clause-only c =
-    λ other is. let has = (returns-in_default-2-clause-year c).1
-    (year_of_text _ _ is) in cc

@@ -1,5 +1,5 @@
 use Rattle.std.proofs.Common.{arith}
-use Rattle.plist_base.proofs.Utf16Blocks.{block_chars, block_paired, block_yields}
+use Rattle.plist_base.proofs.Utf16Blocks.{block_chars, block_paired}
 use Rattle.plist_base.proofs.utf16.Utf16Chars.next_eight_ascii.Goals as goal
 
 pub invariant_of-self-clause-paired : goal.invariant_of-self-clause-paired
@@ -8,10 +8,3 @@ invariant_of-self-clause-paired c =
     block_paired _ _ c.in_ok-block.block
     (block_chars chars.bytes.now chars.at c.in_ok-block.block (omega (arith, c.if-self-lt8.false))
     c.in_ok-block.ensures) chars.paired
-
-pub returns-clause-yielded : goal.returns-clause-yielded
-returns-clause-yielded c =
-    let chars = c.args.self.now in
-    block_yields _ _ c.in_ok-block.block
-    (block_chars chars.bytes.now chars.at c.in_ok-block.block (omega (arith, c.if-self-lt8.false))
-    c.in_ok-block.ensures)
