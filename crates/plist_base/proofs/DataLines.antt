@@ -194,3 +194,6 @@ pub no_data : (text dark : List ℕ) (error : DecodeAllocError) → dark ≡ wit
 unfolding data_of_text decoded_of
 no_data text dark (decoding.DecodeError fault) is refused = ap result_ok (rw is at refused)
 no_data text dark decoding.OutOfMemory is refused = tt
+
+-- rules for texts that are decoded or refused
+pub ruleset refusals = (data_decoded, fault_of_text, no_data, refused_as)

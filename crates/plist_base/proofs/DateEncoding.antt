@@ -204,3 +204,6 @@ pub date_of_second : (second : Option ℤ) (bs : List ℕ) → is_none second �
     → eqb (real_bits bs) (2 ^ 63) ≡ false → date_if second bs ≡ Some bs
 date_of_second None bs some plain = absurd (cc)
 date_of_second (Some second) bs some plain = rw plain refl
+
+-- rules for the bits of a second
+pub ruleset seconds_written = (below_zero, from_zero)

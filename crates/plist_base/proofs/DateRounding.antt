@@ -181,3 +181,10 @@ pub not_ranged : (date text : List ℕ) (second : ℤ) → Some second ≡ unix_
     → (IsSecondOfDate (second -ℤ plist_epoch) → ⊥) → IsDateText date text → ⊥
 not_ranged date text second is out text_of =
     out (second_facts (real_bits date) _ (printed_at date text second is text_of)).1
+
+-- rules for reals without a second, for texts that are parsed, and for texts that are printed
+pub ruleset no_seconds = (no_second, none_by_test, zeros_small)
+
+pub ruleset parsed_texts = (not_printed, not_ranged, printed_at, text_in_utc)
+
+pub ruleset printed_texts = (text_year, unix_year, text_at, text_in_utc)

@@ -9,7 +9,7 @@ use Rattle.jiff_core.specs.declared.civil.date.Date.{Date}
 use Rattle.jiff_core.proofs.DateLemmas.{epoch_day_injective}
 use Rattle.jiff_core.proofs.SignedLemmas.{signed_arith}
 use Rattle.plist_base.specs.UnixSeconds.{day_number, has_separators, second_of_parts, of_both, of_three, second_of_day, two_digits_at, two_digits, unix_second_of_text, zone_in, HasFourDigitYear, IsTextOfSecond}
-use Rattle.plist_base.proofs.DatePrinting.{second_in_years, two_text, text_from}
+use Rattle.plist_base.proofs.DatePrinting.{before_years, day_of_years, in_years, second_in_years, two_text, text_from}
 
 -- ---- the parts of a result
 
@@ -234,3 +234,6 @@ one_text second text other is is_other =
     ∙ (λ i. text_of (century i) (year i) (sym dates.1 i) (sym dates.2 i) (hour i) (minute i)
     (seconds i))
     ∙ sym n.text_is
+
+-- rules for the years 0 to 9999
+pub ruleset years = (before_years, day_of_years, in_years, one_text, year_of_text)

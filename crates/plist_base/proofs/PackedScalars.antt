@@ -98,3 +98,6 @@ packed_text text content short utf8 small is =
     (ap (λ found. scalar_of_kind found content) (kind_of_text (length text) short)
     ∙ ap String (take_padded text content is)) (short, utf8) refl
     (number_back text content small is)
+
+-- rules for reals
+pub ruleset reals = (packed_four, packed_eight, first_four)

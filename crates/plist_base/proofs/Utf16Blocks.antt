@@ -178,3 +178,6 @@ module _ (bytes : List ℕ) (small : IsBytes bytes) where
               first k below,
             ));
       }
+
+-- rules for blocks of ASCII
+pub ruleset blocks = (block_chars, block_paired, block_yields)

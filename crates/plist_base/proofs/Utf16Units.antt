@@ -5,7 +5,7 @@ use Rattle.std.proofs.Math.ListN.{get_or-eq_default}
 use Rattle.std.proofs.lemmas.Str.{len_utf8_bounds}
 use Rattle.std.proofs.lemmas.Bool.{le-leb, lt-ltb, le-ltb}
 use Rattle.std.proofs.lemmas.List.FromFn.{get_or-map-range_with_len, length-map-range_with_len}
-use Rattle.std.proofs.str.Utf16.{IsPair, lone_unit_char_high, lone_unit_char_low, lone_unit_char_surrogate, utf16_chars-drop_lone, utf16_chars-drop_pair}
+use Rattle.std.proofs.str.Utf16.{IsPair, lone_unit_char_high, lone_unit_char_low, lone_unit_char_surrogate, utf16_chars-drop_all, utf16_chars-drop_lone, utf16_chars-drop_pair}
 use Rattle.std.specs.Char.{IsScalar, len_utf8}
 use Rattle.std.specs.Char.Utf16.{lone_unit_char, surrogate_pair_char, utf16_chars}
 use Rattle.plist_base.specs.Container.{number_at, numbers_spelled}
@@ -99,3 +99,9 @@ module _ (bytes : List ℕ) where
           chars = rw (here, next) at two pair
               ∙ ap (λ c. Some c ∷ utf16_chars (drop (at + 2) units)) (sym is);
         }
+
+-- rules for the end of the units
+pub ruleset at_end = (utf16_chars-drop_all, units_length)
+
+-- rules for surrogates
+pub ruleset surrogates = (last_unpaired, next_pair, unpaired)

@@ -71,7 +71,7 @@ impl Data {
     /// let data = Data::from_xml_format(alloc, "AP 8=").ok()?;
     /// data.to_xml_format(alloc).ok()
     /// ```
-    #[tactic(auto, using(crate::proofs::DataLines::data_decoded, crate::proofs::DataLines::fault_of_text, crate::proofs::DataLines::no_data, crate::proofs::DataLines::refused_as))]
+    #[tactic(auto, using(crate::proofs::DataLines::refusals))]
     pub fn from_xml_format(alloc: Global, text: &str) -> Result<Data, InvalidXmlData>
         ensures data { IfOk result (λ found. data_of_text text.now ≡ Some found) }
         ensures fault { IfErr result (λ error. IsFaultOfText text.now error) }

@@ -40,7 +40,7 @@ impl Date {
     ///
     /// [`ErrorKind::OverflowOrNanDate`] if the real is infinite or a NaN, or its second is outside
     /// the range of dates.
-    #[tactic(auto, using(crate::proofs::DateRounding::no_second, crate::proofs::DateRounding::none_by_test, crate::proofs::DateRounding::zeros_small))]
+    #[tactic(auto, using(crate::proofs::DateRounding::no_seconds))]
     pub fn from_plist_real(bytes: [u8; 8]) -> Result<Date, ErrorKind>
         // Result.
         ensures date { IfOk result (λ date. date_of_bytes bytes ≡ Some date) }
@@ -279,7 +279,7 @@ fn bits_of_whole(number: u64) -> u64
     (1085 - zeros) * 4_503_599_627_370_496 + (number << (zeros - 11))
 }
 
-#[tactic(auto, using(crate::proofs::DateEncoding::below_zero, crate::proofs::DateEncoding::from_zero))]
+#[tactic(auto, using(crate::proofs::DateEncoding::seconds_written))]
 fn bits_of_second(second: i64) -> Option<u64>
     ensures is { MatchOption result (is_second_of_date second ≡ false) (AreBitsAt second) }
     ensures back { IfSome result (IsWholeAt second) }

@@ -34,7 +34,7 @@ impl Date {
     /// let day = Date::from_xml_format("2001-01-02T00:00:00Z").ok()?;
     /// Some(day.plist_secs())
     /// ```
-    #[tactic(auto, using(crate::proofs::DateRounding::not_printed, crate::proofs::DateRounding::not_ranged, crate::proofs::DateRounding::printed_at, crate::proofs::DateRounding::text_in_utc))]
+    #[tactic(auto, using(crate::proofs::DateRounding::parsed_texts))]
     pub fn from_xml_format(text: &str) -> Result<Date, InvalidXmlDate>
         // Result.
         ensures second { IfOk result (λ date. second_of_bytes date ≡ second_of_text text.now) }
@@ -68,7 +68,7 @@ impl Date {
     /// let value = Value::Date(Date::from_unix_secs(0)?);
     /// value.as_date()?.to_xml_format(alloc).ok()
     /// ```
-    #[tactic(auto, using(crate::proofs::DateRounding::text_year, crate::proofs::DateRounding::unix_year, crate::proofs::DateRounding::text_at, crate::proofs::DateRounding::text_in_utc))]
+    #[tactic(auto, using(crate::proofs::DateRounding::printed_texts))]
     pub fn to_xml_format(&self, alloc: Global) -> Result<String, Error>
         // Result.
         ensures text { IfOk result (λ text. IsDateText self.now (string_bytes text)) }

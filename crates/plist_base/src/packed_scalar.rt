@@ -130,7 +130,7 @@ impl PackedScalar {
 
     /// Packs a real.
     #[inline(always)]
-    #[tactic(auto, using(crate::proofs::PackedScalars::packed_four, crate::proofs::PackedScalars::packed_eight, crate::proofs::PackedScalars::first_four))]
+    #[tactic(auto, using(crate::proofs::PackedScalars::reals))]
     pub fn of_real(bits: RealBits) -> PackedScalar
         ensures { scalar_of_packed result ≡ RealScalar bits }
     {

@@ -24,7 +24,7 @@ pub struct UtcSecond {
 
 impl UtcSecond {
     /// Returns the calendar parts of a Unix second, or `None` if its year isn't from 0 to 9999.
-    #[tactic(auto, using(crate::proofs::DatePrinting::before_years, crate::proofs::DatePrinting::day_of_years, crate::proofs::DatePrinting::in_years, crate::proofs::OneDateText::one_text, crate::proofs::OneDateText::year_of_text))]
+    #[tactic(auto, using(crate::proofs::OneDateText::years))]
     pub fn from_unix_secs(second: i64) -> Option<UtcSecond>
         ensures year { IsSome result ↔ HasFourDigitYear second }
         ensures text { IfSome result (λ parts. IsTextOfSecond second (utc_text parts)) }

@@ -51,7 +51,7 @@ fn unit_at(bytes: &[u8], index: usize) -> u32
 // `None` if the surrogate at the index is unpaired.
 #[cold]
 #[inline(never)]
-#[tactic(auto, using(crate::proofs::Utf16Units::last_unpaired, crate::proofs::Utf16Units::next_pair, crate::proofs::Utf16Units::unpaired))]
+#[tactic(auto, using(crate::proofs::Utf16Units::surrogates))]
 fn pair_at(bytes: &[u8], at: usize) -> Option<(char, usize)>
     requires within { 2 * at + 2 ≤ length bytes.now }
     requires surrogate { (0xd800 ≤ unit_at bytes.now at) × (unit_at bytes.now at < 0xe000) }
@@ -111,6 +111,7 @@ fn after_paired(bytes: &[u8], at: usize) -> Option<usize>
 
 // Returns whether each surrogate is paired.
 #[inline(never)]
+#[tactic(auto, using(crate::proofs::Utf16Units::at_end))]
 fn all_paired(bytes: &[u8]) -> bool
     ensures yes { result ≡ true → ArePaired bytes.now }
     ensures no { result ≡ false → has_unpaired_surrogate (numbers_spelled 2 bytes.now) ≡ true }
@@ -230,7 +231,7 @@ impl<'a> Utf16Str<'a> {
     }
 
     /// Returns the number of bytes that the string has in UTF-8.
-    #[tactic(auto, using(crate::proofs::Utf16Forms::share_more, crate::proofs::Utf16Forms::shares_all))]
+    #[tactic(auto, using(crate::proofs::Utf16Forms::shares))]
     pub fn len_utf8(self) -> usize
         ensures { result ≡ length (string_of_utf16 self.entry) }
     {
@@ -291,7 +292,7 @@ impl<'a> Utf16Chars<'a> {
 
     /// Yields the next eight characters if all of them are ASCII. Otherwise yields none of them.
     #[inline(always)]
-    #[tactic(auto, using(crate::proofs::Utf16Blocks::block_chars, crate::proofs::Utf16Blocks::block_paired, crate::proofs::Utf16Blocks::block_yields))]
+    #[tactic(auto, using(crate::proofs::Utf16Blocks::blocks))]
     pub fn next_eight_ascii(&mut self) -> Option<[u8; 8]>
         ensures yielded { IfSome result
             (λ block. chars_left self.old ≡ block ++ chars_left self.new) }
@@ -322,6 +323,7 @@ impl<'a> Iterator for Utf16Chars<'a> {
     ghost remaining = { item_count chars_left };
 
     #[inline(always)]
+    #[tactic(auto, using(crate::proofs::Utf16Units::at_end))]
     fn next(&mut self) -> Option<char> {
         if self.at >= self.bytes.len() / 2 {
             return None;
