@@ -1,8 +1,5 @@
 -- Scalars that are stored as a tag and eight bytes.
-use Rattle.std.specs.Prelude.{◌≡◌, ◌<◌, Bool, true, length, ⊤}
-use Rattle.std.proofs.Common.{rules}
-use Rattle.std.specs.Cmp.Rules.{comparing}
-use Rattle.std.specs.Hash as fed
+use Rattle.std.specs.Prelude.{◌<◌, Bool, length, ⊤}
 use Rattle.plist_base.specs.Packing.{unpacked}
 use Rattle.plist_base.specs.Events.{PlainEvent, ScalarEvent}
 use Rattle.plist_base.specs.Trees.{Scalar, Data, String}
@@ -24,8 +21,3 @@ IsUnpackable event = ⊤
 -- the test of two packed scalars
 abbrev pub packed_eq : PackedScalar → PackedScalar → Bool
 packed_eq a b = (impl.ghosts).eq a b
-
--- packed scalars that pass the test have the same content
-pub same_content : (a b : PackedScalar) → packed_eq a b ≡ true
-    → fed.u64 a.content ≡ fed.u64 b.content
-same_content a b h = search (comparing, rules, h)

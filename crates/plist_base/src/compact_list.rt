@@ -110,13 +110,11 @@ impl<T: Compact> CompactList<T> {
         ensures some { IfSome result (λ value. self.old ≡ self.new ++ value ∷ []) }
         ensures none { result ≡ None → self.old ≡ [] }
     {
-        match self.wide.pop() {
-            Some(value) => Some(value),
-            None => match self.narrow.pop() {
-                Some(narrow) => Some(T::widen(narrow)),
-                None => None,
-            },
+        if let Some(value) = self.wide.pop() {
+            return Some(value);
         }
+        let narrow = self.narrow.pop()?;
+        Some(T::widen(narrow))
     }
 
     /// Removes all values. The allocated memory is kept.

@@ -45,13 +45,10 @@ impl Date {
         ensures back { (date : List ℕ) → IsDateText date text.now → ReadsAs date result }
         ensures prints { IfOk result (λ date. IsInUtc text.now → IsDateText date text.now) }
     {
-        match unix_second_of_text(text) {
-            None => Err(InvalidXmlDate),
-            Some(second) => match Date::from_unix_secs(second) {
-                None => Err(InvalidXmlDate),
-                Some(date) => Ok(date),
-            },
-        }
+        let Some(second) = unix_second_of_text(text) else {
+            return Err(InvalidXmlDate);
+        };
+        Date::from_unix_secs(second).ok_or(InvalidXmlDate)
     }
 
     /// Formats this date as `YYYY-MM-DDTHH:MM:SSZ`.

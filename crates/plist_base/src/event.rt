@@ -139,11 +139,12 @@ impl<'a> Event<'a> {
 
 /// Writes the content to the hasher in one call. Starts and ends write nothing.
 impl Hash for Event<'_> {
-    ghost use Rattle.plist_base.specs.inner.Hashing.{same_writes, writes_of};
+    ghost use Rattle.std.proofs.Common.{ap};
+    ghost use Rattle.plist_base.specs.inner.Hashing.{same_event, writes_of};
 
     ghost hash_input = { λ event. writes_of (event_of event) };
 
-    ghost respects_eq = { same_writes };
+    ghost respects_eq = { λ x y same. ap writes_of (same_event x y same) };
 
     fn hash<H: Hasher>(&self, state: &mut H) {
         match self {

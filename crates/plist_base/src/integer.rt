@@ -91,10 +91,7 @@ impl Integer {
     pub fn from_str(text: &str) -> Result<Integer, InvalidInteger>
         ensures number { SpellsInteger text.now result }
     {
-        match number_in(text) {
-            Some(number) => Ok(number),
-            None => Err(InvalidInteger),
-        }
+        number_in(text).ok_or(InvalidInteger)
     }
 
     // Returns the value as an `i128`.

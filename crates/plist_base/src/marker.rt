@@ -43,13 +43,11 @@ impl LowHalf {
         ensures short { IfSome result (λ low. (low ≡ length) × (length < 15)) }
         ensures long { IfNone result (15 ≤ length) }
     {
-        if length < 15 {
-            Some(LowHalf {
-                value: length as u8,
-            })
-        } else {
-            None
+        if length >= 15 {
+            return None;
         }
+        let value = length as u8;
+        Some(LowHalf { value })
     }
 
     /// Returns the low half of a marker that the length follows.

@@ -256,11 +256,12 @@ impl PackedScalar {
 /// Writes the content to the hasher.
 impl Hash for PackedScalar {
     ghost use Rattle.std.specs.Hash as fed;
-    ghost use Rattle.plist_base.specs.PackedScalars.{same_content};
+    ghost use Rattle.std.proofs.Common.{rules};
+    ghost use Rattle.std.specs.Cmp.Rules.{comparing};
 
     ghost hash_input = { λ packed. fed.u64 packed.content };
 
-    ghost respects_eq = { same_content };
+    ghost respects_eq = { λ _ _ same. Prim.search (comparing, rules, same) };
 
     fn hash<H: Hasher>(&self, state: &mut H) {
         state.write_u64(self.content);

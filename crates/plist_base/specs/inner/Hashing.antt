@@ -40,8 +40,3 @@ same_event (event.Real (real.Four a)) (event.Real (real.Four b)) h =
 same_event (event.Real (real.Eight a)) (event.Real (real.Eight b)) h =
     ap (λ l. ScalarEvent (Real (real.Eight l))) ((same_list a b).0 h)
 same_event x y h = search (comparing, rules, bytes_eq-Decides, h)
-
--- events that the code finds equal have the same writes
-pub same_writes : (x y : Event) → eq_of_events x y ≡ true → writes_of (event_of x) ≡ writes_of
-    (event_of y)
-same_writes x y h = ap writes_of (same_event x y h)
