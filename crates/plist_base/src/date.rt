@@ -187,7 +187,8 @@ impl RealParts {
     // infinite or a NaN.
     #[tactic(auto, unfolding(crate::specs::Date::real_exponent, crate::specs::Date::real_mantissa, crate::specs::Date::real_scale))]
     fn from_bits(bits: u64) -> Option<RealParts>
-        ensures range { MatchOption result (1075 ≤ real_exponent bits) (λ _. real_exponent bits < 1075) }
+        ensures range { MatchOption result (1075 ≤ real_exponent bits)
+            (λ _. real_exponent bits < 1075) }
         ensures mantissa { IfSome result (λ parts. parts.mantissa ≡ real_mantissa bits) }
         ensures scale { IfSome result (λ parts. parts.scale ≡ real_scale bits) }
     {

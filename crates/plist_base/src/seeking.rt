@@ -92,8 +92,8 @@ impl<R: Read + Seek> Seeking<R> {
         answer
     }
 
-    // Reads through a window if the buffer is shorter than one, and otherwise directly. If the window
-    // has no byte at this offset, it is filled first.
+    // Reads through a window if the buffer is shorter than one, and otherwise directly. If the
+    // window has no byte at this offset, it is filled first.
     fn read_there(&mut self, place: u64, buf: &mut [u8]) -> Result<usize, io::Error>
         ensures bound { IfOk result (λ count. count ≤ length buf.new) }
         ensures failures { failures_of self.new ≡ failures_of self.old }
