@@ -40,7 +40,8 @@ bare_begins ends c cs n text leads size less is utf8 none = λ more.
     let le : m ≤ length cs = omega arith in
     let same : c ∷ take m cs ≡ text = sym (rw size at is) in
     ap (λ l. past_one (token_by ends l c (cs ++ more))) leads
-    ∙ rw (run_front ends cs more less, take-append-le m cs more le, same, bare_means text utf8 none, size)
+    ∙ rw (run_front ends cs more less, take-append-le m cs more le, same)
+    (rw (bare_means text utf8 none, size) refl)
 
 -- the meaning of a quoted string
 quoted_is : (text : List ℕ) → is_utf8 text ≡ true
@@ -58,9 +59,11 @@ quoted_begins c cs n text leads size less end is utf8 ends = λ more.
     let same : run (ends_run c) ys ≡ n =
     run_front (ends_run c) cs more (rw size at less) ∙ sym size in
     let next : drop n cs ≡ c ∷ drop (suc n) cs = rw (← end) at (drop-cons cs n c less) in
-    let rest : drop n ys ≡ c ∷ (drop (suc n) cs ++ more) = rw (drop-append-le n cs more le, next) refl in
+    let rest : drop n ys ≡ c ∷ (drop (suc n) cs ++ more) =
+    rw (drop-append-le n cs more le, next) refl in
     let closes : quoted c ys ≡ taken (n + 1) (Ok text) =
-    quoted_plain c ys (drop (suc n) cs ++ more) (rw same rest) ∙ rw (same, take-append-le n cs more le, is) refl in
+    quoted_plain c ys (drop (suc n) cs ++ more) (rw same rest)
+    ∙ rw (same, take-append-le n cs more le, is) refl in
     let all : suc (n + 1) ≡ n + 2 = omega arith in
     ap (λ l. past_one (token_by ends l c ys)) leads
     ∙ rw (closes, quoted_is text utf8, all) refl
@@ -111,7 +114,8 @@ borrowed_item stops xs p q count text ahead place =
     let ends = ahead.ends in
     let end : q ≡ p + run (λ c. not (is_blank c)) xs
     + suc (token_by stops (lead_of ahead.byte) ahead.byte ahead.rest).bytes = omega arith in
-    let first = going_event (rw ahead.next at (going_blanks (going_start stops xs p))) end ahead.means in
+    let led = rw ahead.next at (going_blanks (going_start stops xs p)) in
+    let first = going_event led end ahead.means in
     let many : q - p ≡ count = omega arith in
     subst (λ left. IsFirst stops xs p (Ok (ScalarEvent (String text))) left q)
     (first.1.rest ∙ ap (λ n. drop n xs) many) first
@@ -120,20 +124,21 @@ borrowed_item stops xs p q count text ahead place =
 pub borrowed_gives : {R : Type 0} (known : R → Option (List ℕ)) (failed : R → Option ℕ)
     (old : AsciiReader R) (new : Input R) (count : ℕ) (text : List ℕ) (event : Event)
     → event_of event ≡ ScalarEvent (String text)
-    → IfKnown (unread known old.input) (λ bytes. LeadsToText (stops (stop.Bare old.dialect)) bytes count text)
+    → IfKnown (unread known old.input)
+    (λ bytes. LeadsToText (stops (stop.Bare old.dialect)) bytes count text)
     → old.input.ended ≡ false
     → IfKnown (unread known old.input) (λ bytes. unread known new ≡ Some (drop count bytes))
     → new.taken ≡ old.input.taken + count → 0 < count
     → new.peeked ≡ None → failed new.inner ≡ failed old.input.inner
     → GivesAscii known failed old (Some (Ok event))
     (record { input = new; alloc = old.alloc; dialect = old.dialect })
-borrowed_gives known failed old new count text event is ahead going bytes place some peeked failures =
+borrowed_gives known failed old new count text event is ahead going bytes place some peeked same =
     let first : TakesFirst known old (Ok (event_of event)) new = λ xs e. (
       drop count xs,
       bytes xs e,
       rw is (borrowed_item _ xs _ _ count text (ahead xs e) place),
     ) in
-    gives_event refl going (omega arith) first failures (rw is tt)
+    gives_event refl going (omega arith) first same (rw is tt)
     (subst (λ e. IfBracket e (new.peeked ≡ None)) (sym is) tt) (λ xs e first. peeked)
 
 -- fewer items remain after bytes are taken

@@ -178,7 +178,8 @@ abbrev pub token_led : {R : Type 0} → AsciiReader R → (c : ℕ) → List ℕ
 token_led reader c = token_by (stops (stop.Bare reader.dialect)) (lead_of c) c
 
 -- the first item, and what was taken for it
-abbrev pub TakesFirst : {R : Type 0} → (R → Option (List ℕ)) → AsciiReader R → Item → Input R → Type 0
+abbrev pub TakesFirst : {R : Type 0} → (R → Option (List ℕ)) → AsciiReader R → Item → Input R
+    → Type 0
 TakesFirst known old item new = IfKnown (unread known old.input) (λ xs. (rest : List ℕ)
     × (unread known new ≡ Some rest)
     × IsFirst (ends_bare old.dialect) xs old.input.taken item rest new.taken)
@@ -236,7 +237,8 @@ module _ {R : Type 0} {known : R → Option (List ℕ)} {old : AsciiReader R} {n
         → kind_in_bytes f ≡ Some kind → TakesFirst known old (Err (fault_at kind new.taken)) new
     led_fails a is = λ xs e.
         let i = l.goes xs e in
-        let k = (rw is at a.gives) i.1 i.2 in (_, k.1, going_fault i.3 (omega (arith, k.2, i.4)) k.0)
+        let k = (rw is at a.gives) i.1 i.2 in
+        (_, k.1, going_fault i.3 (omega (arith, k.2, i.4)) k.0)
 
     -- if the token is a string, the first item is a string
     pub led_text : IfKnown (unread known now) (λ cs. IsTextToken (token_led old c cs).gives)

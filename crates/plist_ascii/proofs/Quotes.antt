@@ -1,6 +1,6 @@
 -- A quoted string, part by part.
 use Rattle.std.proofs.Common.{◌≡◌, ℕ, zero, suc, ◌+◌, ◌≤◌, ◌≢◌, Bool, true, false, cond, List, [], ◌∷◌, ◌++◌, length, take, drop, Option, None, Some, Result, Ok, Err, refl, ap, sym, ◌∙◌, arith, rules, append_assoc, append-nil, length-drop}
-use Rattle.std.specs.Prelude.{◌==◌, ◌||◌, IfSome, vec_items}
+use Rattle.std.specs.Prelude.{◌==◌, IfSome, vec_items}
 use Rattle.std.proofs.lemmas.Bool.{eq-eqb, ne_eqb}
 use Rattle.std.specs.declared.alloc.Global.{Global}
 use Rattle.std.specs.declared.vec.Vec.{Vec}
@@ -22,8 +22,8 @@ use Rattle.plist_ascii.proofs.TokenOutcomes.{gives_after, past_more, past_none, 
 abbrev step : (quote : ℕ) → (more : List ℕ → Taken (List ℕ)) → ℕ → List ℕ → Taken (List ℕ)
 step quote more c rest =
     cond (c == quote) (taken 0 (Ok [])) (cond (c == code_of "\\")
-    (followed rest (escape rest).bytes (escape rest).gives (λ text left. prepended text (more left)))
-    (prepended (c ∷ []) (more rest)))
+    (followed rest (escape rest).bytes (escape rest).gives
+    (λ text left. prepended text (more left))) (prepended (c ∷ []) (more rest)))
 
 then_same : (n : ℕ) (r : Result (List ℕ) FaultKind) (xs : List ℕ) (f g : List ℕ → Taken (List ℕ))
     → f (drop n xs) ≡ g (drop n xs) → followed xs n r (λ text left. prepended text (f left))
@@ -80,11 +80,6 @@ escaped : (quote n : ℕ) (r : Result (List ℕ) FaultKind) (text xs : List ℕ)
 escaped quote n (Ok part) text xs = ap (past n) (with_with text part (quoted quote (drop n xs)))
 escaped quote n (Err fault) text xs = refl
 
-neither : (a b : Bool) → (a || b) ≡ false → (a ≡ false) × (b ≡ false)
-neither false false e = (refl, refl)
-neither false true e = cc
-neither true b e = cc
-
 at_end : (quote : ℕ) (text : List ℕ)
     → rest_of quote text [] ≡ past 0 (rest_from_stop quote (text ++ []) [])
 unfolding quoted_in
@@ -108,10 +103,10 @@ quoted_runs : (quote : ℕ) (text xs : List ℕ) → let m = run (ends_run quote
 quoted_runs quote text xs = run_elim (ends_run quote) (λ xs m. (text : List ℕ)
     → rest_of quote text xs ≡ past m (rest_from_stop quote (text ++ take m xs) (drop m xs)))
     (at_end quote) (at_stop quote) (λ c cs e h text.
-    let plain = neither (c == quote) (c == code_of "\\") e in
+    let plain : ((c == quote) ≡ false) × ((c == code_of "\\") ≡ false) = search rules in
+    let one = with_with text (c ∷ []) (quoted quote cs) in
     rw (quoted_opens quote c cs, plain.0, plain.1)
-    (ap past_one (with_with text (c ∷ []) (quoted quote cs) ∙ rw append_assoc at (h (text ++ c ∷ [])))
-    ∙ past_more _ _)) xs text
+    (ap past_one (one ∙ rw append_assoc at (h (text ++ c ∷ []))) ∙ past_more _ _)) xs text
 
 -- a string without escapes
 pub quoted_plain : (quote : ℕ) (xs zs : List ℕ) → let m = run (ends_run quote) xs in
@@ -135,8 +130,8 @@ module _ {R : Type 0} {known : R → Option (List ℕ)} (quote : ℕ) (text : Li
         let k = took.bytes xs e in (_, k.1, k.2, rw k.0 (quoted_runs quote text xs)))
 
     -- a backslash and an escape were taken, and then the rest of the string
-    pub escape_quoted : {c : ℕ} {piece : Escaped} {left : Input R} → TakesNext known old (Some c) left
-        → TakesOneMore old left → c ≢ quote → GivesBy known escaped_bytes escape left (Ok piece) mid
+    pub escape_quoted : {c : ℕ} {piece : Escaped} {left : Input R}
+        → TakesNext known old (Some c) left → TakesOneMore old left → c ≢ quote → GivesBy known escaped_bytes escape left (Ok piece) mid
         → longer ≡ text ++ escaped_bytes piece
         → GivesBy known view (rest_of quote longer) mid answer new
         → GivesBy known view (rest_from_stop quote text) old answer new

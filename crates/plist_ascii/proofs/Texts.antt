@@ -104,7 +104,8 @@ pub ruleset text_tokens = (bare_wants, quoted_wants)
 -- ---- how the parts of a string determine its meaning
 
 -- the result is the meaning of the string
-means_said : (r : Result Event TokenFault) {outcome : Result (Option PlainEvent) FaultKind} → Means r outcome
+means_said : (r : Result Event TokenFault) {outcome : Result (Option PlainEvent) FaultKind}
+    → Means r outcome
     → said (λ e. Some (event_of e)) r ≡ Some outcome
 means_said (Ok event) m = ap Some (sym m.0)
 means_said (Err f) m = rw m.0 (ap Some (sym m.1))

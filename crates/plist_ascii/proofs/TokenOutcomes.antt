@@ -2,7 +2,7 @@
 use Rattle.std.proofs.Common.{◌≡◌, ℕ, suc, ◌+◌, ◌≤◌, None, Some, ap, ◌∙◌, List, ◌∷◌, drop, Option, Result, Ok, Err, arith}
 use Rattle.std.specs.Prelude.{IfSome}
 use Rattle.std.specs.Option.{option_map}
-use Rattle.std.specs.Result.{IsErrAnd, IfErr, OnOk}
+use Rattle.std.specs.Result.{IsErrAnd, IfErr}
 use Rattle.std.proofs.lemmas.List.{drop-drop}
 use Rattle.plist_base.specs.Faults.{FaultKind}
 use Rattle.plist_ascii.specs.declared.fault.TokenFault.{TokenFault}
@@ -10,17 +10,6 @@ use Rattle.plist_ascii.specs.declared.input.Input.{Input}
 use Rattle.plist_ascii.specs.Unread.{IfKnown, unread}
 use Rattle.plist_ascii.specs.TokenPrefixes.{Taken, past, past_one, taken}
 use Rattle.plist_ascii.specs.inner.Inputs.{GivesBy, LooksAhead, said}
-
--- from offset p to offset q these bytes were taken, with this meaning or fault
-abbrev pub TakesFront : {A : Type 0} → Taken A → Result A FaultKind → (new : Option (List ℕ))
-    → (p q : ℕ) → List ℕ → Type 0
-TakesFront t outcome new p q bytes =
-    (t.gives ≡ outcome) × (new ≡ Some (drop t.bytes bytes)) × (q ≡ p + t.bytes)
-
--- a fact for `Ok` implies what follows from it
-pub ok_by : {X E : Type 0} (r : Result X E) (P Q : Type 0) → OnOk r P → (P → Q) → OnOk r Q
-ok_by (Ok x) P Q p h = h p
-ok_by (Err f) P Q p h = tt
 
 -- a fact about an optional value implies each fact about it that follows
 pub some_same : {A : Type 0} (o : Option A) (P Q : A → Type 0) → ((a : A) → P a → Q a) → IfSome o P

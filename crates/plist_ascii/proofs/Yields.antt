@@ -52,17 +52,19 @@ counts_same : {R : Type 0} (failed : R → Option ℕ) (old new : Input R) (f : 
 counts_same failed old new broken.Io is counts = cc
 counts_same failed old new f is counts = counts
 
-pub not_ended : {ended : Bool} → ended ≡ false → ended ≡ true → ⊥
-not_ended f t = cc
+pub not_ended : {ended : Bool} {A : Type 0} → ended ≡ false → ended ≡ true → A
+not_ended f t = absurd (cc)
 
 -- the fault is that of the first item, or memory ran out for it, or a read failed
-error_first : {R : Type 0} (known : R → Option (List ℕ)) (old new : AsciiReader R) (f : TokenFault) (x : Fault) (mid : Input R) → x ≡ fault_after f mid.taken
+error_first : {R : Type 0} (known : R → Option (List ℕ)) (old new : AsciiReader R)
+    (f : TokenFault) (x : Fault) (mid : Input R) → x ≡ fault_after f mid.taken
     → EndsInput known f mid new.input → place_of new ≡ mid.taken
     → (f ≡ broken.OutOfMemory → IfKnown (untaken_bytes known old)
     (λ xs. BeginsWithText (items_of_ascii (ends_bare old.dialect) xs (place_of old))))
     → ((kind : FaultKind) → kind_in_bytes f ≡ Some kind
     → TakesFirst known old (Err (fault_at kind mid.taken)) mid)
-    → IfKnown (untaken_bytes known old) (λ xs. (rest : List ℕ) × (untaken_bytes known new ≡ Some rest)
+    → IfKnown (untaken_bytes known old) (λ xs. (rest : List ℕ)
+    × (untaken_bytes known new ≡ Some rest)
     × (let before = items_of_ascii (ends_bare old.dialect) xs (place_of old) in
     let after = items_of_ascii (ends_bare old.dialect) rest (place_of new) in
     MatchFault x.kind (StopsIf (λ _. ⊤) before after) (StopsIf BeginsWithText before after)
@@ -130,7 +132,8 @@ module _ {R : Type 0} {known : R → Option (List ℕ)} {old new : AsciiReader R
 
     module _ (going : old.input.ended ≡ false) where
       -- the first item is an event
-      pub gives_event : {event : Event} → place_of old < place_of new → TakesFirst known old (Ok (event_of event)) new.input
+      pub gives_event : {event : Event} → place_of old < place_of new
+          → TakesFirst known old (Ok (event_of event)) new.input
           → failed (device_of new) ≡ failed (device_of old) → IsAsciiEvent (event_of event)
           → IfBracket (event_of event) (peeked_byte new ≡ None)
           → IfKnown (untaken_bytes known old) (λ bytes. FirstIsQuoted
@@ -142,7 +145,7 @@ module _ {R : Type 0} {known : R → Option (List ℕ)} {old new : AsciiReader R
           record {
             items = items_come takes;
             failures = same;
-            state = record { ended = λ e. absurd (not_ended going e); unasked = λ e. absurd (not_ended going e); ends = tt };
+            state = record { ended = not_ended going; unasked = not_ended going; ends = tt };
             inner = record {
               takes = bytes_taken takes;
               dialect = dialect;
@@ -163,7 +166,8 @@ module _ {R : Type 0} {known : R → Option (List ℕ)} {old new : AsciiReader R
           → (f ≡ broken.OutOfMemory → IfKnown (untaken_bytes known old)
           (λ xs. BeginsWithText (items_of_ascii (ends_bare old.dialect) xs (place_of old))))
           → ((kind : FaultKind) → kind_in_bytes f ≡ Some kind
-          → (place_of old < place_of new) × TakesFirst known old (Err (fault_at kind mid.taken)) mid)
+          → (place_of old < place_of new)
+          × TakesFirst known old (Err (fault_at kind mid.taken)) mid)
           → GivesAscii known failed old (Some (Err error)) new
       gives_error error f prev mid rises is ends place counts before inner memory first =
           let takes : Takes known old (Some (Err error)) new = record {
@@ -176,10 +180,11 @@ module _ {R : Type 0} {known : R → Option (List ℕ)} {old new : AsciiReader R
             failures = by_fault f mid.taken (fault_of error) is
                 (λ io x. rw (before, ← inner) at (rw io at counts).0)
                 (λ oom x. ap failed inner ∙ (rw oom at counts) ∙ before)
-                (λ kind some x ok. ap failed inner ∙ counts_same failed prev mid f some counts ∙ before);
+                (λ kind some x ok. ap failed inner ∙ counts_same failed prev mid f some counts
+                ∙ before);
             state = record {
-              ended = λ e. absurd (not_ended going e);
-              unasked = λ e. absurd (not_ended going e);
+              ended = not_ended going;
+              unasked = not_ended going;
               ends = by_fault f mid.taken (fault_of error) is (λ io x. (rw io at ends).0)
                   (λ oom x. (rw oom at ends).0) (λ kind some x ok. tt);
             };

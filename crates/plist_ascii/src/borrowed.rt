@@ -1,6 +1,6 @@
 //! Finds strings that can be borrowed from the bytes at hand.
 
-ghost use Rattle.std.specs.Prelude.{◌+◌, ◌<◌, ◌≤◌, ℕ, Bool, length, IfSome};
+ghost use Rattle.std.specs.Prelude.{◌<◌, ◌≤◌, ℕ, Bool, length, IfSome};
 ghost use Rattle.plist_ascii.specs.Unread.{IfKnown, stops, unread};
 ghost use Rattle.plist_ascii.specs.inner.Inputs.{BeginWithText, LeadsToText, hand};
 

@@ -1,7 +1,7 @@
 //! Takes comments.
 
 ghost use Rattle.std.specs.Prelude.{◌≡◌, ◌^◌, ◌<◌, ◌≤◌, None, IfErr, IfOk, OnOk, ⊤};
-ghost use Rattle.plist_ascii.specs.Texts.{line_comment, block_comment};
+ghost use Rattle.plist_ascii.specs.Texts.{block_comment};
 ghost use Rattle.plist_ascii.specs.inner.Inputs.{CountsFailed, GivesBy, IfCame, TakesPast, TakesRun};
 
 use crate::byte_reader::ByteReader;

@@ -40,7 +40,7 @@ pub struct AsciiReader<R> {
 }
 
 impl<R: ByteReader> AsciiReader<R> {
-    ghost use Rattle.std.specs.Prelude.{◌≡◌, ◌-◌, None};
+    ghost use Rattle.std.specs.Prelude.{◌≡◌, None};
     ghost use Rattle.std.specs.Option.{option_map};
     ghost use Rattle.plist_ascii.specs.Ascii.{OnlyBareTextsDiffer};
     ghost use Rattle.plist_ascii.specs.Unread.{readable_with};

@@ -2,7 +2,6 @@
 
 ghost use Rattle.std.specs.Prelude.{◌≡◌, ◌≤◌, length};
 ghost use Rattle.plist_ascii.specs.TokenPrefixes.{run};
-ghost use Rattle.plist_ascii.specs.Texts.{ends_bare};
 ghost use Rattle.plist_ascii.specs.Unread.{stops};
 
 use crate::dialect::Dialect;

@@ -1,10 +1,10 @@
 //! Bare strings, and the meaning of strings.
 
-ghost use Rattle.std.specs.Prelude.{◌≡◌, ◌||◌, ◌+◌, ◌≤◌, [], ◌∷◌, ◌++◌, None, Some, Ok, Err, false, true, IfOk, IfErr, OnOk, string_bytes};
+ghost use Rattle.std.specs.Prelude.{◌≡◌, ◌||◌, ◌≤◌, None, Some, false, true, IfOk, IfErr, OnOk, string_bytes};
 ghost use Rattle.plist_base.specs.IntegerText.{integer_of_text};
-ghost use Rattle.plist_base.specs.Events.{ScalarEvent, event_of};
+ghost use Rattle.plist_base.specs.Events.{event_of};
 ghost use Rattle.plist_ascii.specs.TokenPrefixes.{is_one_of};
-ghost use Rattle.plist_ascii.specs.Texts.{bare, bare_event, quoted_event, scalar_of_text};
+ghost use Rattle.plist_ascii.specs.Texts.{bare, bare_event, quoted_event};
 ghost use Rattle.plist_ascii.specs.Ascii.{IsTextEvent};
 ghost use Rattle.plist_ascii.specs.Unread.{stops};
 ghost use Rattle.plist_ascii.specs.inner.Inputs.{Means, kind_in_bytes, AddsRun, CountsFailed, GivesBy};
@@ -63,7 +63,7 @@ pub fn may_be_number(text: &str) -> bool
 }
 
 /// Returns the event of a bare string with the given bytes, or `InvalidUtf8` if they aren't UTF-8.
-#[tactic(auto, unfolding(crate::specs::Texts::bare_event), using(crate::proofs::Texts::number_is_text))]
+#[tactic(auto, unfolding(crate::specs::Texts::bare_event))]
 pub fn bare_event(bytes: Vec<u8>) -> Result<OwnedEvent, TokenFault>
     ensures { Means result (bare_event bytes.items) }
 {

@@ -1,6 +1,6 @@
 //! Takes tokens. The first byte of a token decides its kind.
 
-ghost use Rattle.std.specs.Prelude.{◌≡◌, None, Some, IfErr, IfOk};
+ghost use Rattle.std.specs.Prelude.{◌≡◌, None, IfErr, IfOk};
 ghost use Rattle.plist_base.specs.Events.{event_of};
 ghost use Rattle.std.specs.Option.{option_map};
 ghost use Rattle.plist_ascii.specs.Texts.{slash};

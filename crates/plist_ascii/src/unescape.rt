@@ -1,10 +1,8 @@
 //! Takes the escapes in quoted strings.
 
-ghost use Rattle.std.specs.Prelude.{◌≡◌, ◌+◌, ◌*◌, ◌<◌, ◌≤◌, ◌&&◌, [], ◌∷◌, nat_le, nat_lt, None, Some, Ok, Err, true, false, MatchOption};
+ghost use Rattle.std.specs.Prelude.{◌≡◌, ◌<◌, ◌≤◌, [], ◌∷◌, Some, true, false, MatchOption};
 ghost use Rattle.std.specs.Char.{digit_value, is_digit};
-ghost use Rattle.std.specs.Char.Utf16.{is_high_surrogate, is_low_surrogate};
 ghost use Rattle.plist_base.specs.Faults.{InvalidOctalString, InvalidUtf16String};
-ghost use Rattle.plist_ascii.specs.TokenPrefixes.{is_one_of};
 ghost use Rattle.plist_ascii.specs.Escapes.{simple_escape, octal_escape, octal_char, octal_text, code_unit, unit_of, is_surrogate, pair_text, low_half, unicode_escape, escape};
 ghost use Rattle.plist_ascii.specs.inner.Inputs.{CountsFailed, GivesBy, IsCharOr, escaped_bytes};
 

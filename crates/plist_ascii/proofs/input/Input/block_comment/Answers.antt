@@ -14,8 +14,12 @@ stars-preserved g c =
           (gives_after rest (omega (arith, c.in_ok-_star.ensures.place, same)) (λ xs e.
           let t = value xs e in
           let s = next t.0 t.2 in
-          let opens = star_opens xs t.1 s.1 in
-          (run is_star xs + 1, s.0 ∙ ap Some opens.0, omega (arith, t.3, same), rw (← opens.0) opens.1)));
+          let opens = star_opens xs t.1 s.1 in (
+            run is_star xs + 1,
+            s.0 ∙ ap Some opens.0,
+            omega (arith, t.3, same),
+            rw (← opens.0) opens.1,
+          )));
       place = omega (arith, c.in_ok-_star.ensures.place, same);
       failures = c.in_ok-take_if-in-Some.ensures.failures ∙ c.in_ok-_star.ensures.failures
           ∙ c.stars.invariant.failures;

@@ -26,7 +26,8 @@ returns-in_err-event-in-Some-clause-memory g c =
     let same = slash_bare (stops c.args.stop) _ c.in-Some._byte-test.0.1 c.in-Some._byte-test.1 in
     passed_on (AllocatesForText g.R.ByteReader.remaining (slash (stops c.args.stop))
     c.args.self.now) _ _ c.from_residual-in_err-event-in-Some.ensures.1
-    (λ m xs e. let k = looked xs e in rw (k.1, same k.0) (bare_wants (stops c.args.stop) _ (c.in-Some._byte ∷ k.0)))
+    (λ m xs e. let k = looked xs e in
+    rw (k.1, same k.0) (bare_wants (stops c.args.stop) _ (c.in-Some._byte ∷ k.0)))
 
 pub returns-in_ok-skip_run-in-Some-eq47-clause-answers
     : goal.returns-in_ok-skip_run-in-Some-eq47-clause-answers

@@ -25,10 +25,10 @@ pub tokens-preserved : goal.tokens-preserved
 tokens-preserved g c =
     let past = rw c.in-Ok-Some.field-0-is at c.in-Ok-Some.ensures in
     let led = since_leads c.tokens.invariant.since past.value past.rises in
+    let token = rw c.in-Ok-None-token_by.field-0-is at c.in-Ok-None-token_by.ensures in
     record {
-      since = led_skips led (rw c.in-Ok-None-token_by.field-0-is at c.in-Ok-None-token_by.ensures.answers);
-      failures = c.in-Ok-None-token_by.ensures.failures ∙ past.failures
-          ∙ c.tokens.invariant.failures;
+      since = led_skips led token.answers;
+      failures = token.failures ∙ past.failures ∙ c.tokens.invariant.failures;
       dialect = c.tokens.invariant.dialect;
     }
 
@@ -48,11 +48,13 @@ pub returns-in-Ok-None-clause-steps : goal.returns-in-Ok-None-clause-steps
 returns-in-Ok-None-clause-steps g c =
     let past = rw c.in-Ok-None.field-0-is at c.in-Ok-None.ensures in
     gives_none c.tokens.invariant.dialect
-    (λ xs e. (c.end.ensures.unread, since_ends c.tokens.invariant.since c.take_past.new.self past.value xs e))
+    (λ xs e.
+    let none = since_ends c.tokens.invariant.since c.take_past.new.self past.value xs e in
+    (c.end.ensures.unread, none))
     (omega (arith, c.tokens.invariant.since.rises, past.place, c.end.ensures.place))
     (ap g.R.ByteReader.failures c.end.ensures.inner ∙ past.failures ∙ c.tokens.invariant.failures)
     c.end.ensures.ended
-    (λ e. absurd (not_ended (sym c.if-has_ended.ensures) e))
+    (not_ended (sym c.if-has_ended.ensures))
 
 pub returns-in-Err-token_by-clause-steps : goal.returns-in-Err-token_by-clause-steps
 returns-in-Err-token_by-clause-steps g c =
