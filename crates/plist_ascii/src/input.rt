@@ -204,7 +204,10 @@ impl<R: ByteReader> Input<R> {
         ensures unchanged { IfErr result (λ _. self.new.taken ≡ self.old.taken) }
         ensures failures { CountsFailed R.failures self.old result self.new }
     {
-        self.take()?.ok_or(TokenFault::UnclosedString)
+        match self.take()? {
+            Some(byte) => Ok(byte),
+            None => Err(TokenFault::UnclosedString),
+        }
     }
 
     /// Takes the bytes that `at_hand` returns, up to the first stop, which isn't taken. Returns

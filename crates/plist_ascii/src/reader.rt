@@ -138,6 +138,22 @@ impl<R: ByteReader + Drop> AsciiReader<R> {
     ghost use Rattle.plist_base.specs.Visits.{TakesTurn, YieldsPlain};
     ghost use Rattle.plist_ascii.specs.AsciiReader.{GivesAscii, ascii_steps};
 
+    // Hands the next event to a visitor, after it was read by `next`.
+    fn hand_over_read<V: EventVisitor>(
+        &mut self,
+        visitor: &mut V,
+    ) -> Option<Result<ControlFlow<()>, Error>>
+        ensures turn { TakesTurn (YieldsPlain (GivesAscii R.remaining R.failures)) V.step
+            (self.old, visitor.old) result (self.new, visitor.new) }
+        ensures falls { IfSome result (λ _. ascii_steps self.new < ascii_steps self.old) }
+    {
+        match self.next() {
+            None => None,
+            Some(Ok(event)) => Some(Ok(visitor.event(event))),
+            Some(Err(error)) => Some(Err(error)),
+        }
+    }
+
     /// Hands the next event to a visitor, and returns what the visitor returns, or `None` if no
     /// event remains. A quoted string without escapes, or a bare string that spells no integer and
     /// doesn't begin with a slash, is borrowed from the buffer of the inner reader if that has all
@@ -156,11 +172,7 @@ impl<R: ByteReader + Drop> AsciiReader<R> {
         ensures falls { IfSome result (λ _. ascii_steps self.new < ascii_steps self.old) }
     {
         let Some(borrowed) = self.input.borrowed_text(Stop::Bare(self.dialect)) else {
-            return match self.next() {
-                None => None,
-                Some(Ok(event)) => Some(Ok(visitor.event(event))),
-                Some(Err(error)) => Some(Err(error)),
-            };
+            return self.hand_over_read(visitor);
         };
         let flow = visitor.string(CowStr::Borrowed(borrowed.text));
         let count = borrowed.count;

@@ -2,6 +2,7 @@
 
 ghost use Rattle.std.specs.Prelude.{◌≡◌, ◌≤◌, length};
 ghost use Rattle.plist_ascii.specs.TokenPrefixes.{run};
+ghost use Rattle.plist_ascii.specs.Texts.{ends_bare};
 ghost use Rattle.plist_ascii.specs.Unread.{stops};
 
 use crate::dialect::Dialect;
@@ -22,6 +23,22 @@ pub enum Stop {
     Quoted(u8),
 }
 
+// Returns whether this byte ends a bare string.
+#[inline(always)]
+fn ends_bare(dialect: Dialect, byte: u8) -> bool
+    ensures { result ≡ ends_bare dialect byte }
+{
+    match dialect {
+        Dialect::Lax => matches!(byte, b' ' | b')' | b'\r' | b'\t' | b';' | b','),
+        Dialect::Tight => {
+            matches!(
+                byte,
+                b' ' | b')' | b'\r' | b'\t' | b';' | b',' | b'\n' | b'}' | b'='
+            )
+        }
+    }
+}
+
 // Returns whether this byte ends a run with this stop.
 #[inline(always)]
 fn is_stop(stop: Stop, byte: u8) -> bool
@@ -29,13 +46,7 @@ fn is_stop(stop: Stop, byte: u8) -> bool
 {
     match stop {
         Stop::Lead => !is_blank(byte),
-        Stop::Bare(Dialect::Lax) => matches!(byte, b' ' | b')' | b'\r' | b'\t' | b';' | b','),
-        Stop::Bare(Dialect::Tight) => {
-            matches!(
-                byte,
-                b' ' | b')' | b'\r' | b'\t' | b';' | b',' | b'\n' | b'}' | b'='
-            )
-        }
+        Stop::Bare(dialect) => ends_bare(dialect, byte),
         Stop::LineEnd => byte == b'\n',
         Stop::Star => byte == b'*',
         Stop::Quoted(quote) => byte == quote || byte == b'\\',

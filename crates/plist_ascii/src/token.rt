@@ -61,7 +61,7 @@ pub fn is_blank(byte: u8) -> bool
 
 impl<R: ByteReader> Input<R> {
     // Takes the rest of the token that a slash begins, and returns its event, or `None` for a
-    // comment.
+    // comment. The LF that ends a line comment isn't taken.
     fn slash(&mut self, alloc: Global, stop: Stop) -> Result<Option<OwnedEvent>, TokenFault>
         // Result.
         ensures answers { GivesBy R.remaining (option_map event_of) (slash (stops stop)) self.old
