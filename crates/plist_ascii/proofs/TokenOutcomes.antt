@@ -9,7 +9,7 @@ use Rattle.plist_ascii.specs.declared.fault.TokenFault.{TokenFault}
 use Rattle.plist_ascii.specs.declared.input.Input.{Input}
 use Rattle.plist_ascii.specs.Unread.{IfKnown, unread}
 use Rattle.plist_ascii.specs.TokenPrefixes.{Taken, past, past_one, taken}
-use Rattle.plist_ascii.specs.inner.Inputs.{GivesBy, LooksAhead, said}
+use Rattle.plist_ascii.specs.inner.Inputs.{GivesBy, LooksAhead, said, TakesNext, TakesOneMore}
 
 -- a fact about an optional value implies each fact about it that follows
 pub some_same : {A : Type 0} (o : Option A) (P Q : A → Type 0) → ((a : A) → P a → Q a) → IfSome o P
@@ -53,6 +53,18 @@ module _ {R : Type 0} {known : R → Option (List ℕ)} {X A : Type 0} {view : X
           let r = f (drop k.0 xs) k.1 in
           rw k.3 (r.0, r.1 ∙ ap Some (drop-drop _ k.0 xs), omega (arith, r.2, k.2))) a.gives;
     }
+
+    -- a byte was taken, and then what follows it
+    pub gives_next : (c : ℕ) → TakesNext known old (Some c) mid → TakesOneMore old mid
+        → ((rest : List ℕ) → front (c ∷ rest) ≡ past_one (back rest))
+        → GivesBy known view front old answer new
+    gives_next c next one h = gives_after (omega (arith, one.0)) (λ xs e.
+        let k = next xs e in (
+          1,
+          rw k.1 k.2,
+          one.0,
+          rw k.1 (h k.0 ∙ ap past_one (past_none _) ∙ past_more 0 _),
+        ))
 
     -- the next byte was looked at and not taken
     pub gives_looked : {window : R → List ℕ} {failed : R → Option ℕ} {c : ℕ}
