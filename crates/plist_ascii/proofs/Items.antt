@@ -21,10 +21,6 @@ use Rattle.plist_ascii.specs.Unread.{IfKnown, stops, unread}
 use Rattle.plist_ascii.specs.inner.Inputs.{GivesBy, TakesPast, kind_in_bytes}
 use Rattle.plist_ascii.proofs.Runs.{run_elim}
 
-then_same : (l : Lead) (q : ℕ) (g : Result (Option PlainEvent) FaultKind) (xs ys : List PlacedItem)
-    → xs ≡ ys → item_then l q g xs ≡ item_then l q g ys
-then_same l q g xs ys e = search rules
-
 items_nil : (stops : ℕ → Bool) (r p : ℕ) → items_in stops r [] p ≡ []
 unfolding items_in
 items_nil stops zero p = refl
@@ -41,10 +37,9 @@ items_fuel stops r s [] p l m = items_nil _ r p ∙ sym (items_nil _ s p)
 items_fuel stops zero s (c ∷ cs) p l m = absurd (let none : ⊥ = omega arith in none)
 items_fuel stops (suc r) zero (c ∷ cs) p l m = absurd (let none : ⊥ = omega arith in none)
 items_fuel stops (suc r) (suc s) (c ∷ cs) p l m =
-    let b = token_by _ _ c cs in
+    let b = token_by stops (lead_of c) c cs in
     let short : length (drop b.bytes cs) ≤ length cs = rw length-drop (omega arith) in
-    then_same (lead_of c) (p + suc b.bytes) b.gives _ _
-    (items_fuel _ r s _ _ (omega arith) (omega arith))
+    rw (items_fuel stops r s (drop b.bytes cs) (p + suc b.bytes) (omega arith) (omega arith)) refl
 
 items_cons : (stops : ℕ → Bool) (c : ℕ) (cs : List ℕ) (p q : ℕ) → let b =
     token_by stops (lead_of c) c cs in q ≡ p + suc b.bytes
@@ -56,9 +51,7 @@ items_cons stops c cs p q e =
     let short : length (drop b.bytes cs) ≤ length cs = rw length-drop (omega arith) in
     let fuel = items_fuel stops (length cs) (length (drop b.bytes cs)) (drop b.bytes cs)
     (p + suc b.bytes) short (omega arith) in
-    then_same (lead_of c) (p + suc b.bytes) b.gives _ _ fuel
-    ∙ ap (λ q. item_then (lead_of c) q b.gives
-    (items_in stops (length (drop b.bytes cs)) (drop b.bytes cs) q)) (sym e)
+    rw (e, fuel) refl
 
 -- the items of `xs` from offset `p` on are those of `ys` from offset `q` on
 pub record Going (stops : ℕ → Bool) (xs : List ℕ) (p : ℕ) (ys : List ℕ) (q : ℕ) : Type 0 where

@@ -25,20 +25,6 @@ step quote more c rest =
     (followed rest (escape rest).bytes (escape rest).gives
     (λ text left. prepended text (more left))) (prepended (c ∷ []) (more rest)))
 
-then_same : (n : ℕ) (r : Result (List ℕ) FaultKind) (xs : List ℕ) (f g : List ℕ → Taken (List ℕ))
-    → f (drop n xs) ≡ g (drop n xs) → followed xs n r (λ text left. prepended text (f left))
-    ≡ followed xs n r (λ text left. prepended text (g left))
-then_same n (Ok text) xs f g h = ap (λ t. past n (prepended text t)) h
-then_same n (Err fault) xs f g h = refl
-
-step_same : (quote c : ℕ) (xs : List ℕ) (f g : List ℕ → Taken (List ℕ))
-    → ((ys : List ℕ) → length ys ≤ length xs → f ys ≡ g ys)
-    → past_one (step quote f c xs) ≡ past_one (step quote g c xs)
-step_same quote c xs f g h =
-    let e = escape xs in
-    let less : length (drop e.bytes xs) ≤ length xs = rw length-drop (omega arith) in
-    rw (then_same e.bytes e.gives xs f g (h _ less), h xs (omega arith)) refl
-
 -- the meaning doesn't depend on the fuel, if that is at least the number of bytes
 quoted_fuel : (quote r s : ℕ) (xs : List ℕ) → length xs ≤ r → length xs ≤ s
     → quoted_in quote r xs ≡ quoted_in quote s xs
@@ -50,15 +36,20 @@ quoted_fuel quote (suc r) zero [] l m = refl
 quoted_fuel quote (suc r) zero (c ∷ xs) l m = absurd (let none : ⊥ = omega arith in none)
 quoted_fuel quote (suc r) (suc s) [] l m = refl
 quoted_fuel quote (suc r) (suc s) (c ∷ xs) l m =
-    step_same quote c xs (quoted_in quote r) (quoted_in quote s)
-    (λ ys h. quoted_fuel quote r s ys (omega arith) (omega arith))
+    let left = drop (escape xs).bytes xs in
+    let less : length left ≤ length xs = rw length-drop (omega arith) in
+    let same = quoted_fuel quote r s left (omega arith) (omega arith) in
+    let next = quoted_fuel quote r s xs (omega arith) (omega arith) in
+    search rules
 
 quoted_opens : (quote c : ℕ) (xs : List ℕ)
     → quoted quote (c ∷ xs) ≡ past_one (step quote (quoted quote) c xs)
 unfolding quoted_in
 quoted_opens quote c xs =
-    step_same quote c xs (quoted_in quote (length xs)) (quoted quote)
-    (λ ys h. quoted_fuel quote (length xs) (length ys) ys h (omega arith))
+    let left = drop (escape xs).bytes xs in
+    let less : length left ≤ length xs = rw length-drop (omega arith) in
+    let same = quoted_fuel quote (length xs) (length left) left less (omega arith) in
+    search rules
 
 -- ---- a run of plain bytes
 
@@ -87,15 +78,8 @@ at_end quote text = refl
 
 at_stop : (quote c : ℕ) (cs : List ℕ) → ends_run quote c ≡ true → (text : List ℕ)
     → rest_of quote text (c ∷ cs) ≡ past 0 (rest_from_stop quote (text ++ []) (c ∷ cs))
-at_stop quote c cs e text = by (c == quote) refl
-  where
-    by : (b : Bool) → (c == quote) ≡ b
-        → rest_of quote text (c ∷ cs) ≡ past 0 (rest_from_stop quote (text ++ []) (c ∷ cs))
-    by true is = rw (quoted_opens quote c cs, is) refl
-    by false is =
-        let slash : (c == code_of "\\") ≡ true = rw is at e in
-        rw (append-nil text, quoted_opens quote c cs, is, slash)
-        (ap past_one (escaped quote _ _ text cs) ∙ past_none _)
+at_stop quote c cs e text =
+    rw (append-nil text, quoted_opens quote c cs) (search (rules, append_assoc))
 
 -- the bytes of a run stand for themselves
 quoted_runs : (quote : ℕ) (text xs : List ℕ) → let m = run (ends_run quote) xs in
