@@ -1,10 +1,10 @@
 -- A quoted string, part by part.
-use Rattle.std.proofs.Common.{◌≡◌, ℕ, zero, suc, ◌+◌, ◌≤◌, ◌≢◌, Bool, true, false, cond, List, [], ◌∷◌, ◌++◌, length, take, drop, Option, None, Some, Result, Ok, Err, refl, ap, sym, ◌∙◌, arith, rules, append_assoc, append-nil, length-drop}
+use Rattle.std.proofs.Common.{◌≡◌, ℕ, zero, suc, ◌+◌, ◌≤◌, ◌≢◌, true, cond, List, [], ◌∷◌, ◌++◌, length, take, drop, Option, None, Some, Result, Ok, Err, refl, ap, sym, ◌∙◌, arith, rules, append_assoc, append-nil, length-drop}
 use Rattle.std.specs.Prelude.{◌==◌, IfSome, vec_items}
 use Rattle.std.proofs.lemmas.Bool.{eq-eqb, ne_eqb}
 use Rattle.std.specs.declared.alloc.Global.{Global}
 use Rattle.std.specs.declared.vec.Vec.{Vec}
-use Rattle.plist_base.specs.Faults.{FaultKind, UnclosedString}
+use Rattle.plist_base.specs.Faults.{UnclosedString}
 use Rattle.plist_ascii.specs.declared.fault.TokenFault.{TokenFault}
 use Rattle.plist_ascii.specs.declared.input.Input.{Input}
 use Rattle.plist_ascii.specs.declared.stop.Stop.TheVariants as stop
@@ -14,7 +14,7 @@ use Rattle.plist_ascii.specs.Escapes.{escape}
 use Rattle.plist_ascii.specs.Texts.{prepended, ends_run, quoted_in, quoted}
 use Rattle.plist_ascii.specs.inner.Inputs.{AddsRun, GivesBy, TakesNext, TakesOneMore, escaped_bytes, kind_in_bytes}
 use Rattle.plist_ascii.proofs.Runs.{run_elim}
-use Rattle.plist_ascii.proofs.TokenOutcomes.{gives_after, past_more, past_none, some_err, some_fault}
+use Rattle.plist_ascii.proofs.TokenOutcomes.{gives_after, past_more, some_err, some_fault}
 
 -- ---- the first byte
 
@@ -62,15 +62,6 @@ abbrev pub rest_from_stop : (quote : ℕ) (text : List ℕ) → List ℕ → Tak
 rest_from_stop quote text = after_byte (λ c rest. cond (c == quote) (taken 0 (Ok text))
     (in_sequence escape (λ part. rest_of quote (text ++ part)) rest))
 
-with_with : (a b : List ℕ) (t : Taken (List ℕ)) → prepended a (prepended b t) ≡ prepended (a ++ b) t
-with_with a b t = search (rules, append_assoc)
-
-escaped : (quote n : ℕ) (r : Result (List ℕ) FaultKind) (text xs : List ℕ)
-    → prepended text (followed xs n r (λ part left. prepended part (quoted quote left)))
-    ≡ followed xs n r (λ part left. rest_of quote (text ++ part) left)
-escaped quote n (Ok part) text xs = ap (past n) (with_with text part (quoted quote (drop n xs)))
-escaped quote n (Err fault) text xs = refl
-
 at_end : (quote : ℕ) (text : List ℕ)
     → rest_of quote text [] ≡ past 0 (rest_from_stop quote (text ++ []) [])
 unfolding quoted_in
@@ -87,19 +78,16 @@ quoted_runs : (quote : ℕ) (text xs : List ℕ) → let m = run (ends_run quote
 quoted_runs quote text xs = run_elim (ends_run quote) (λ xs m. (text : List ℕ)
     → rest_of quote text xs ≡ past m (rest_from_stop quote (text ++ take m xs) (drop m xs)))
     (at_end quote) (at_stop quote) (λ c cs e h text.
-    let plain : ((c == quote) ≡ false) × ((c == code_of "\\") ≡ false) = search rules in
-    let one = with_with text (c ∷ []) (quoted quote cs) in
-    rw (quoted_opens quote c cs, plain.0, plain.1)
-    (ap past_one (one ∙ rw append_assoc at (h (text ++ c ∷ []))) ∙ past_more _ _)) xs text
+    let on = h (text ++ c ∷ []) in
+    rw (quoted_opens quote c cs) (search (rules, append_assoc))) xs text
 
 -- a string without escapes
 pub quoted_plain : (quote : ℕ) (xs zs : List ℕ) → let m = run (ends_run quote) xs in
     drop m xs ≡ quote ∷ zs → quoted quote xs ≡ taken (m + 1) (Ok (take m xs))
 quoted_plain quote xs zs e =
-    without_front (quoted quote xs) ∙ quoted_runs quote [] xs ∙ rw (e, eq-eqb quote quote refl) refl
-  where
-    without_front : (t : Taken (List ℕ)) → t ≡ prepended [] t
-    without_front t = search rules
+    let on = quoted_runs quote [] xs in
+    let closed = eq-eqb quote quote refl in
+    search rules
 
 -- ---- the parts of a string
 

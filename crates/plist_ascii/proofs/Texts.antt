@@ -107,8 +107,7 @@ pub ruleset text_tokens = (bare_wants, quoted_wants)
 means_said : (r : Result Event TokenFault) {outcome : Result (Option PlainEvent) FaultKind}
     → Means r outcome
     → said (λ e. Some (event_of e)) r ≡ Some outcome
-means_said (Ok event) m = ap Some (sym m.0)
-means_said (Err f) m = rw m.0 (ap Some (sym m.1))
+means_said r m = search rules
 
 -- the token of a bare string is the event or the fault of its bytes
 pub bare_becomes : {R : Type 0} {known : R → Option (List ℕ)} {stop : Stop} (c : ℕ)

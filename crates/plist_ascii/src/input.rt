@@ -175,7 +175,6 @@ impl<R: ByteReader> Input<R> {
         // Errors.
         ensures fault { IfErr result (λ f. f ≡ TokenFault.Io) }
         // State afterwards.
-        ensures peeked { IfOk result (λ is. is ≡ true → self.new.peeked ≡ None) }
         ensures rises { IfOk result (λ is. is ≡ true → TakesOneMore self.old self.new) }
         ensures same { IfOk result (λ is. is ≡ false → self.new.taken ≡ self.old.taken) }
         ensures unmoved { IfErr result (λ _. self.new.taken ≡ self.old.taken) }
