@@ -1,8 +1,8 @@
 -- Strings that end among the bytes at hand.
-use Rattle.std.proofs.Common.{drop-cons, get_or, ◌≡◌, ℕ, suc, ◌+◌, ◌-◌, ◌^◌, ◌<◌, ◌≤◌, Bool, true, false, List, [], ◌∷◌, ◌++◌, length, take, drop, Option, Some, Ok, None, refl, sym, ap, ◌∙◌, subst, arith, length-drop}
+use Rattle.std.proofs.Common.{drop-cons, get_or, ◌≡◌, ℕ, suc, ◌+◌, ◌-◌, ◌<◌, ◌≤◌, Bool, true, false, List, [], ◌∷◌, ◌++◌, length, take, drop, Option, Some, Ok, None, refl, sym, ap, ◌∙◌, subst, arith, length-drop}
 use Rattle.std.proofs.lemmas.List.{take-append-le, drop-append-le}
 use Rattle.std.specs.Str.{is_utf8}
-use Rattle.std.specs.Prelude.{not, if◌then◌else◌}
+use Rattle.std.specs.Prelude.{not}
 use Rattle.plist_base.specs.declared.event.Event.{Event}
 use Rattle.plist_base.specs.Events.{ScalarEvent, event_of}
 use Rattle.plist_base.specs.Trees.{String}
@@ -18,7 +18,6 @@ use Rattle.plist_ascii.specs.TokenPrefixes.{past_one, run, taken}
 use Rattle.plist_ascii.specs.Texts.{ends_run, quoted, bare_event, quoted_event}
 use Rattle.plist_ascii.specs.Unread.{IfKnown, stops, unread}
 use Rattle.plist_ascii.specs.inner.Inputs.{BeginWithText, LeadsToText, hand_of}
-use Rattle.std.proofs.lemmas.Bool.{cond_both}
 use Rattle.plist_ascii.proofs.Items.{IsFirst, TakesFirst, going_start, going_blanks, going_event}
 use Rattle.plist_ascii.proofs.Quotes.{quoted_plain}
 use Rattle.plist_ascii.proofs.Runs.{run_front}
@@ -140,12 +139,6 @@ borrowed_gives known failed old new count text event is ahead going bytes place 
     ) in
     gives_event refl going (omega arith) first same (rw is tt)
     (subst (λ e. IfBracket e (new.peeked ≡ None)) (sym is) tt) (λ xs e first. peeked)
-
--- fewer items remain after bytes are taken
-pub borrowed_falls : (ended later : Bool) (p q : ℕ) → ended ≡ false → p < q → q < 2 ^ 64
-    → (if later then 0 else 2 ^ 64 - q) < (if ended then 0 else 2 ^ 64 - p)
-borrowed_falls ended later p q going rises fits = rw going
-    (cond_both later _ _ (λ m. m < 2 ^ 64 - p) (λ _. omega arith) (λ _. omega arith))
 
 -- an input with bytes at hand hasn't ended
 pub some_going : (window : List ℕ) (ended : Bool) (peeked : Option ℕ) (p n : ℕ)

@@ -1,10 +1,7 @@
-use Rattle.std.proofs.Common.{◌≡◌, true, false, refl, ap, vec_items}
+use Rattle.std.proofs.Common.{refl, ap, vec_items}
 use Rattle.std.proofs.lemmas.Str.{IsUtf8-string_bytes, is_utf8-from_IsUtf8, IsUtf8-from_is_utf8}
-use Rattle.std.proofs.lemmas.Bool.{false_from_ne_true}
+use Rattle.std.proofs.lemmas.Bool.{false_from_ne_true, false≢true}
 use Rattle.plist_ascii.proofs.text.text_of.Goals as goal
-
-false_true : false ≡ true → ⊥
-false_true e = cc
 
 pub returns-in-Ok-clause-value : goal.returns-in-Ok-clause-value
 returns-in-Ok-clause-value c =
@@ -15,4 +12,4 @@ returns-in-Ok-clause-value c =
 pub returns-clause-fault : goal.returns-clause-fault
 returns-clause-fault c =
     let never = c.in-Err.ensures.succeeds in
-    (false_from_ne_true _ (λ t. false_true (never (IsUtf8-from_is_utf8 _ t))), refl)
+    (false_from_ne_true _ (λ t. false≢true (never (IsUtf8-from_is_utf8 _ t))), refl)

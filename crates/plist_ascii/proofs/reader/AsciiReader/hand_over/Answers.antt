@@ -1,7 +1,8 @@
-use Rattle.std.proofs.Common.{Some, Ok, arith, refl}
+use Rattle.std.proofs.Common.{◌<◌, ◌-◌, ◌^◌, Some, Ok, arith, refl}
+use Rattle.std.proofs.lemmas.Bool.{cond_both}
 use Rattle.std.specs.declared.borrow.CowStr.TheVariants.{Borrowed}
 use Rattle.plist_base.specs.declared.event.Event.TheVariants.{String}
-use Rattle.plist_ascii.proofs.FrontTexts.{borrowed_falls, borrowed_gives, some_going}
+use Rattle.plist_ascii.proofs.FrontTexts.{borrowed_gives, some_going}
 use Rattle.plist_ascii.proofs.reader.AsciiReader.hand_over.Goals as goal
 
 pub returns-clause-turn : goal.returns-clause-turn
@@ -26,6 +27,6 @@ returns-clause-turn g c =
 pub returns-clause-falls : goal.returns-clause-falls
 returns-clause-falls g c =
     let some = c.in-Some.ensures.some in
-    borrowed_falls _ _ _ _
-    (some_going _ _ _ _ c.in-Some.borrowed.count c.in-Some.ensures.within c.in-Some.ensures.some)
-    (omega arith) c.take_first.ensures.fits
+    rw (some_going _ _ _ _ c.in-Some.borrowed.count c.in-Some.ensures.within some)
+    (cond_both c.take_first.new.self.ended _ _ (λ m. m < 2 ^ 64 - c.args.self.now.input.taken)
+    (λ e. omega arith) (λ e. omega arith))
