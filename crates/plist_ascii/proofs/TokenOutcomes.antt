@@ -4,18 +4,13 @@ use Rattle.std.specs.Prelude.{IfSome}
 use Rattle.std.specs.Option.{option_map}
 use Rattle.std.specs.Result.{IsErrAnd, IfErr}
 use Rattle.std.proofs.lemmas.List.{drop-drop}
+use Rattle.std.proofs.lemmas.Option.{IfSome_then}
 use Rattle.plist_base.specs.Faults.{FaultKind}
 use Rattle.plist_ascii.specs.declared.fault.TokenFault.{TokenFault}
 use Rattle.plist_ascii.specs.declared.input.Input.{Input}
 use Rattle.plist_ascii.specs.Unread.{IfKnown, unread}
 use Rattle.plist_ascii.specs.TokenPrefixes.{Taken, past, past_one, taken}
 use Rattle.plist_ascii.specs.inner.Inputs.{GivesBy, LooksAhead, said, TakesNext, TakesOneMore}
-
--- a fact about an optional value implies each fact about it that follows
-pub some_same : {A : Type 0} (o : Option A) (P Q : A → Type 0) → ((a : A) → P a → Q a) → IfSome o P
-    → IfSome o Q
-some_same None P Q h p = tt
-some_same (Some a) P Q h p = h a p
 
 -- a fact about an optional kind implies each fact about its fault that follows
 pub some_fault : {A : Type 0} (k : Option FaultKind) (P : FaultKind → Type 0)
@@ -48,10 +43,10 @@ module _ {R : Type 0} {known : R → Option (List ℕ)} {X A : Type 0} {view : X
         × (front xs ≡ past n (back (drop n xs)))) → GivesBy known view front old answer new
     gives_after le h = record {
       rises = omega (arith, a.rises);
-      gives = some_same (said view answer) _ _ (λ outcome f xs e.
+      gives = IfSome_then (said view answer) a.gives (λ outcome f xs e.
           let k = h xs e in
           let r = f (drop k.0 xs) k.1 in
-          rw k.3 (r.0, r.1 ∙ ap Some (drop-drop _ k.0 xs), omega (arith, r.2, k.2))) a.gives;
+          rw k.3 (r.0, r.1 ∙ ap Some (drop-drop _ k.0 xs), omega (arith, r.2, k.2)));
     }
 
     -- a byte was taken, and then what follows it
