@@ -1,9 +1,10 @@
 -- A quoted string, part by part.
-use Rattle.std.proofs.Common.{◌≡◌, ℕ, zero, suc, ◌+◌, ◌≤◌, ◌≢◌, true, cond, List, [], ◌∷◌, ◌++◌, length, take, drop, Option, None, Some, Result, Ok, Err, refl, ap, sym, ◌∙◌, arith, rules, append_assoc, append-nil, length-drop}
+use Rattle.std.proofs.Common.{◌≡◌, ℕ, zero, suc, ◌+◌, ◌≤◌, ◌≢◌, true, cond, List, [], ◌∷◌, ◌++◌, length, take, drop, Option, None, Some, Result, Ok, Err, refl, arith, rules, append_assoc, append-nil, length-drop}
 use Rattle.std.specs.Prelude.{◌==◌, IfSome, vec_items}
 use Rattle.std.proofs.lemmas.Bool.{eq-eqb, ne_eqb}
 use Rattle.std.specs.declared.alloc.Global.{Global}
 use Rattle.std.specs.declared.vec.Vec.{Vec}
+use Rattle.std.proofs.lemmas.Grind.{common_steps}
 use Rattle.plist_base.specs.Faults.{UnclosedString}
 use Rattle.plist_ascii.specs.declared.fault.TokenFault.{TokenFault}
 use Rattle.plist_ascii.specs.declared.input.Input.{Input}
@@ -14,7 +15,7 @@ use Rattle.plist_ascii.specs.Escapes.{escape}
 use Rattle.plist_ascii.specs.Texts.{prepended, ends_run, quoted_in, quoted}
 use Rattle.plist_ascii.specs.inner.Inputs.{AddsRun, GivesBy, TakesNext, TakesOneMore, escaped_bytes, kind_in_bytes}
 use Rattle.plist_ascii.proofs.Runs.{run_elim}
-use Rattle.plist_ascii.proofs.TokenOutcomes.{gives_after, past_more, some_err, some_fault}
+use Rattle.plist_ascii.proofs.TokenOutcomes.{gives_after, past_more}
 
 -- ---- the first byte
 
@@ -121,31 +122,17 @@ module _ {R : Type 0} {known : R → Option (List ℕ)} (quote : ℕ) (text : Li
       → TakesNext known old (Some c) mid → TakesOneMore old mid → c ≢ quote
       → GivesBy known escaped_bytes escape mid (Err f) new
       → GivesBy known view (rest_from_stop quote text) old (Err f) new
-  escape_fails {f} next one other a = record {
-    rises = omega (arith, one.0, a.rises);
-    gives = some_err (kind_in_bytes f) _ _ (λ kind h xs e.
-        let k = next xs e in
-        let r = h k.0 k.2 in
-        rw (k.1, ne_eqb _ _ other, r.0) (refl, r.1, omega (arith, r.2, one.0))) a.gives;
-  }
+  escape_fails next one other a = grind (arith, common_steps)
 
 -- the input ends before the closing quote
 pub quote_misses : {R : Type 0} {known : R → Option (List ℕ)} {X : Type 0} {view : X → List ℕ}
     (quote : ℕ) (text : List ℕ) {old new : Input R} (f : TokenFault)
     → IfSome (kind_in_bytes f) (λ kind. (kind ≡ UnclosedString) × TakesNext known old None new)
     → new.taken ≡ old.taken → GivesBy known view (rest_from_stop quote text) old (Err f) new
-quote_misses quote text f h same = record {
-  rises = omega (arith, same);
-  gives = some_fault (kind_in_bytes f) _ _ (λ kind h xs e.
-      let k = h.1 xs e in rw k.1 (ap Err (sym h.0), k.0 ∙ ap Some k.1, omega (arith, same))) h;
-}
+quote_misses quote text f h same = grind (arith, common_steps)
 
 -- the closing quote ends a string
 pub quote_closes : {R : Type 0} {known : R → Option (List ℕ)} (quote c : ℕ) (text : Vec ℕ Global)
     {old new : Input R} → TakesNext known old (Some c) new → TakesOneMore old new → c ≡ quote
     → GivesBy known vec_items (rest_from_stop quote text.items) old (Ok text) new
-quote_closes quote c text next one is = record {
-  rises = omega (arith, one.0);
-  gives = λ xs e.
-      let k = next xs e in rw (k.1, eq-eqb _ _ is) (refl, k.2, one.0);
-}
+quote_closes quote c text next one is = grind (arith, common_steps)

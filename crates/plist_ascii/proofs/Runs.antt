@@ -1,7 +1,8 @@
 -- Runs of bytes without a stop, which are taken part by part.
-use Rattle.std.proofs.Common.{◌≡◌, ℕ, zero, suc, ◌+◌, ◌<◌, ◌≤◌, Bool, true, false, List, [], ◌∷◌, ◌++◌, length, take, drop, Option, None, Some, Ok, refl, ap, ◌∙◌, arith}
+use Rattle.std.proofs.Common.{◌≡◌, ℕ, zero, suc, ◌+◌, ◌<◌, ◌≤◌, Bool, true, false, List, [], ◌∷◌, ◌++◌, length, take, drop, Option, None, Some, Ok, refl, arith}
 use Rattle.std.specs.Prelude.{nat_eq}
 use Rattle.std.proofs.lemmas.Bool.{cond_both, eqb-true, ne_eqb}
+use Rattle.std.proofs.lemmas.Grind.{common_steps}
 use Rattle.std.proofs.lemmas.List.{drop-drop, take-append-le}
 use Rattle.std.proofs.lemmas.List.Folds.{prefix_len-append}
 use Rattle.std.proofs.Math.Seq.{take-add}
@@ -77,23 +78,14 @@ module _ {R : Type 0} {known : R → Option (List ℕ)} {stop : Stop} {P : List 
   -- no bytes remain, and the run has ended
   pub none_ends : {window : R → List ℕ} {failed : R → Option ℕ}
       → LooksAhead known window failed old (Ok None) mid → P [] → TakesRun known stop P old mid
-  none_ends l h = record {
-    bytes = λ xs e.
-        let k = l.next xs e in
-        let place = l.place in
-        rw k.1 (h, k.0 ∙ ap Some k.1, omega arith);
-  }
+  none_ends l h = grind (arith, common_steps)
 
   module _ {more : Bool} (part : TakesPart known stop P old more mid) where
     -- before the part was taken, a byte was looked at
     pub looked_part : {window : R → List ℕ} {failed : R → Option ℕ} {first : Input R} {c : ℕ}
         → LooksAhead known window failed first (Ok (Some c)) old
         → TakesPart known stop P first more mid
-    looked_part l = record {
-      bytes = λ xs e.
-          let k = part.bytes xs (l.next xs e).3 in
-          (k.0, k.1, k.2, k.3 ∙ ap (λ t. t + k.0) l.place, k.4, k.5);
-    }
+    looked_part l = grind (arith, common_steps)
 
     -- after the part the rest of the run was taken
     pub runs_on : {Q S : List ℕ → Type 0} {new : Input R}
@@ -111,6 +103,4 @@ module _ {R : Type 0} {known : R → Option (List ℕ)} {stop : Stop} {P : List 
     -- the part is the whole run
     pub part_ends : {Q : List ℕ → Type 0} → more ≡ false → ((a : List ℕ) → P a → Q a)
         → TakesRun known stop Q old mid
-    part_ends none on = record {
-      bytes = λ xs e. let k = part.bytes xs e in rw (← k.5 none) (on _ k.1, k.2, k.3);
-    }
+    part_ends none on = grind (arith, common_steps)

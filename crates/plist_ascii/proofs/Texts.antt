@@ -1,13 +1,13 @@
 -- The meaning of strings, which tokens are strings, and what a slash begins.
-use Rattle.std.proofs.Common.{rules, ◌≡◌, ℕ, ◌≤◌, List, Option, Some, Ok, Err, refl, ◌<◌, None, ap, sym, arith, zero, suc, Bool, [], ◌∷◌, ◌++◌, Result, ◌≢◌}
+use Rattle.std.proofs.Common.{rules, ◌≡◌, ℕ, ◌≤◌, List, Option, Some, Ok, Err, refl, ◌<◌, None, ap, arith, zero, suc, Bool, [], ◌∷◌, ◌++◌, Result, ◌≢◌}
 use Rattle.plist_base.specs.declared.event.Event.{Event}
-use Rattle.plist_ascii.specs.inner.Inputs.{AddsRun, GivesBy, Means, said}
+use Rattle.plist_ascii.specs.inner.Inputs.{AddsRun, GivesBy, Means}
 use Rattle.plist_ascii.specs.declared.input.Input.{Input}
 use Rattle.plist_ascii.specs.declared.stop.Stop.{Stop}
 use Rattle.std.specs.Str.{is_utf8}
 use Rattle.plist_ascii.specs.declared.fault.TokenFault.{TokenFault}
 use Rattle.plist_base.specs.Faults.{InvalidUtf16String, InvalidUtf8AsciiStream, FaultKind}
-use Rattle.plist_base.specs.Events.{PlainEvent, ScalarEvent, event_of}
+use Rattle.plist_base.specs.Events.{ScalarEvent, event_of}
 use Rattle.plist_base.specs.Trees.{Integer, Scalar, String}
 use Rattle.std.specs.Option.{option_map_or}
 use Rattle.std.specs.Result.{result_flatten, result_map_both}
@@ -19,6 +19,7 @@ use Rattle.std.specs.Char.{IsScalar, is_digit}
 use Rattle.plist_ascii.specs.TokenPrefixes.{code_of, Taken, needs}
 use Rattle.plist_ascii.specs.Escapes.{octal_escape, escape, simple_escape, octal_text, code_unit, unit_of, low_half, unicode_escape}
 use Rattle.plist_ascii.specs.Unread.{stops}
+use Rattle.std.proofs.lemmas.Grind.{common_steps}
 use Rattle.std.proofs.lemmas.Bool.{cond_both, ne_eqb}
 
 pub number_is_text : (text : List ℕ) (o : Option ℤ) → IsTextEvent (ScalarEvent
@@ -103,20 +104,10 @@ pub ruleset text_tokens = (bare_wants, quoted_wants)
 
 -- ---- how the parts of a string determine its meaning
 
--- the result is the meaning of the string
-means_said : (r : Result Event TokenFault) {outcome : Result (Option PlainEvent) FaultKind}
-    → Means r outcome
-    → said (λ e. Some (event_of e)) r ≡ Some outcome
-means_said r m = search rules
-
 -- the token of a bare string is the event or the fault of its bytes
 pub bare_becomes : {R : Type 0} {known : R → Option (List ℕ)} {stop : Stop} (c : ℕ)
     {none text : List ℕ} {old new : Input R} {r : Result Event TokenFault} → none ≡ []
     → Means r (bare_event text)
     → (old.taken ≤ new.taken) × AddsRun known stop old (none ++ c ∷ []) new text
     → GivesBy known (λ e. Some (event_of e)) (bare (stops stop) c) old r new
-bare_becomes c {r} e m t = record {
-  rises = t.0;
-  gives = rw (means_said r m)
-      (λ xs known. let h = t.1.bytes xs known in (ap bare_event (sym (rw e at h.0)), h.1, h.2));
-}
+bare_becomes c {r} e m t = grind (arith, common_steps)

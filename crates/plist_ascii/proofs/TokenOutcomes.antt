@@ -1,23 +1,14 @@
 -- How the outcomes of a token's parts determine the outcome of the token.
-use Rattle.std.proofs.Common.{◌≡◌, ℕ, suc, ◌+◌, ◌≤◌, None, Some, ap, ◌∙◌, List, ◌∷◌, drop, Option, Result, Ok, Err, arith}
-use Rattle.std.specs.Prelude.{IfSome}
-use Rattle.std.specs.Option.{option_map}
+use Rattle.std.proofs.Common.{rules, ◌≡◌, ℕ, suc, ◌+◌, ◌≤◌, Some, ap, ◌∙◌, List, ◌∷◌, drop, Option, Result, Ok, Err, arith}
 use Rattle.std.specs.Result.{IsErrAnd, IfErr}
+use Rattle.std.proofs.lemmas.Grind.{common_steps}
 use Rattle.std.proofs.lemmas.List.{drop-drop}
 use Rattle.std.proofs.lemmas.Option.{IfSome_then}
-use Rattle.plist_base.specs.Faults.{FaultKind}
 use Rattle.plist_ascii.specs.declared.fault.TokenFault.{TokenFault}
 use Rattle.plist_ascii.specs.declared.input.Input.{Input}
 use Rattle.plist_ascii.specs.Unread.{IfKnown, unread}
 use Rattle.plist_ascii.specs.TokenPrefixes.{Taken, past, past_one, taken}
 use Rattle.plist_ascii.specs.inner.Inputs.{GivesBy, LooksAhead, said, TakesNext, TakesOneMore}
-
--- a fact about an optional kind implies each fact about its fault that follows
-pub some_fault : {A : Type 0} (k : Option FaultKind) (P : FaultKind → Type 0)
-    (Q : Result A FaultKind → Type 0) → ((kind : FaultKind) → P kind → Q (Err kind)) → IfSome k P
-    → IfSome (option_map (λ kind. Err kind) k) Q
-some_fault None P Q h p = tt
-some_fault (Some kind) P Q h p = h kind p
 
 pub past_none : {A : Type 0} (t : Taken A) → t ≡ past 0 t
 past_none t = let n : t.bytes ≡ 0 + t.bytes = omega arith in ap (λ n. taken n t.gives) n
@@ -25,13 +16,6 @@ past_none t = let n : t.bytes ≡ 0 + t.bytes = omega arith in ap (λ n. taken n
 pub past_more : {A : Type 0} (n : ℕ) (t : Taken A) → past_one (past n t) ≡ past (suc n) t
 past_more n t =
     let e : suc (n + t.bytes) ≡ suc n + t.bytes = omega arith in ap (λ n. taken n t.gives) e
-
--- a fact about a part's fault implies each fact about the fault of the whole that follows
-pub some_err : {A B : Type 0} (k : Option FaultKind) (P : Result A FaultKind → Type 0)
-    (Q : Result B FaultKind → Type 0) → ((kind : FaultKind) → P (Err kind) → Q (Err kind))
-    → IfSome (option_map (λ kind. Err kind) k) P → IfSome (option_map (λ kind. Err kind) k) Q
-some_err None P Q h p = tt
-some_err (Some kind) P Q h p = h kind p
 
 module _ {R : Type 0} {known : R → Option (List ℕ)} {X A : Type 0} {view : X → A}
     {front : List ℕ → Taken A} {old mid new : Input R} where
@@ -76,11 +60,9 @@ pub gives_passed : {R : Type 0} {known : R → Option (List ℕ)} {X Y A : Type 
     {shown : Y → A} {front : List ℕ → Taken A} {old new : Input R} {r : Result X TokenFault}
     {f : TokenFault} → GivesBy known shown front old (Err f) new → IsErrAnd r (λ e. e ≡ f)
     → GivesBy known view front old r new
-gives_passed {r = Ok x} a h = absurd h
-gives_passed {r = Err e} a h = rw h (record { rises = a.rises; gives = a.gives })
+gives_passed a h = grind (arith, common_steps)
 
 -- what is true of a fault that is passed on is true of the result
 pub passed_on : {X : Type 0} (P : TokenFault → Type 0) (r : Result X TokenFault) (f : TokenFault)
     → IsErrAnd r (λ e. e ≡ f) → P f → IfErr r P
-passed_on P (Ok x) f h k = tt
-passed_on P (Err e) f h k = rw h k
+passed_on P r f h k = search rules

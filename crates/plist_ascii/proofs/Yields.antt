@@ -1,5 +1,5 @@
 -- What one call of `next` yields and takes.
-use Rattle.std.proofs.Common.{◌≡◌, ◌<◌, ◌≤◌, ℕ, Bool, true, false, List, [], ◌∷◌, Option, None, Some, Result, Ok, Err, refl, sym, ap, subst, ◌∙◌, arith}
+use Rattle.std.proofs.Common.{rules, ◌≡◌, ◌<◌, ◌≤◌, ℕ, Bool, true, false, List, [], ◌∷◌, Option, None, Some, Result, Ok, Err, refl, sym, ap, subst, ◌∙◌, arith}
 use Rattle.std.specs.Prelude.{⊤}
 use Rattle.std.specs.Option.{option_map}
 use Rattle.plist_base.specs.declared.error.Error.{Error}
@@ -49,8 +49,7 @@ by_fault f p x is a b c = rw is (c _ refl is tt)
 counts_same : {R : Type 0} (failed : R → Option ℕ) (old new : Input R) (f : TokenFault)
     {kind : FaultKind} → kind_in_bytes f ≡ Some kind
     → CountsFailed {A = Option Event} failed old (Err f) new → failed new.inner ≡ failed old.inner
-counts_same failed old new broken.Io is counts = cc
-counts_same failed old new f is counts = counts
+counts_same failed old new f is counts = search rules
 
 pub not_ended : {ended : Bool} {A : Type 0} → ended ≡ false → ended ≡ true → A
 not_ended f t = absurd (cc)
