@@ -37,23 +37,14 @@ module _ {R : Type 0} {known : R → Option (List ℕ)} {X A : Type 0} {view : X
     pub gives_next : (c : ℕ) → TakesNext known old (Some c) mid → TakesOneMore old mid
         → ((rest : List ℕ) → front (c ∷ rest) ≡ past_one (back rest))
         → GivesBy known view front old answer new
-    gives_next c next one h = gives_after (omega (arith, one.0)) (λ xs e.
-        let k = next xs e in (
-          1,
-          rw k.1 k.2,
-          one.0,
-          rw k.1 (h k.0 ∙ ap past_one (past_none _) ∙ past_more 0 _),
-        ))
+    gives_next c next one h = grind (arith, common_steps)
 
     -- the next byte was looked at and not taken
     pub gives_looked : {window : R → List ℕ} {failed : R → Option ℕ} {c : ℕ}
         → LooksAhead known window failed old (Ok (Some c)) mid
         → ((rest : List ℕ) → front (c ∷ rest) ≡ back (c ∷ rest))
         → GivesBy known view front old answer new
-    gives_looked l h =
-        let place = l.place in
-        gives_after (omega arith) (λ xs e.
-        let k = l.next xs e in (0, k.3, omega arith, rw k.1 (h k.0 ∙ past_none _)))
+    gives_looked l h = grind (arith, common_steps)
 
 -- the fault of a part is passed on as the fault of the whole
 pub gives_passed : {R : Type 0} {known : R → Option (List ℕ)} {X Y A : Type 0} {view : X → A}
