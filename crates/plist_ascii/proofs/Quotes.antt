@@ -104,7 +104,8 @@ module _ {R : Type 0} {known : R → Option (List ℕ)} (quote : ℕ) (text : Li
 
     -- a backslash and an escape were taken, and then the rest of the string
     pub escape_quoted : {c : ℕ} {piece : Escaped} {left : Input R}
-        → TakesNext known old (Some c) left → TakesOneMore old left → c ≢ quote → GivesBy known escaped_bytes escape left (Ok piece) mid
+        → TakesNext known old (Some c) left → TakesOneMore old left → c ≢ quote
+        → GivesBy known escaped_bytes escape left (Ok piece) mid
         → longer ≡ text ++ escaped_bytes piece
         → GivesBy known view (rest_of quote longer) mid answer new
         → GivesBy known view (rest_from_stop quote text) old answer new
