@@ -3,17 +3,16 @@ use Rattle.std.proofs.Common.{◌≡◌, inl, inr, false, true≢false, List, []
 use Rattle.plist_base.specs.declared.error.Error.{Error}
 use Rattle.plist_base.specs.Events.{PlainEvent, Item}
 use Rattle.plist_base.specs.Faults as faults
-use Rattle.plist_base.specs.Faults.{FaultKind, Fault, UnexpectedEndOfEventStream}
+use Rattle.plist_base.specs.Faults.{FaultKind, Fault, UnexpectedEndOfEventStream, fault_of}
 use Rattle.plist_base.specs.Trees.{Tree}
 use Rattle.plist_base.specs.Bracketing.{without_length, AreAlike}
 use Rattle.std.proofs.lemmas.List.{map-append}
 use Rattle.plist_base.proofs.Lengths.{alike_with}
 use Rattle.plist.specs.LastWins.{with_pair, last_wins}
-use Rattle.plist.specs.Building.{Unfinished, NotBegun, Within, Complete, Built, IsNested, nothing_built, complete_tree, events_so_far, last_wins_so_far, refusal_at, IsUnfinishedFor, IsUnfinished}
+use Rattle.plist.specs.Building.{Unfinished, NotBegun, Complete, Built, IsNested, nothing_built, complete_tree, events_so_far, last_wins_so_far, refusal_at, IsUnfinishedFor, IsUnfinished}
 use Rattle.plist.specs.inner.BuilderSteps.{and_pair, and_event}
 use Rattle.plist.proofs.Following.{complete, refusal-last, extended}
 use Rattle.std.proofs.lemmas.Option.{none-some, same_Some}
-use Rattle.plist_base.specs.Faults.{fault_of}
 use Rattle.plist.specs.declared.value.Value.{Value}
 use Rattle.plist.specs.ValueTrees.{tree_of}
 use Rattle.plist.specs.Collecting.{IsBuiltFrom, TakesOne, RefusesOne, built_tree}
@@ -98,9 +97,8 @@ refused-last stops ends items (Ok e) built fault stop (
 
 pub complete_last : (u : Unfinished) (t : Tree) → complete_tree (last_wins_so_far u) ≡ Some t
     → (w : Tree) × (u ≡ Complete w) × (t ≡ last_wins w)
-complete_last NotBegun t p = absurd (none-some t p)
-complete_last (Within c outer) t p = absurd (none-some t p)
 complete_last (Complete w) t p = (w, refl, sym (same_Some _ t p))
+complete_last u t p = absurd (none-some t p)
 
 ended : (stops ends : Type 0) (items : List Item) (built : Built) (fault : Fault) (kind : FaultKind)
     → fault.kind ≡ kind → ends → TookAll items built → fault.offset ≡ None

@@ -1,7 +1,7 @@
 -- Laws of a builder's contents.
 use Rattle.std.proofs.Common.{◌≡◌, ℕ, List, [], ◌∷◌, ◌++◌, Some, option_map, map, refl, ap, ◌∙◌}
 use Rattle.indexmap.proofs.MapLemmas.{insert_all_push}
-use Rattle.plist_base.specs.Events.{PlainEvent, StartArray, StartDictionary, EndCollection, ScalarEvent}
+use Rattle.plist_base.specs.Events.{PlainEvent, EndCollection, ScalarEvent}
 use Rattle.plist_base.specs.Trees.{String, Tree, Array, Dictionary, trees_of, members_of}
 use Rattle.std.proofs.lemmas.List.{map_push}
 use Rattle.plist.specs.LastWins.{TreePairs, with_pair, last_values, last_wins, last_wins_in_items, last_wins_in_pairs}
@@ -28,20 +28,17 @@ pairs-last (p ∷ ps) = ap (λ l. (p.0, last_wins p.1) ∷ l) (pairs-last ps)
 tree-last : (t : Tree) (outer : List OpenCollection)
     → last_wins_so_far (and_tree and_pair t outer)
     ≡ and_tree with_pair (last_wins t) (map last_wins_within outer)
-tree-last t [] = refl
 tree-last t (InArray ts ∷ outer) =
     ap (λ l. Within (InArray l) (map last_wins_within outer)) (map_push _ ts t)
-tree-last t (InDictionary ps ∷ outer) = refl
 tree-last t (AfterKey ps k ∷ outer) =
     ap (λ l. Within (InDictionary l) (map last_wins_within outer)) (rows-snoc ps k t)
+tree-last t outer = refl
 
 value-last : (outer : List OpenCollection) (e : PlainEvent)
     → option_map last_wins_so_far (at_value and_pair outer e)
     ≡ at_value with_pair (map last_wins_within outer) e
-value-last outer (StartArray n) = refl
-value-last outer (StartDictionary n) = refl
-value-last outer EndCollection = refl
 value-last outer (ScalarEvent x) = ap Some (tree-last _ _)
+value-last outer e = refl
 
 array-last : (ts : List Tree) (outer : List OpenCollection) (e : PlainEvent)
     → option_map last_wins_so_far (in_array and_pair ts outer e)

@@ -55,3 +55,5 @@ less-by-joining joined left below ys v w is (inr (some, same, fewer)) =
     let q : weights joined * weights joined ≡ weights ys * weights ys =
     ap (λ n. n * n) (omega (arith, t, w, same, weights-more v [])) in
     omega (arith, q, o, w, fewer)
+
+pub ruleset drops = (less-by-one, less-by-joining)

@@ -104,7 +104,6 @@ at-once later equal answer most e = (
 
 step-some : (layer : Value-F ℕ ℕ) → 1 ≤ weight_step layer
 step-some (Value-F.Array items) = omega arith
-step-some (Value-F.Dictionary pairs) = omega arith
 step-some scalar = omega arith
 
 pub weight-some : (value : Value) → 1 ≤ weight value

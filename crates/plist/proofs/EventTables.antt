@@ -7,8 +7,7 @@ use Rattle.plist_base.specs.Events.{PlainEvent, event_of}
 use Rattle.plist_base.specs.Faults.{FaultKind, Fault, Io, OutOfMemory, PlistTooLarge, fault_without_offset, fault_of}
 use Rattle.plist_base.specs.Trees.{Tree}
 use Rattle.plist_base.specs.Writing.{Answer, answer_of}
-use Rattle.plist_base.proofs.Lengths.{alike_without_length}
-use Rattle.plist_base.proofs.Lengths.{lengthless-is}
+use Rattle.plist_base.proofs.Lengths.{alike_without_length, lengthless-is}
 use Rattle.plist.specs.declared.stream.events.Events.{Events}
 use Rattle.plist.specs.Events.{GivesEvent, remaining_events}
 use Rattle.plist.proofs.GivenEvents.{event_comes}
@@ -80,3 +79,7 @@ pub stored : {W : Type 0} (contents : W → Option (List ℕ)) (tree : Tree)
 stored contents tree (Ok done) old new sent is = sent
 stored contents tree (Err error) old new sent is =
     stops_after contents _ (fault_of error) old new sent is
+
+pub ruleset gathering = (gathered_more, gathered_all, lengthless-is)
+
+pub ruleset sending = (gathered_alike, whole_tree, sends_tree, wants_memory)

@@ -176,10 +176,8 @@ starts : (outer : List OpenCollection) (es : List PlainEvent) → AllTakeValue o
     ∷ map expect_around outer) es)
     × (steps (stack_around outer) (StartDictionary None ∷ es) ≡ steps (Pairs
     ∷ map expect_around outer) es)
-starts [] es ok = (refl, refl)
-starts (InArray ts ∷ outer) es ok = (refl, refl)
 starts (InDictionary ps ∷ outer) es ok = absurd ok.0
-starts (AfterKey ps k ∷ outer) es ok = (refl, refl)
+starts outer es ok = (refl, refl)
 
 -- after the start of a dictionary and its pairs, more pairs are expected
 pairs-within : (ps : TreePairs) (outer : List OpenCollection) (es : List PlainEvent)
@@ -275,17 +273,13 @@ continues-accepted u e ok c = by _ refl
 -- taking last values doesn't change what can come next
 pub refusal-last : (u : Unfinished) (e : PlainEvent)
     → refusal_at (last_wins_so_far u) e ≡ refusal_at u e
-refusal-last NotBegun e = refl
 refusal-last (Within (InArray ts) outer) e = refl
-refusal-last (Within (InDictionary ps) outer) e = refl
-refusal-last (Within (AfterKey ps k) outer) e = refl
-refusal-last (Complete t) e = refl
+refusal-last u e = refl
 
 -- a collection that takes a value still takes one after `last_wins_within`
 takes-last : (c : OpenCollection) → TakesValue c → TakesValue (last_wins_within c)
 takes-last (InArray ts) ok = ok
-takes-last (InDictionary ps) ok = ok
-takes-last (AfterKey ps k) ok = ok
+takes-last c ok = ok
 
 -- collections that take values still take them after `last_wins_within`
 all-take-last : (outer : List OpenCollection) → AllTakeValue outer
@@ -295,9 +289,8 @@ all-take-last (c ∷ outer) ok = (takes-last c ok.0, all-take-last outer ok.1)
 
 -- nested collections are still nested after `last_wins_so_far`
 nested-last : (u : Unfinished) → IsNested u → IsNested (last_wins_so_far u)
-nested-last NotBegun ok = tt
 nested-last (Within c outer) ok = all-take-last _ ok
-nested-last (Complete t) ok = tt
+nested-last u ok = tt
 
 -- taking last values of events doesn't change what can follow them
 pub last-continues : (taken_before : Unfinished) (events : List PlainEvent) → IsNested taken_before
@@ -321,13 +314,12 @@ complete u t ok p = by u p (sym (expected u ok) ∙ all_taken (events_so_far u) 
   where
     by : (u : Unfinished) → AreAlike (events_so_far u) (bracketing t) → Some (stack_of u) ≡ Some []
         → u ≡ Complete t
-    by NotBegun p q = absurd (cc)
-    by (Within (InArray ts) outer) p q = absurd (cc)
-    by (Within (InDictionary ps) outer) p q = absurd (cc)
-    by (Within (AfterKey ps k) outer) p q = absurd (cc)
     by (Complete v) p q = ap Complete (one_tree v t p)
+    by u p q = absurd (cc)
 
 -- if no tree is complete, the events so far are no tree's
 pub without-tree : (u : Unfinished) → IsNested u → None ≡ complete_tree u → (t : Tree)
     → AreAlike (events_so_far u) (bracketing t) → ⊥
 without-tree u ok p t a = absurd (none-some t (p ∙ ap complete_tree (complete u t ok a)))
+
+pub ruleset finishing = (without-tree, complete)

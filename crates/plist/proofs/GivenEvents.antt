@@ -5,36 +5,20 @@ use Rattle.plist_base.specs.declared.event.Event.{Event}
 use Rattle.plist_base.specs.Events.{Item, PlainEvent, event_of}
 use Rattle.plist_base.specs.Faults.{Fault, MatchFault, OutOfMemory, fault_of, fault_without_offset}
 use Rattle.plist_base.specs.FirstItems.{StopsIf}
-use Rattle.plist_base.proofs.Refusals.{MatchFault-at}
 use Rattle.plist.specs.declared.stream.events.Events.{Events}
 use Rattle.plist.specs.Events.{BeginsWithStart, GivesEventOf, IsBorrowed, remaining_events}
 
 -- events are equal if their items are
 same_events : (xs ys : List PlainEvent) → ◌≡◌ {A = List Item} (map Ok xs) (map Ok ys) → xs ≡ ys
 same_events [] [] e = refl
-same_events [] (y ∷ ys) e = absurd (cc e)
-same_events (x ∷ xs) [] e = absurd (cc e)
 same_events (x ∷ xs) (y ∷ ys) e = let rest = same_events xs ys (cc e) in cc (e, rest)
+same_events xs ys e = absurd (cc e)
 
 module _ {events : List PlainEvent} {after : Events} where
   pub gives_event : (event : Event) → events ≡ event_of event ∷ remaining_events after
       → IsBorrowed event → GivesEventOf events (Some (Ok event)) after
   gives_event event is borrowed =
       record { items = ap (map Ok) is; borrowed = borrowed; memory = tt }
-
-  pub gives_memory : (error : Error) → fault_of error ≡ fault_without_offset OutOfMemory
-      → BeginsWithStart events → remaining_events after ≡ []
-      → GivesEventOf events (Some (Err error)) after
-  gives_memory error is start none = record {
-    items = MatchFault-at _ OutOfMemory _ _ _ (ap (λ (f : Fault). f.kind) is)
-        (start, ap (map Ok) none);
-    borrowed = tt;
-    memory = is;
-  }
-
-  pub gives_none : events ≡ [] → remaining_events after ≡ [] → GivesEventOf events None after
-  gives_none none over =
-      record { items = (ap (map Ok) none, ap (map Ok) over); borrowed = tt; memory = tt }
 
   pub event_comes : {event : Event} → GivesEventOf events (Some (Ok event)) after
       → events ≡ event_of event ∷ remaining_events after

@@ -72,7 +72,6 @@ module _ (limits : Limits) where
       → Pass came level (map without_length es) ↔ Pass came level es
   both-pass came level [] = (λ h. h, λ h. h)
   both-pass came level (event.StartArray length ∷ es) = next (both-pass (came + 1) _ es)
-  both-pass came level (event.StartDictionary length ∷ es) = next (both-pass _ _ es)
   both-pass came level (e ∷ es) = next (both-pass _ _ es)
 
   abbrev PassFirst : List PlainEvent → Type 0
@@ -191,7 +190,6 @@ light left (e ∷ es) h =
 no-length : (es : List PlainEvent) → total_bytes (map without_length es) ≡ total_bytes es
 no-length [] = refl
 no-length (event.StartArray length ∷ es) = ap (λ n. 0 + n) (no-length es)
-no-length (event.StartDictionary length ∷ es) = ap (λ n. 0 + n) (no-length es)
 no-length (e ∷ es) = ap (λ n. bytes_in e + n) (no-length es)
 
 alike-light : (left right : List PlainEvent) (most : ℕ) → AreAlike left right
@@ -271,11 +269,10 @@ before-fault : {I : Type 0} (gives : I → Given → I → Type 0) (old rest : I
     (taken : List (Result Event Error)) → Yields gives old taken rest
     → (first : List (Result Event Error)) × (left : I) × Yields gives old first left
     × (map (item_by event_of) first ≡ map Ok (events_taken (map (item_by event_of) taken)))
-before-fault gives old rest [] yields = ([], old, refl, refl)
-before-fault gives old rest (Err error ∷ taken) yields = ([], old, refl, refl)
 before-fault gives old rest (Ok event ∷ taken) (mid, step, more) =
     let h = before-fault gives mid rest taken more in
     (Ok event ∷ h.0, h.1, (mid, step, h.2), ap (λ l. Ok (event_of event) ∷ l) h.3)
+before-fault gives old rest taken yields = ([], old, refl, refl)
 
 -- no more events are taken than the limits allow
 pub taken-within : {I : Type 0} (inner_gives : I → Given → I → Type 0) (limits : Limits)

@@ -24,3 +24,5 @@ item_pushed [] items new item p ok = refl
 item_pushed (start ∷ starts) items new item p ok =
     let le : start ≤ length items = ok.0 in
     rw p (rw (take-append-le, drop-append-le) refl)
+
+pub ruleset open_items = (item_pushed, starts_pushed)

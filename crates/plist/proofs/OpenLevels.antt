@@ -53,3 +53,5 @@ still_open (level.Array ∷ levels) (items ∷ arrays) old new ok e changes = cc
 still_open (level.Dictionary ∷ levels) arrays [] new ok e changes = absurd ok
 still_open (level.Dictionary ∷ levels) arrays (dictionary ∷ old) new ok e changes =
     subst (HaveContents (level.Dictionary ∷ levels) arrays) (sym changes.1) ok
+
+pub ruleset open_levels = (some_open, key_added, still_open)

@@ -179,12 +179,11 @@ module _ {E I : Type 0} (plain : E → PlainEvent)
       (all : List Item) → coming iter ≡ Some all → Yields gives iter taken t → gives t None u
       → map (item_by plain) taken ≡ map Ok events → all ≡ map Ok events
   drained [] [] iter t u all c y end e = ended t u all (ap coming (sym y) ∙ c) end
-  drained [] (x ∷ taken) iter t u all c y end e = cc e
-  drained (d ∷ events) [] iter t u all c y end e = cc e
   drained (d ∷ events) (x ∷ taken) iter t u all c (mid, s, y) end e =
       let g = asked iter x mid all c s in
       first x d taken (map Ok events) all g.0 e g.2
       ∙ ap (λ l. Ok d ∷ l) (drained events taken mid t u g.0 g.1 y end (cc e))
+  drained events taken iter t u all c y end e = cc e
 
   -- these events were yielded, and then an item
   following : (events : List PlainEvent) (taken : List (Result E Error)) (iter t : I) (item : Item)
@@ -192,11 +191,9 @@ module _ {E I : Type 0} (plain : E → PlainEvent)
       → map (item_by plain) taken ≡ map Ok events ++ item ∷ []
       → (x : Result E Error) × (item_by plain x ≡ item) × (left after : List Item)
       × (all ≡ map Ok events ++ left) × First plain left x after
-  following [] [] iter t item all c y e = absurd (cc e)
   following [] (x ∷ taken) iter t item all c (mid, s, y) e =
       let g = asked iter x mid all c s in
       (x, cc e, all, g.0, refl, g.2)
-  following (d ∷ events) [] iter t item all c y e = absurd (cc e)
   following (d ∷ events) (x ∷ taken) iter t item all c (mid, s, y) e =
       let g = asked iter x mid all c s in
       let (last, same, left, after, split, gives) = following events taken mid t item g.0 g.1 y (cc e) in (
@@ -207,6 +204,7 @@ module _ {E I : Type 0} (plain : E → PlainEvent)
         first x d taken (map Ok events ++ item ∷ []) all g.0 e g.2 ∙ ap (λ l. Ok d ∷ l) split,
         gives,
       )
+  following events taken iter t item all c y e = absurd (cc e)
 
   read : (iter : I) (all : List Item) → coming iter ≡ Some all → (answer : Result Tree Fault)
       → Collects plain gives iter answer → IsValueOf all answer

@@ -6,6 +6,7 @@ use Rattle.plist_base.specs.declared.error.Error.{Error}
 use Rattle.plist_base.specs.declared.event.Event.{Event}
 use Rattle.plist_base.specs.declared.byte_budget.ByteBudget.{ByteBudget}
 use Rattle.plist_base.specs.declared.limited_items.LimitedItems.{LimitedItems}
+use Rattle.plist_base.specs.declared.limits.Limit.{Limit}
 use Rattle.plist_base.specs.declared.limits.LimitCounter.{LimitCounter}
 use Rattle.plist_base.specs.declared.source.Source.{Ghosts}
 use Rattle.plist_buffer.specs.declared.expects.Transition.{Transition}
@@ -59,6 +60,19 @@ of-refusal : (P : Fault → Type 0) (covers : Covers P) (refusal : Option FaultK
 of-refusal P covers None fault events is = subst P (sym is) covers.memory
 of-refusal P covers (Some kind) fault events is = subst P (sym is) (covers.events kind events)
 
+-- each error that the iterator yields has such a fault
+abbrev YieldsOnly : {E I : Type 0} → (I → Option (Result E Error) → I → Type 0) → (Fault → Type 0)
+    → Type 0
+YieldsOnly {E} {I} gives P =
+    (old : I) (error : Error) (new : I) → gives old (Some (Err error)) new → P (fault_of error)
+
+-- if no value can be built from an iterator's items, the reason is such a fault
+abbrev FailsOnly : {E I : Type 0} → (E → PlainEvent) → (I → Option (Result E Error) → I → Type 0)
+    → (Fault → Type 0) → Type 0
+FailsOnly {E} {I} plain gives P =
+    (iter : I) (answer : Result Value Error) → Collects plain gives iter (built_tree answer)
+    → IfErr answer (λ error. P (fault_of error))
+
 -- ---- an item that is an error
 
 module _ {E I : Type 0} (plain : E → PlainEvent)
@@ -72,15 +86,13 @@ module _ {E I : Type 0} (plain : E → PlainEvent)
       (iter left : I) → Holds iter → Yields gives iter taken left
       → map (item_by plain) taken ≡ map Ok events ++ Err fault ∷ [] → P fault
   last-error [] [] fault iter left holds yields is = absurd (cc is)
-  last-error [] (event ∷ events) fault iter left holds yields is = absurd (cc is)
-  last-error (Ok event ∷ taken) [] fault iter left holds yields is = absurd (cc is)
   last-error (Err error ∷ taken) [] fault iter left holds (mid, step, more) is =
       let same : fault_of error ≡ fault = cc is in
       subst P same (tells iter error mid step holds)
-  last-error (Err error ∷ taken) (event ∷ events) fault iter left holds yields is = absurd (cc is)
   last-error (Ok event ∷ taken) (first ∷ events) fault iter left holds (mid, step, more) is =
       last-error taken events fault mid left (keeps iter (Some (Ok event)) mid step holds) more
       (cc is)
+  last-error taken events fault iter left holds yields is = absurd (cc is)
 
   fault-tells : (iter : I) (answer : Result Tree Fault) → Holds iter
       → Collects plain gives iter answer → IfErr answer P
@@ -102,16 +114,12 @@ module _ {E I : Type 0} (plain : E → PlainEvent)
   error-tells iter (Err error) holds collects = fault-tells iter (Err (fault_of error)) holds collects
 
 -- an iterator that yields only such faults, whatever it has yielded
-module _ {E I : Type 0} (plain : E → PlainEvent)
-    (gives : I → Option (Result E Error) → I → Type 0) (P : Fault → Type 0) (covers : Covers P)
-    (tells : (old : I) (error : Error) (new : I) → gives old (Some (Err error)) new
-    → P (fault_of error)) where
-  always-tells : (iter : I) (answer : Result Value Error)
-      → Collects plain gives iter (built_tree answer)
-      → IfErr answer (λ error. P (fault_of error))
-  always-tells iter answer collects =
-      error-tells plain gives P covers (λ _. ⊤) (λ old item new gives all. tt)
-      (λ old error new gives all. tells old error new gives) iter answer tt collects
+always-tells : {E I : Type 0} (plain : E → PlainEvent)
+    (gives : I → Option (Result E Error) → I → Type 0) (P : Fault → Type 0) → Covers P
+    → YieldsOnly gives P → FailsOnly plain gives P
+always-tells plain gives P covers tells iter answer collects =
+    error-tells plain gives P covers (λ _. ⊤) (λ old item new gives all. tt)
+    (λ old error new gives all. tells old error new gives) iter answer tt collects
 
 abbrev refused : Error → Option (Result Event Error)
 refused error = Some (Err error)
@@ -119,11 +127,8 @@ refused error = Some (Err error)
 -- a fault that is yielded under an allowance is one of its own, or one of the inner iterator
 module _ {I A : Type 0} (lets : A → List Item → List Item) (may_reach : Fault → Type 0)
     (inner_gives : I → Option (Result Event Error) → I → Type 0) (P : Fault → Type 0)
-    (reaches : (fault : Fault) → may_reach fault → P fault)
-    (inner : (old : I) (error : Error) (new : I) → inner_gives old (Some (Err error)) new
-    → P (fault_of error)) where
-  passed : (old : LimitedItems I A) (error : Error) (new : LimitedItems I A)
-      → GivesAllowed lets may_reach inner_gives old (Some (Err error)) new → P (fault_of error)
+    (reaches : (fault : Fault) → may_reach fault → P fault) (inner : YieldsOnly inner_gives P) where
+  passed : YieldsOnly {I = LimitedItems I A} (GivesAllowed lets may_reach inner_gives) P
   passed old error new gives = by old.ended gives
     where
       following : (asked : Option (Result Event Error)) → inner_gives old.inner asked new.inner
@@ -162,6 +167,35 @@ loosened false fault (inr is) = inr (by fault.kind fault.offset is)
     by (LimitReached limit) offset is = (refl, is.1)
     by kind offset is = is
 
+-- a reader that yields only such faults, and what covers those of limits
+pub record Reads {R : Type 0} (g : Ghosts R) (known : R → Option (List ℕ)) (failed : R → ℕ)
+    (P : Fault → Type 0) : Type 0 where
+  pub covers : Covers P
+  pub limits : (limit : Limit) → P (fault_without_offset (LimitReached limit))
+  pub yields : YieldsOnly {I = Reader R g} (Gives known failed) P
+
+module _ {R : Type 0} {g : Ghosts R} {known : R → Option (List ℕ)} {failed : R → ℕ}
+    {P : Fault → Type 0} (reads : Reads g known failed P) where
+  limit-tells : YieldsOnly {I = LimitedItems (Reader R g) LimitCounter}
+      (GivesLimited (Gives known failed)) P
+  limit-tells =
+      passed limited_by IsLimitReached (Gives known failed) P
+      (λ fault reached. subst P (sym reached.1) (reads.limits reached.0)) reads.yields
+
+  -- a reader under limits fails only with such a fault, or with that of a limit
+  pub limited-tells : FailsOnly {I = LimitedItems (Reader R g) LimitCounter} event_of
+      (GivesLimited (Gives known failed)) P
+  limited-tells = always-tells event_of (GivesLimited (Gives known failed)) P reads.covers limit-tells
+
+  -- a reader under limits and within a budget of bytes fails only with such a fault, too
+  pub budgeted-tells
+      : FailsOnly {I = LimitedItems (LimitedItems (Reader R g) LimitCounter) ByteBudget} event_of
+      (GivesWithinBudget (GivesLimited (Gives known failed))) P
+  budgeted-tells =
+      always-tells event_of (GivesWithinBudget (GivesLimited (Gives known failed))) P reads.covers
+      (passed within_budget IsBudgetUsedUp (GivesLimited (Gives known failed)) P
+      (λ fault used. subst P (sym used) reads.covers.memory) limit-tells)
+
 module _ {R : Type 0} {g : Ghosts R} (known : R → Option (List ℕ)) (failed : R → ℕ) where
   -- a reader without limits fails only with a fault that `IsReadingFault` allows
   pub reader-tells : (reader : Reader R g) (answer : Result Value Error)
@@ -176,41 +210,13 @@ module _ {R : Type 0} {g : Ghosts R} (known : R → Option (List ℕ)) (failed :
       inl (subst (λ b. IsReaderFault b (fault_of error)) none gives.inner.faults))
       reader answer none collects
 
-  limit-tells : (old : LimitedItems (Reader R g) LimitCounter) (error : Error)
-      (new : LimitedItems (Reader R g) LimitCounter)
-      → GivesLimited (Gives known failed) old (Some (Err error)) new
-      → IsReadingFault true (fault_of error)
-  limit-tells =
-      passed limited_by IsLimitReached (Gives known failed) (IsReadingFault true)
-      (λ fault reached. subst (IsReadingFault true) (sym reached.1) (inl (inr (refl, refl))))
-      (λ old error new gave.
-      inl (loosened (is_limited_in old.state) (fault_of error) gave.inner.faults))
-
-  budget-tells : (old : LimitedItems (LimitedItems (Reader R g) LimitCounter) ByteBudget) (error : Error)
-      (new : LimitedItems (LimitedItems (Reader R g) LimitCounter) ByteBudget)
-      → GivesWithinBudget (GivesLimited (Gives known failed)) old (Some (Err error)) new
-      → IsReadingFault true (fault_of error)
-  budget-tells =
-      passed within_budget IsBudgetUsedUp (GivesLimited (Gives known failed)) (IsReadingFault true)
-      (λ fault reached. subst (IsReadingFault true) (sym reached) (inl (inr refl))) limit-tells
-
-  -- a reader under limits fails only with such a fault, or with that of a limit
-  pub limited-tells : (limited : LimitedItems (Reader R g) LimitCounter) (answer : Result Value Error)
-      → Collects event_of (GivesLimited (Gives known failed)) limited (built_tree answer)
-      → IfErr answer (λ error. IsReadingFault true (fault_of error))
-  limited-tells =
-      always-tells event_of (GivesLimited (Gives known failed)) (IsReadingFault true) (covered true)
-      limit-tells
-
-  -- a reader under limits and within a budget of bytes fails only with such a fault, too
-  pub budgeted-tells : (budgeted : LimitedItems (LimitedItems (Reader R g) LimitCounter) ByteBudget)
-      (answer : Result Value Error)
-      → Collects event_of (GivesWithinBudget (GivesLimited (Gives known failed))) budgeted
-      (built_tree answer)
-      → IfErr answer (λ error. IsReadingFault true (fault_of error))
-  budgeted-tells =
-      always-tells event_of (GivesWithinBudget (GivesLimited (Gives known failed)))
-      (IsReadingFault true) (covered true) budget-tells
+  pub reading : Reads g known failed (IsReadingFault true)
+  reading = record {
+    covers = covered true;
+    limits = λ limit. inl (inr (refl, refl));
+    yields = λ old error new gave.
+        inl (loosened (is_limited_in old.state) (fault_of error) gave.inner.faults);
+  }
 
 -- ---- a source of which no read fails
 
@@ -222,7 +228,6 @@ not-io = record { events = by; memory = tt }
   where
     by : (kind : FaultKind) → IsFaultOfEvents kind → IsNotIo kind
     by Io is = absurd is
-    by OutOfMemory is = tt
     by kind is = tt
 
 never-rises : (old new : ℕ) → old ≡ 0 → new ≡ 0 → Rises old new → ⊥
@@ -248,46 +253,20 @@ module _ {R : Type 0} {g : Ghosts R} (known : R → Option (List ℕ)) (failed :
   -- a state that yields an error has a source
   has-source : (old : State R g) (error : Error) (new : State R g)
       → StateGives known failed old (Some (Err error)) new → source_in old ≡ None → ⊥
-  has-source (state.Unread source limits dialect) error new step e = cc e
-  has-source (state.Binary reader) error new step e = cc e
-  has-source (state.Ascii reader) error new step e = cc e
-  has-source (state.Limited reader) error new step e = cc e
-  has-source (state.Refused source) error new step e = cc e
   has-source state.Moved error new step e = cc (step.inner.inside.0)
+  has-source old error new step e = cc e
 
-  never-gives : (old : Reader R g) (error : Error) (new : Reader R g)
-      → Gives known failed old (Some (Err error)) new → NotIo (fault_of error)
-  never-gives old error new step =
-      never-in failed never (source_in old.state) (source_in new.state) error
-      (has-source old.state error new.state step) step.failures
+  pub never-reading : Reads g known failed NotIo
+  never-reading = record {
+    covers = not-io;
+    limits = λ limit. tt;
+    yields = λ old error new step.
+        never-in failed never (source_in old.state) (source_in new.state) error
+        (has-source old.state error new.state step) step.failures;
+  }
 
-  pub reader-never : (reader : Reader R g) (answer : Result Value Error)
-      → Collects event_of (Gives known failed) reader (built_tree answer)
-      → IfErr answer (λ error. NotIo (fault_of error))
-  reader-never = always-tells event_of (Gives known failed) NotIo not-io never-gives
-
-  limit-never : (old : LimitedItems (Reader R g) LimitCounter) (error : Error)
-      (new : LimitedItems (Reader R g) LimitCounter)
-      → GivesLimited (Gives known failed) old (Some (Err error)) new → NotIo (fault_of error)
-  limit-never =
-      passed limited_by IsLimitReached (Gives known failed) NotIo
-      (λ fault reached. subst NotIo (sym reached.1) tt) never-gives
-
-  pub limited-never : (limited : LimitedItems (Reader R g) LimitCounter) (answer : Result Value Error)
-      → Collects event_of (GivesLimited (Gives known failed)) limited (built_tree answer)
-      → IfErr answer (λ error. NotIo (fault_of error))
-  limited-never =
-      always-tells event_of (GivesLimited (Gives known failed)) NotIo not-io limit-never
-
-  pub budgeted-never : (budgeted : LimitedItems (LimitedItems (Reader R g) LimitCounter) ByteBudget)
-      (answer : Result Value Error)
-      → Collects event_of (GivesWithinBudget (GivesLimited (Gives known failed))) budgeted
-      (built_tree answer)
-      → IfErr answer (λ error. NotIo (fault_of error))
-  budgeted-never =
-      always-tells event_of (GivesWithinBudget (GivesLimited (Gives known failed))) NotIo not-io
-      (passed within_budget IsBudgetUsedUp (GivesLimited (Gives known failed)) NotIo
-      (λ fault reached. subst NotIo (sym reached) tt) limit-never)
+  pub reader-never : FailsOnly {I = Reader R g} event_of (Gives known failed) NotIo
+  reader-never = always-tells event_of (Gives known failed) NotIo not-io never-reading.yields
 
 -- ---- the reader of ASCII
 
@@ -316,18 +295,16 @@ never-rises-if (Some old) (Some new) none still rose =
 
 module _ {R : Type 0} (known : R → Option (List ℕ)) (failed : R → Option ℕ) where
   -- a reader of ASCII fails only with a fault that `IsAsciiReadingFault` allows
-  pub ascii-tells : (reader : AsciiReader R) (answer : Result Value Error)
-      → Collects event_of (GivesAscii known failed) reader (built_tree answer)
-      → IfErr answer (λ error. IsAsciiReadingFault (fault_of error))
+  pub ascii-tells : FailsOnly {I = AsciiReader R} event_of (GivesAscii known failed)
+      IsAsciiReadingFault
   ascii-tells =
       always-tells event_of (GivesAscii known failed) IsAsciiReadingFault covered-ascii
       (λ old error new gives.
       of-bytes (fault_of error).kind (fault_of error).offset (place_of new) gives.inner.kinds
       gives.inner.offset)
 
-  pub ascii-never : NeverFailsReading failed → (reader : AsciiReader R) (answer : Result Value Error)
-      → Collects event_of (GivesAscii known failed) reader (built_tree answer)
-      → IfErr answer (λ error. NotIo (fault_of error))
+  pub ascii-never : NeverFailsReading failed
+      → FailsOnly {I = AsciiReader R} event_of (GivesAscii known failed) NotIo
   ascii-never never =
       always-tells event_of (GivesAscii known failed) NotIo not-io
       (λ old error new gives. never-io _ _ _ _

@@ -1,7 +1,6 @@
 -- A builder follows the laws of writers.
 use Rattle.std.specs.Prelude.{◌≡◌, ◌++◌, ◌∷◌, [], true, false, Some, None, Ok, Err, OnOk}
-use Rattle.std.proofs.Common.{inr}
-use Rattle.std.proofs.Common.{refl, sym, ◌∙◌, subst, true≢false}
+use Rattle.std.proofs.Common.{inr, refl, sym, ◌∙◌, subst, true≢false}
 use Rattle.std.proofs.lemmas.Option.{none-some, same_Some}
 use Rattle.plist_buffer.specs.declared.expects.Transition.{Transition}
 use Rattle.plist_buffer.specs.declared.expects.Transition.TheVariants as change

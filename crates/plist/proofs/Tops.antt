@@ -12,6 +12,8 @@ use Rattle.plist.specs.Dictionaries.{pairs_of}
 use Rattle.plist.specs.LastWins.{with_pair, last_values}
 use Rattle.plist.specs.inner.CollectionSteps.{AddsKey, AddsPair, ChangesInnermost}
 use Rattle.plist.specs.ValueTrees.{tree_of, tree_pairs}
+use Rattle.plist_pairs.proofs.EntrySteps.{second_at, comes_last, none_of, set_pushed, read_pushed, keeps_index, key-there, value-there, kept-there, taken-there, none-taken}
+use Rattle.indexmap.specs.Layout.{length-set_value_at}
 use Rattle.plist_pairs.proofs.DistinctKeys.{EachOnce, last-values-once, once-earlier, values-insert}
 
 -- distinct keys stay distinct when values become trees, so the pairs are their own last values
@@ -95,3 +97,20 @@ key_set all n inner count some at key =
     let changed : OpenDictionary = record inner { key = Some key } in
     let (outer, first, last) = last_changed all n inner changed count some at in
     subst (λ l. AddsKey l key (reverse (set all (n - 1) changed))) (sym first) last
+
+pub ruleset innermost = (innermost_changed, key_set, pair_added)
+
+pub ruleset entry_steps = (
+  second_at,
+  length-set_value_at,
+  comes_last,
+  none_of,
+  set_pushed,
+  read_pushed,
+  keeps_index,
+  key-there,
+  value-there,
+  kept-there,
+  taken-there,
+  none-taken,
+)

@@ -78,9 +78,8 @@ impl Dictionary {
     pub fn clear(&mut self)
         ensures empty { pairs_of self.new ≡ [] }
     {
-        match self.pairs.as_mut() {
-            None => {}
-            Some(pairs) => pairs.clear(),
+        if let Some(pairs) = self.pairs.as_mut() {
+            pairs.clear();
         }
     }
 

@@ -97,6 +97,7 @@ struct DeferredPairs<'a> {
 
 impl<'a> DeferredPairs<'a> {
     // Removes and returns the pair that was deferred last.
+    #[tactic(auto, using(crate::proofs::Equality::taken))]
     fn pop(&mut self) -> Option<Pair<'a>>
         ensures { TakesLast self.old result self.new }
     {
@@ -119,16 +120,6 @@ impl<'a> DeferredPairs<'a> {
         true
     }
 
-    // Returns the list of the deferred pairs, and leaves none.
-    fn take(&mut self, alloc: Global) -> Vec<Pair<'a>>
-        ensures { result.items ≡ waiting self.old }
-    {
-        match self.pairs.take() {
-            Some(pairs) => pairs,
-            None => Vec::new(alloc),
-        }
-    }
-
     // Defers a pair of collections, if memory for it can be allocated, and returns whether it was
     // deferred.
     #[tactic(auto, using(crate::proofs::Equality::defer))]
@@ -138,7 +129,10 @@ impl<'a> DeferredPairs<'a> {
         let Some(alloc) = value.allocator() else {
             return false;
         };
-        let mut pairs = self.take(alloc);
+        let mut pairs = match self.pairs.take() {
+            Some(pairs) => pairs,
+            None => Vec::new(alloc),
+        };
         let done = pairs.push(Pair { value, other }).is_ok();
         self.pairs = Some(pairs);
         done

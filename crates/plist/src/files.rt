@@ -118,6 +118,7 @@ impl<'a, R: Files> LazyFile<'a, R> {
     /// let mut file = LazyFile::new(rt, path);
     /// file.store(alloc, value)
     /// ```
+    #[tactic(auto, using(crate::proofs::EventTables::stored))]
     pub fn store(&mut self, alloc: Global, value: &Value) -> Result<(), Error>
         ensures sent { SendsValue (λ output. contents_of R.File.contents output.file) value.now
             result self.old self.new }

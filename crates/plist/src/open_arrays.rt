@@ -74,6 +74,7 @@ impl OpenArrays {
 
     /// Appends an item to the innermost array. If an allocation fails, the item is dropped without
     /// recursion.
+    #[tactic(auto, using(crate::proofs::OpenItems::open_items))]
     pub(crate) fn push(&mut self, item: Value) -> Result<(), AllocError>
         ensures pushed { OnOk result (self.new ≡ with_item self.old item) }
         ensures unchanged { OnErr result (self.new ≡ self.old) }

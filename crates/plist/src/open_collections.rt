@@ -63,6 +63,7 @@ impl Model for OpenCollections {
 
 // Adds a value to the innermost dictionary, in a pair with the last key. If an allocation fails,
 // the value is dropped.
+#[tactic(auto, using(crate::proofs::Tops::innermost))]
 fn add_pair(dictionaries: &mut Vec<OpenDictionary>, value: Value) -> Result<(), AllocError>
     ensures added { OnOk result (AddsPair (reverse dictionaries.old.items) value
         (reverse dictionaries.new.items)) }
@@ -86,6 +87,7 @@ fn add_pair(dictionaries: &mut Vec<OpenDictionary>, value: Value) -> Result<(), 
 }
 
 // Adds a key, whose value is next, to the innermost dictionary.
+#[tactic(auto, using(crate::proofs::Tops::innermost))]
 fn add_key(dictionaries: &mut Vec<OpenDictionary>, key: String)
     ensures added { AddsKey (reverse dictionaries.old.items) key
         (reverse dictionaries.new.items) }
@@ -169,6 +171,7 @@ impl OpenCollections {
     }
 
     /// Adds a key to the innermost collection, which is a dictionary in which a key may be next.
+    #[tactic(auto, using(crate::proofs::OpenLevels::open_levels))]
     pub(crate) fn add_key(&mut self, key: String)
         requires { expected_in self.old ≡ Some Expect.Pairs }
         ensures { TakesKey self.old (string_bytes key) self.new }

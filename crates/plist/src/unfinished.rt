@@ -109,9 +109,8 @@ impl UnfinishedValue {
         ensures { unfinished_of self.new ≡ NotBegun }
     {
         self.collections.clear();
-        match self.root.take() {
-            None => {}
-            Some(root) => root.destroy(),
+        if let Some(root) = self.root.take() {
+            root.destroy();
         }
     }
 
@@ -129,22 +128,6 @@ impl UnfinishedValue {
             Some(expect) => refusal_of(expect, event),
             None => refusal_of(Expect::OneValue, event),
         }
-    }
-
-    // Opens an array.
-    fn begin_array(&mut self) -> Result<(), AllocError>
-        requires { self.old.root ≡ None }
-        ensures { OnOk result (Opens self.old (InArray []) self.new) }
-    {
-        self.collections.open_array()
-    }
-
-    // Opens a dictionary.
-    fn begin_dictionary(&mut self, alloc: Global) -> Result<(), AllocError>
-        requires { self.old.root ≡ None }
-        ensures { OnOk result (Opens self.old (InDictionary []) self.new) }
-    {
-        self.collections.open_dictionary(alloc)
     }
 
     // Adds a complete value to the innermost collection, or makes it the root.
@@ -195,8 +178,8 @@ impl UnfinishedValue {
         ensures { OnOk result (AddsEvent self.old (event_of event.entry) self.new) }
     {
         match event {
-            Event::StartArray(_) => self.begin_array(),
-            Event::StartDictionary(_) => self.begin_dictionary(alloc),
+            Event::StartArray(_) => self.collections.open_array(),
+            Event::StartDictionary(_) => self.collections.open_dictionary(alloc),
             Event::EndCollection => self.end(alloc),
             Event::Boolean(value) => self.add(Value::Boolean(value)),
             Event::Data(bytes) => self.add(Value::Data(bytes.into_owned(alloc)?)),

@@ -483,6 +483,7 @@ impl Value {
     /// settings.to_writer_binary(alloc, &mut out)?;
     /// Ok(out.len() as u64)
     /// ```
+    #[tactic(auto, using(crate::proofs::EventTables::sending))]
     pub fn to_writer_binary<W: Write>(&self, alloc: Global, writer: &mut W) -> Result<(), Error>
         ensures sent { SendsValue W.contents self.now result writer.old writer.new }
     {

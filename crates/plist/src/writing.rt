@@ -37,6 +37,7 @@ pub fn write_value<W: Writer>(alloc: Global, value: &Value, writer: &mut W) -> R
 
 // Appends the events that remain of a value to the table. This is a function of its own, so that
 // the table and the iterator aren't dropped at each exit of the loop.
+#[tactic(auto, using(crate::proofs::EventTables::gathering))]
 fn push_all<'a>(table: &mut EventTable<'a>, events: &mut Events<'a>) -> Result<(), Error>
     ensures events { OnOk result (plain_events table.new
         ≡ plain_events table.old ++ map without_length (remaining_events events.old)) }
@@ -54,6 +55,7 @@ fn push_all<'a>(table: &mut EventTable<'a>, events: &mut Events<'a>) -> Result<(
 /// # Errors
 ///
 /// `OutOfMemory`, without an offset, if an allocation fails.
+#[tactic(auto, using(crate::proofs::EventTables::gathering))]
 pub fn collect_events<'a>(alloc: Global, value: &'a Value) -> Result<EventTable<'a>, Error>
     ensures events { IfOk result (λ table. plain_events table ≡ lengthless (tree_of value.now)) }
     ensures memory { OnlyMemory result }

@@ -27,9 +27,8 @@ impl Dictionary {
         requires { F.IsAlwaysCallable keep }
         ensures kept { Retains F.Fn keep (pairs_of self.old) (pairs_of self.new) }
     {
-        match self.pairs.as_mut() {
-            None => {}
-            Some(pairs) => pairs.retain(keep),
+        if let Some(pairs) = self.pairs.as_mut() {
+            pairs.retain(keep);
         }
     }
 

@@ -51,6 +51,7 @@ impl Dictionary {
     /// }
     /// Ok(())
     /// ```
+    #[tactic(auto, using(crate::proofs::Tops::entry_steps))]
     pub fn entry(&mut self, key: String) -> Entry<'_>
         // Result.
         ensures now { entry_pairs result ≡ pairs_of self.old }
@@ -149,6 +150,7 @@ impl<'a> VacantEntry<'a> {
     /// # Errors
     ///
     /// If an allocation fails, the dictionary is unchanged, and the error is the key and the value.
+    #[tactic(auto, using(crate::proofs::Tops::entry_steps))]
     pub fn insert(self, value: Value) -> Result<&'a mut Value, (String, Value)>
         ensures value { IfOk result (λ borrowed. borrowed.now ≡ value) }
         ensures handed_back { IfErr result (HandsBack (Vacant self.entry) (λ v. v ≡ value)) }

@@ -117,6 +117,7 @@ impl Builder {
     ///
     /// - `WriterFailed` if it has failed.
     /// - `UnexpectedEndOfEventStream` if the events don't form a value yet.
+    #[tactic(auto, using(crate::proofs::Following::finishing))]
     pub fn finish(&mut self) -> Result<Value, Error>
         // Result.
         ensures value { IfOk result (λ value. AreAlike

@@ -42,9 +42,8 @@ impl Value {
     /// Ok(kind)
     /// ```
     pub fn destroy(self) {
-        match self.into_children() {
-            None => {}
-            Some(below) => destroy_all(below),
+        if let Some(below) = self.into_children() {
+            destroy_all(below);
         }
     }
 }
@@ -56,6 +55,7 @@ impl plist_pairs::Discard for Value {
 }
 
 /// Drops the values without recursion and without allocating memory.
+#[tactic(auto, using(crate::proofs::DropWeights::drops))]
 pub(crate) fn destroy_all(values: Vec<Value>) {
     let mut left = values;
     while let Some(value) = left.pop() {

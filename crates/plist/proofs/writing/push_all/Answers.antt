@@ -1,13 +1,9 @@
-use Rattle.std.proofs.Common.{rules, map, refl, ◌++◌}
+use Rattle.std.proofs.Common.{rules, map, ◌++◌}
 use Rattle.plist_base.specs.Bracketing.{without_length}
 use Rattle.plist_buffer.specs.EventTable.{plain_events}
 use Rattle.plist.specs.Events.{remaining_events}
-use Rattle.plist.proofs.EventTables.{gathered_more, gathered_all}
-use Rattle.plist.proofs.GivenEvents.{none_comes}
+use Rattle.plist.proofs.EventTables.{gathered_more}
 use Rattle.plist.proofs.writing.push_all.Goals as goal
-
-pub loop-item-init : goal.loop-item-init
-loop-item-init c = refl
 
 pub loop-item-preserved : goal.loop-item-preserved
 loop-item-preserved c =
@@ -16,8 +12,3 @@ loop-item-preserved c =
     (plain_events c.loop-item.table) (plain_events c.push.new.self) c.loop-item.events
     c.next.new.self c.in-Some.item c.in_ok-item.field-0
     c.loop-item.invariant c.in-Some.ensures.steps (search rules) c.in_ok-push.ensures.events
-
-pub returns-clause-events : goal.returns-clause-events
-returns-clause-events c =
-    gathered_all (plain_events c.loop-item.table) (remaining_events c.loop-item.events)
-    c.loop-item.invariant (none_comes c.in_default.ensures.steps)

@@ -17,17 +17,6 @@ returns-clause-value g c =
     (λ old item new gives. ascii-shows g.R.ByteReader.remaining g.R.ByteReader.failures old new item
     gives))
 
-pub returns-clause-read : goal.returns-clause-read
-returns-clause-read g c = (
-  c.with_dialect.result,
-  c.with_dialect.ensures.inner,
-  c.with_dialect.ensures.dialect,
-  c.with_dialect.ensures.place,
-  c.with_dialect.ensures.peeked_byte,
-  c.with_dialect.ensures.bytes,
-  c.collect.ensures.value,
-)
-
 pub returns-clause-fault : goal.returns-clause-fault
 returns-clause-fault g c =
     ascii-tells g.R.ByteReader.remaining g.R.ByteReader.failures c.with_dialect.result

@@ -3,7 +3,7 @@ use Rattle.plist_base.specs.Limits.{items_admitted, limited_items}
 use Rattle.std.proofs.Common.{ap, ◌∙◌, option_map}
 use Rattle.plist_reader.specs.Reader.{Gives, items_of_input, reader_items}
 use Rattle.plist.specs.Collecting.{built_tree}
-use Rattle.plist.proofs.ReadFaults.{limited-never, limited-tells}
+use Rattle.plist.proofs.ReadFaults.{limited-tells, never-reading, reading}
 use Rattle.plist.proofs.RemainingItems.{joined, of-items, reader-shows}
 use Rattle.plist.proofs.LimitedValues.{built-within, limited-shows, taken-within}
 use Rattle.plist.proofs.value.Value.from_reader_with_limits.Goals as goal
@@ -38,10 +38,10 @@ returns-clause-read g c = (
 
 pub returns-clause-fault : goal.returns-clause-fault
 returns-clause-fault g c =
-    limited-tells g.R.Source.known g.R.Source.failures c.new.result c.collect.result
+    limited-tells (reading g.R.Source.known g.R.Source.failures) c.new.result c.collect.result
     c.collect.ensures.value
 
 pub returns-clause-never_io : goal.returns-clause-never_io
 returns-clause-never_io g c never =
-    limited-never g.R.Source.known g.R.Source.failures never c.new.result c.collect.result
-    c.collect.ensures.value
+    limited-tells (never-reading g.R.Source.known g.R.Source.failures never) c.new.result
+    c.collect.result c.collect.ensures.value

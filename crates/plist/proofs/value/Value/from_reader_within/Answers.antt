@@ -5,7 +5,7 @@ use Rattle.std.proofs.Common.{ap, ◌∙◌, option_map}
 use Rattle.plist_reader.specs.Reader.{Gives, items_of_input, reader_items}
 use Rattle.plist.specs.Collecting.{built_tree}
 use Rattle.plist.specs.FromReader.{LimitedReader, budgeted_input}
-use Rattle.plist.proofs.ReadFaults.{budgeted-never, budgeted-tells}
+use Rattle.plist.proofs.ReadFaults.{budgeted-tells, never-reading, reading}
 use Rattle.plist.proofs.RemainingItems.{joined, of-items, reader-shows}
 use Rattle.plist.proofs.LimitedValues.{budget-shows, built-within-budget, limited-shows, taken-within-budget}
 use Rattle.plist.proofs.value.Value.from_reader_within.Goals as goal
@@ -56,10 +56,10 @@ returns-clause-read g c = (
 
 pub returns-clause-fault : goal.returns-clause-fault
 returns-clause-fault g c =
-    budgeted-tells g.R.Source.known g.R.Source.failures c.within_bytes.result c.collect.result
+    budgeted-tells (reading g.R.Source.known g.R.Source.failures) c.within_bytes.result c.collect.result
     c.collect.ensures.value
 
 pub returns-clause-never_io : goal.returns-clause-never_io
 returns-clause-never_io g c never =
-    budgeted-never g.R.Source.known g.R.Source.failures never c.within_bytes.result c.collect.result
-    c.collect.ensures.value
+    budgeted-tells (never-reading g.R.Source.known g.R.Source.failures never) c.within_bytes.result
+    c.collect.result c.collect.ensures.value
