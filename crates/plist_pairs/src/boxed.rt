@@ -7,7 +7,7 @@ ghost use Rattle.std.specs.Map.{keys_of, lookup, values_of};
 ghost use Rattle.plist_pairs.specs.Keys.{IsAbsent, IsSetAt};
 
 use crate::{Iter, Keys, Pairs, Values};
-use std::alloc::{AllocError, Global};
+use std::alloc::Global;
 use std::fmt;
 use std::marker::Model;
 

@@ -27,9 +27,8 @@ fn discard_after<V: Discard>(values: &mut Vec<V>, count: usize)
     ensures { values.new.items ≡ take count values.old.items }
 {
     while values.len() > count {
-        match values.pop() {
-            Some(value) => value.discard(),
-            None => {}
+        if let Some(value) = values.pop() {
+            value.discard();
         }
     }
 }
