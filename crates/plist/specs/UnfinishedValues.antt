@@ -8,7 +8,7 @@ use Rattle.plist.specs.declared.unfinished.AddError.TheVariants.{Failed, Unexpec
 use Rattle.plist.specs.declared.unfinished.AddError.TheVariants as rejection
 use Rattle.plist.specs.declared.unfinished.UnfinishedValue.{UnfinishedValue}
 use Rattle.plist.specs.declared.value.Value.{Value}
-use Rattle.plist.specs.Building.{OpenCollection, Unfinished, Within, Complete}
+use Rattle.plist.specs.Building.{OpenCollection, Unfinished, Complete}
 use Rattle.plist.specs.LastWins.{with_pair}
 use Rattle.plist.specs.inner.BuilderSteps.{and_event}
 use Rattle.plist.specs.OpenCollections.{Contents, open_of, within}
@@ -32,10 +32,6 @@ unfinished_of unfinished = unfinished_in unfinished.root unfinished.collections
 abbrev pub AddsEvent : (before : UnfinishedValue) → PlainEvent → (after : UnfinishedValue) → Type 0
 AddsEvent before event after =
     and_event with_pair (unfinished_of before) event ≡ Some (unfinished_of after)
-
--- a collection is opened inside the open ones
-abbrev pub Opens : (before : UnfinishedValue) → OpenCollection → (after : UnfinishedValue) → Type 0
-Opens before collection after = unfinished_of after ≡ Within collection (collections_of before)
 
 -- the kind of error that a rejection becomes
 abbrev pub kind_of_add_error : AddError → FaultKind

@@ -14,7 +14,6 @@ ghost use Rattle.plist.specs.ValueTrees.{tree_of};
 ghost use Rattle.plist.specs.inner.Weights.{weight};
 
 use crate::{Dictionary, Value};
-use std::alloc::Global;
 
 // The number of levels that are compared before a pair is deferred.
 const LEVELS: u32 = 128;

@@ -59,9 +59,8 @@ impl plist_pairs::Discard for Value {
 pub(crate) fn destroy_all(values: Vec<Value>) {
     let mut left = values;
     while let Some(value) = left.pop() {
-        match value.into_children() {
-            None => {}
-            Some(below) => left = joined(left, below),
+        if let Some(below) = value.into_children() {
+            left = joined(left, below);
         }
     }
     left.destroy_empty();
