@@ -105,3 +105,6 @@ module _ {V : Type 0} where
 
 -- rules for inserting into the columns
 pub ruleset inserting = (columns, rows-pushed, rows-old, comes_last, none-rows, length-append)
+
+-- rules for sorted rows
+pub ruleset sorting = (moved-rows, so-far, sorted-rows, still-distinct)

@@ -23,6 +23,7 @@ impl<V: Drop> Pairs<V> {
     ///
     /// `AllocError` if an allocation fails. The pairs are unchanged then, since all memory is
     /// allocated before the first pair moves.
+    #[tactic(auto, using(crate::proofs::ColumnAppends::sorting))]
     pub fn sort_keys(&mut self, alloc: Global) -> Result<(), AllocError>
         ensures sorted { OnOk result (IsSorted (slice_cmp nat_cmp) (keys_of self.new)) }
         ensures pairs { OnOk result (IsPermutation self.old self.new) }
@@ -58,6 +59,7 @@ fn rows_of<V: Drop>(pairs: Pairs<V>, capacity: Vec<(String, V)>) -> Vec<(String,
 }
 
 // Moves the pairs of these rows into columns, for which memory is reserved.
+#[tactic(auto, using(crate::proofs::ColumnAppends::sorting))]
 fn pairs_of_rows<V: Drop>(
     rows: Vec<(String, V)>,
     mut keys: IndexSet<String>,

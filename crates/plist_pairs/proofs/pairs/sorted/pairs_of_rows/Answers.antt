@@ -1,6 +1,6 @@
 use Rattle.std.proofs.Common.{◌≡◌, length, ap, arith, length-append, ◌∷◌, []}
 use Rattle.std.specs.Vec.Iter.{into_iter_items}
-use Rattle.plist_pairs.proofs.ColumnAppends.{so-far, then-put}
+use Rattle.plist_pairs.proofs.ColumnAppends.{then-put}
 use Rattle.plist_pairs.proofs.pairs.sorted.pairs_of_rows.Goals as goal
 
 pub loop-key-preserved-in-Ok : goal.loop-key-preserved-in-Ok
@@ -28,11 +28,3 @@ loop-key-preserved-in-Ok g c =
         put.capacity,
       );
     }
-
-pub invariant_of-result : goal.invariant_of-result
-invariant_of-result g c =
-    let i = c.loop-key.invariant in (
-      i.same,
-      so-far c.loop-key.keys.keys c.loop-key.items.items i.same _ c.requires.distinct _
-          i.all,
-    )
