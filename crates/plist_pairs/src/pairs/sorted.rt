@@ -23,7 +23,6 @@ impl<V: Drop> Pairs<V> {
     ///
     /// `AllocError` if an allocation fails. The pairs are unchanged then, since all memory is
     /// allocated before the first pair moves.
-    #[tactic(auto, using(crate::proofs::ColumnAppends::sorting))]
     pub fn sort_keys(&mut self, alloc: Global) -> Result<(), AllocError>
         ensures sorted { OnOk result (IsSorted (slice_cmp nat_cmp) (keys_of self.new)) }
         ensures pairs { OnOk result (IsPermutation self.old self.new) }
