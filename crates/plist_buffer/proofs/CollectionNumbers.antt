@@ -143,12 +143,15 @@ end_before : (es : List PlainEvent) (p : ℕ) (start : PlainEvent) (inside rest 
     → skip_after es p ≡ p + length (start ∷ (inside ++ EndCollection ∷ []))
     → event_at es (skip_after es p - 1) ≡ EndCollection
 end_before es p start inside rest is after =
-    let at : skip_after es p - 1 ≡ p + length (start ∷ inside) =
-    omega (arith, after, length-append inside (EndCollection ∷ [])) in
-    ap (event_at es) at
-    ∙ first_event es (p + length (start ∷ inside)) EndCollection rest
-    (past (start ∷ inside) (EndCollection ∷ rest) es p
-    (is ∙ append_assoc (start ∷ inside) (EndCollection ∷ []) rest))
+    grind (
+      arith,
+      after,
+      is,
+      length-append inside (EndCollection ∷ []),
+      append_assoc (start ∷ inside) (EndCollection ∷ []) rest,
+      past (start ∷ inside) (EndCollection ∷ rest) es p,
+      first_event es (p + length (start ∷ inside)) EndCollection rest,
+    )
 
 -- a collection's last event is an end
 last_event : (es : List PlainEvent) (t : Tree) (p : ℕ) → IsCollectionAt es t p

@@ -198,13 +198,13 @@ module _ {kinds : List EntryKind} {numbers : List ℕ} {ends : ℕ} {es : List E
     entries_closed =
         let there : entry_at (es ++ entry.End ∷ []) start ≡ entry_at es start =
         get_or-append es (entry.End ∷ []) entry.End start within in
-        number_set (kinds ++ kind.End ∷ []) (numbers ++ ends ∷ []) start (length kinds + 1)
-        ∙ ap (λ l. set l start (entry_of (kind_in (entry_at l start)) (length kinds + 1)))
-        (entries_pushed entry.End)
-        ∙ ap (set (es ++ entry.End ∷ []) start)
-        (closes_entry (entry_at (es ++ entry.End ∷ []) start) (length kinds + 1)
-        (ap is_start there ∙ starts)
-        ∙ ap (λ n. closed_at (entry_at (es ++ entry.End ∷ []) start) (n + 1)) (sym long_columns.0))
+        cc (
+          number_set (kinds ++ kind.End ∷ []) (numbers ++ ends ∷ []) start (length kinds + 1),
+          entries_pushed entry.End,
+          closes_entry (entry_at (es ++ entry.End ∷ []) start) (length kinds + 1)
+              (ap is_start there ∙ starts),
+          long_columns.0,
+        )
 
     -- the kind of a start isn't that of an end
     not_end : get_or kinds start kind.Small ≢ kind.End

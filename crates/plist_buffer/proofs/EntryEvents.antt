@@ -443,9 +443,7 @@ module _ {scalars : ScalarLists} {es : List EventEntry} {unclosed : List ℕ}
           ≡ Some (event_at (events_of_entries scalars es) index)
       scalar_stored =
           let f = indexed scalars (entry_at es index) k is in
-          subst (λ n. slice_get (all_scalars scalars) n
-          ≡ Some (event_at (events_of_entries scalars es) index)) f.2
-          (stored_among_all scalars f.0 _ (scalar_there f.1))
+          cc (f.2, stored_among_all scalars f.0 _ (scalar_there f.1))
 
       pub scalar_is_leaf : is_leaf (event_at (events_of_entries scalars es) index) ≡ true
       scalar_is_leaf = scalar_leaf (indexed scalars (entry_at es index) k is).1
@@ -473,10 +471,7 @@ module _ {scalars : ScalarLists} {es : List EventEntry} {unclosed : List ℕ}
             ap (event_at (events_of_entries scalars es)) (sym at) ∙ ends
 
         by : (e : EventEntry) → entry_at es index ≡ e → is_start (entry_at es index) ≡ true
-        by (entry.Scalar number) is =
-            cc (scalar_leaf is, ap is_leaf (next (ap (index_after_entry index) is)))
-        by entry.End is = cc (begins, ap is_end (next (ap (index_after_entry index) is)))
-        by e is = ap is_start is
+        by e is = grind (arith, scalar_leaf, next, begins)
 
   -- a stored scalar is at some index of the events
   number_used : (number : ScalarNumber) (e : PlainEvent) → scalar_numbered scalars number ≡ Some e

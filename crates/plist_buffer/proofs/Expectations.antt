@@ -149,13 +149,10 @@ module _ (s : EventBuffer) (e : PlainEvent) where
           ∙ open_alike e kinds
 
       is_next : next ≡ innermost new
-      is_next = found
-          ∙ (λ i. next_expected (is i) s.expects (innermost (map expects_in (now_open i))))
-          ∙ went.2.1
+      is_next = cc (ap (map expects_in) now_open, went.2.1)
 
       all_new : all_expected next (expected_inside events) ≡ new
-      all_new = (λ i. all_expected (is_next i) ((ap (map expects_in) now_open ∙ went.2.0) i))
-          ∙ all_again new
+      all_new = cc (is_next, now_open, went.2.0, all_again new)
 
       pub expects_next : ExpectsNext events next
       expects_next = record {

@@ -76,6 +76,4 @@ module _ (table : EventTable) where
 
   pub none_expects : table.unclosed ≡ [] → None ≡ innermost (expected_inside events)
   none_expects none =
-      ap (λ l. innermost (map (expect_at events) l))
-      (sym (ap reverse none) ∙ table.kept.entries_are.starts)
-      ∙ ap innermost (inside_is events)
+      cc (inside_is events, table.kept.entries_are.starts)

@@ -120,11 +120,13 @@ module _ (es : List PlainEvent) (q : ℕ) (le : q ≤ length es) where
   -- where the tree ends depends only on the events from q on
   from_there : skip_after es q ≡ skip_from (drop q es) q before q (q + 1)
   from_there =
-      let z : 0 + length (take q es) ≡ q = omega (arith, length-take-le q es le) in
-      ap (λ l. skip_after l q) (sym (take-append-drop q es))
-      ∙ skip_append (take q es) (drop q es) 0 [] q (q + 1)
-      ∙ ap (λ n. skip_from (drop q es) n before q (skip_after (take q es) q)) z
-      ∙ ap (skip_from (drop q es) q before q) before_apart.1
+      grind (
+        arith,
+        take-append-drop q es,
+        length-take-le q es le,
+        skip_append (take q es) (drop q es) 0 [] q (q + 1),
+        before_apart.1,
+      )
 
 pub skip_ends : (es : List PlainEvent) (t : Tree) (q : ℕ) → OccursAt es t q
     → skip_after es q ≡ q + event_count t

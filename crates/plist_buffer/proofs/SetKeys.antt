@@ -34,10 +34,7 @@ module _ {T P : Type 0} (same : T → T → Bool) (view : T → P) where
     -- inserting a key changes no key before it
     pub keys_kept : (i : ℕ) → i < length (map view old)
         → slice_get (map view new) i ≡ slice_get (map view old) i
-    keys_kept i h = elim (grown b old new x e) [
-      | inl s ↦ cc
-      | inr g ↦ cc (front (map view old) i h)
-    ]
+    keys_kept i h = grind (arith, grown b old new x e, front (map view old) i)
       where
         front : (xs : List P) (i : ℕ) → i < length xs
             → slice_get (xs ++ view x ∷ []) i ≡ slice_get xs i

@@ -33,35 +33,28 @@ module _ {es : List PlainEvent} where
 
   pub occurs_items : {ts : Trees} {p : ℕ} → OccursAt es (Array ts) p → ItemsOccurAt es ts (p + 1)
   occurs_items {ts} {p} s =
-      record {
-        rest = s.rest;
-        is = past_start (StartArray None) (lengthless_items ts) _ es p s.is;
-      }
+      record { rest = s.rest; is = past_start _ (lengthless_items ts) _ es p s.is }
 
   pub occurs_pairs : {ms : Members} {p : ℕ} → OccursAt es (Dictionary ms) p
       → PairsOccurAt es ms (p + 1)
   occurs_pairs {ms} {p} s =
-      record {
-        rest = s.rest;
-        is = past_start (StartDictionary None) (lengthless_pairs ms) _ es p s.is;
-      }
+      record { rest = s.rest; is = past_start _ (lengthless_pairs ms) _ es p s.is }
 
   pub occurs_item : {t : Tree} {ts : Trees} {q : ℕ} → ItemsOccurAt es (TreeAnd t ts) q
       → OccursAt es t q
   occurs_item {t} {ts} {q} s =
       record {
         rest = lengthless_items ts ++ EndCollection ∷ s.rest;
-        is = s.is
-            ∙ append_assoc (lengthless t) (lengthless_items ts) (EndCollection ∷ s.rest);
+        is = s.is ∙ append_assoc (lengthless t) (lengthless_items ts) _;
       }
 
   pub occurs_next : {t : Tree} {ts : Trees} {q : ℕ} → ItemsOccurAt es (TreeAnd t ts) q
       → ItemsOccurAt es ts (q + event_count t)
+  unfolding occurs_item
   occurs_next {t} {ts} {q} s =
       record {
         rest = s.rest;
-        is = past (lengthless t) (lengthless_items ts ++ EndCollection ∷ s.rest) es q
-            (s.is ∙ append_assoc (lengthless t) (lengthless_items ts) (EndCollection ∷ s.rest));
+        is = past (lengthless t) _ es q (occurs_item s).is;
       }
 
   pub occurs_key : {k : List ℕ} {t : Tree} {ms : Members} {q : ℕ}
@@ -75,10 +68,7 @@ module _ {es : List PlainEvent} where
   occurs_value {k} {t} {ms} {q} s =
       record {
         rest = lengthless_pairs ms ++ EndCollection ∷ s.rest;
-        is = past_one
-            (ScalarEvent (trees.String k)) _ es q s.is ∙ append_assoc (lengthless t)
-            (lengthless_pairs ms)
-            (EndCollection ∷ s.rest);
+        is = past_one _ _ es q s.is ∙ append_assoc (lengthless t) (lengthless_pairs ms) _;
       }
 
   pub occurs_next_pair : {k : List ℕ} {t : Tree} {ms : Members} {q : ℕ}

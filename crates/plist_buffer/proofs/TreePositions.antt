@@ -160,8 +160,7 @@ module _ {A : Type 0} (f : PlainEvent → List A) (g : ℕ × Tree → List A)
   within : (es : List PlainEvent) (a b c : List A) → a ≡ b → flat_map f es ≡ c
       → a ++ flat_map f (es ++ EndCollection ∷ []) ≡ b ++ c
   within es a b c e h =
-      λ i. e i ++ (flat_map-append f es (EndCollection ∷ [])
-      ∙ ap (λ l. flat_map f es ++ (l ++ [])) close ∙ append-nil (flat_map f es) ∙ h) i
+      grind (arith, close, flat_map-append f es (EndCollection ∷ []), append-nil {A = A}, e, h)
 
   mutual
     pub shown : (t : Tree) (p : ℕ) → flat_map f (bracketing t) ≡ flat_map g (positions t p)
