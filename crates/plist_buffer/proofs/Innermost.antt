@@ -1,5 +1,5 @@
 -- The innermost open start decides what is expected in its collection.
-use Rattle.std.proofs.Common.{◌≡◌, ◌⊎◌, ℕ, ◌<◌, true, List, [], ◌∷◌, ◌++◌, length, reverse, drop, map, Option, None, Some, refl, sym, ap, ◌∙◌, rules, arith}
+use Rattle.std.proofs.Common.{◌≡◌, ◌⊎◌, ℕ, ◌<◌, true, List, [], ◌∷◌, ◌++◌, length, drop, map, Option, None, Some, refl, rules, arith}
 use Rattle.plist_base.specs.Events.{PlainEvent, StartArray, StartDictionary, EndCollection, shape_of}
 use Rattle.plist_buffer.specs.declared.expects.Expect.{Expect}
 use Rattle.plist_buffer.specs.declared.expects.Expect.TheVariants.{Items, Pairs}

@@ -4,6 +4,7 @@
 //! event follows. Then they are looked up together, which `event_table::batches` explains. Strings
 //! and data of more than eight bytes don't wait.
 
+ghost use Rattle.std.proofs.Props.{props};
 ghost use Rattle.std.specs.Prelude.{◌≡◌, ◌<◌, ◌++◌, ℕ, List, Some, length, IfSome, ◌≢◌, [], false, true, None, IfErr, OnOk, OnErr};
 ghost use Rattle.plist_base.specs.Events.{ScalarEvent, event_of};
 ghost use Rattle.plist_base.specs.Trees.{String};

@@ -1,6 +1,7 @@
 //! The table of a property list's events, which stores every different scalar once.
 
-ghost use Rattle.std.specs.Prelude.{◌≡◌, ◌^◌, ◌<◌, true, length, OnOk, OnErr, [], ℕ, List, None, Some, false, IfSome, ◌+◌};
+ghost use Rattle.std.specs.Prelude.{◌≡◌, ◌^◌, ◌<◌, true, length, OnOk, OnErr, ◌-◌, [], ℕ, List, None, Some, false, IfSome, ◌+◌};
+ghost use Rattle.std.proofs.Props.{props};
 ghost use Rattle.std.specs.Cow.{cow_slice_items, cow_str_bytes};
 ghost use Rattle.plist_base.specs.Events.{EndCollection, ScalarEvent, shape_of};
 ghost use Rattle.plist_base.specs.Outcomes.{OnlyMemory};
@@ -69,6 +70,7 @@ fn bytes_of_text<'e>(text: CowStr<'e>) -> CowSlice<'e, u8>
 
 impl<'e> EventTable<'e> {
     ghost use Rattle.plist_buffer.specs.StoredScalars.{IsStored, event_of_long, event_of_small, scalar_of_ref};
+    ghost use Rattle.plist_base.specs.Trees.{String as StringScalar};
     ghost use Rattle.plist_buffer.specs.EventTable.{plain_event, plain_events, scalars_of, lists_in, collection_number, count_collections, EndsCollection, GrowsBy, HasItem, IsScalarAt, LacksItem, table_event};
     ghost use Rattle.plist_buffer.specs.inner.Columns.{scalar_named};
     ghost use Rattle.plist_buffer.specs.inner.Expected.{expected_inside, innermost};

@@ -1,7 +1,9 @@
 //! Strings and data of more than eight bytes, as a table stores them.
 
 ghost use Rattle.std.specs.Prelude.{◌≡◌, ◌<◌, IfSome, false, length, IfOk};
+ghost use Rattle.std.proofs.Props.{props};
 ghost use Rattle.plist_buffer.specs.inner.LongContents.{bytes_stored, form_in, scalar_from, IsLongIn};
+ghost use Rattle.plist_base.specs.Trees.{String as StringScalar};
 
 use crate::short_bytes::ShortBytes;
 use crate::stored_scalar::ScalarRef;
