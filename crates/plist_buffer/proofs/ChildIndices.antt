@@ -75,9 +75,7 @@ module _ (es : List PlainEvent) where
   -- what is true of no children, and of one and those after it, is true of those that are found
   found : (b c : Bool) (x : ℕ) (l : List ℕ) (P : List ℕ → Type 0) → P []
       → (b ≡ false → c ≡ false → P (x ∷ l)) → P (if b then [] else (if c then [] else x ∷ l))
-  found true c x l P none some = none
-  found false true x l P none some = none
-  found false false x l P none some = some refl refl
+  found b c x l P none some = search (rules, none, some)
 
   items_within : (most : ℕ) (child : Child) (q : ℕ)
       → AllByRecursion (HasItem es) (children_within most child es q)

@@ -76,11 +76,9 @@ ends_once es p q r a b c d =
 
 ends_rise : (kinds : List EntryKind) (a b : ℕ) → get_or kinds a kind.Small ≡ kind.End → a < b
     → b ≤ length kinds → ends_in (take a kinds) < ends_in (take b kinds)
-ends_rise [] a b is lt le = absurd (omega (arith, lt, le))
-ends_rise (k ∷ kinds) a zero is lt le = absurd (omega (arith, lt))
 ends_rise (k ∷ kinds) zero (suc b) is lt le = omega (arith, ap one_if_end is)
-ends_rise (k ∷ kinds) (suc a) (suc b) is lt le =
-    omega (arith, ends_rise kinds a b is (omega (arith, lt)) (omega (arith, le)))
+ends_rise (k ∷ kinds) (suc a) (suc b) is lt le = omega (arith, ends_rise kinds a b is)
+ends_rise kinds a b is lt le = absurd (omega (arith, lt, le))
 
 -- each number below the number of ends belongs to an end
 nth_end : (entries : List EventEntry) (c : ℕ) → c < ends_in (map kind_in entries)

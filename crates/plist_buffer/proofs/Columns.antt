@@ -55,10 +55,9 @@ entries_more : (kinds : List EntryKind) (numbers : List ℕ) (ends : ℕ) (e : E
     → entries_from (kinds ++ kind_in e ∷ []) (numbers ++ number_in ends e ∷ [])
     ≡ entries_from kinds numbers ++ e ∷ []
 entries_more [] [] ends e same = ap (λ d. d ∷ []) (same_entry ends e)
-entries_more [] (n ∷ numbers) ends e same = absurd (omega arith)
-entries_more (k ∷ kinds) [] ends e same = absurd (omega arith)
 entries_more (k ∷ kinds) (n ∷ numbers) ends e same =
     ap (λ l. entry_of k n ∷ l) (entries_more kinds _ ends e (omega (arith, same)))
+entries_more kinds numbers ends e same = absurd (omega arith)
 
 -- setting a number sets the number of an entry
 number_set : (kinds : List EntryKind) (numbers : List ℕ) (p n : ℕ)
@@ -121,15 +120,14 @@ columns_more {kinds} {numbers} {ends} columns e = record {
   counted = ap (λ n. n + one_if_end (kind_in e)) columns.counted ∙ sym (ends_more kinds (kind_in e));
   numbered = λ p lt is. elim (eq-or-lt_of_le {n = p} {m = length kinds}
       (omega (arith, lt, length-append kinds (kind_in e ∷ [])))) [
-        | inl last ↦
-            let is_end : kind_in e ≡ kind.End =
-            sym (get_or-append_seam kinds (kind_in e) [] kind.Small)
-            ∙ ap (λ q. get_or (kinds ++ kind_in e ∷ []) q kind.Small) (sym last) ∙ is in
-            ap (λ q. get_or (numbers ++ number_in ends e ∷ []) q 0) (last ∙ columns.long)
-            ∙ get_or-append_seam numbers (number_in ends e) [] 0
-            ∙ number_of_end ends e is_end ∙ columns.counted
-            ∙ ap ends_in (sym (take-append_seam kinds (kind_in e ∷ [])))
-            ∙ ap (λ q. ends_in (take q (kinds ++ kind_in e ∷ []))) (sym last)
+        | inl last ↦ grind (
+          arith,
+          last,
+          get_or-append_seam kinds (kind_in e) [] kind.Small,
+          get_or-append_seam numbers (number_in ends e) [] 0,
+          number_of_end ends e,
+          take-append_seam kinds (kind_in e ∷ []),
+        )
         | inr old ↦
             get_or-append numbers _ 0 p (omega (arith, columns.long, old))
             ∙ columns.numbered p old (sym (get_or-append kinds _ kind.Small p old) ∙ is)

@@ -87,8 +87,7 @@ none_behind : (events : List PlainEvent) → AreTreeEvents events → (e : Plain
     → ⊥
 none_behind events (t, alike) e c =
     let g = continues _ e c in
-    none_is (expected_after (events ++ e ∷ [])) g.0
-    (rw (steps_snoc events, all_taken events t alike) refl) g.1
+    cc (g.1, steps_snoc events (OneValue ∷ []) e, all_taken events t alike)
 
 pub complete_of_whole : (events : List PlainEvent) → AreTreeEvents events → AreComplete events
 complete_of_whole events whole = (whole, none_behind _ whole)

@@ -55,8 +55,7 @@ module _ {scalars : List PlainEvent} {mark : ℕ} {es : List PlainEvent} {stamps
     down = λ d. (
       d,
       λ e (s, at, m).
-          let lt : s < length stamps = omega (arith, long, slice_get_within scalars s _ at) in
-          absurd (omega (arith, is, m, older s lt)),
+          absurd (grind (arith, slice_get_within scalars s _ at, older s)),
     );
     up = λ d. d.0;
   }

@@ -61,11 +61,7 @@ module _ {T P : Type 0} (same : T → T → Bool) (view : T → P) where
   key_found x same_key [] (Some i) is = cc
   key_found x same_key (d ∷ cs) (Some i) is =
       let f = position-Some (same x) (d ∷ cs) i d (sym is) in
-      cc (
-        slice_get-map view (d ∷ cs) i,
-        slice_get-get_or (d ∷ cs) i d f.0,
-        same_key _ f.1,
-      )
+      cc (slice_get-map view (d ∷ cs) i, slice_get-get_or (d ∷ cs) i d f.0, same_key _ f.1)
 
   module _ (key_same : (x y : T) → view x ≡ view y → same x y ≡ true) where
     no_key : (x : T) (cs : List T) (j : ℕ) → AllByRecursion (λ y. same x y ≡ false) cs
@@ -114,10 +110,7 @@ module _ {K : Type 0} where
       → (slice_get a i ≡ Some k) ⊎ ((j : ℕ) × (i ≡ length a + j) × (slice_get b j ≡ Some k))
   one_of_both [] b i k h = inr (i, omega arith, h)
   one_of_both (x ∷ a) b zero k h = inl h
-  one_of_both (x ∷ a) b (suc i) k h = elim (one_of_both a b i k h) [
-    | inl l ↦ inl l
-    | inr r ↦ inr (r.0, omega (arith, r.1), r.2)
-  ]
+  one_of_both (x ∷ a) b (suc i) k h = grind (arith, one_of_both a b i k h)
 
   module _ (a b : List K) where
     pub distinct_first : AreDistinct (a ++ b) → AreDistinct a

@@ -35,12 +35,7 @@ filling [] = ([], refl)
 filling (OneValue ∷ s) =
     let f = filling s in (
       ScalarEvent (trees.Boolean true) ∷ f.0,
-      (
-        Leaf _,
-        map without_length f.0,
-        refl,
-        f.1,
-      ),
+      (Leaf _, map without_length f.0, refl, f.1),
     )
 filling (Items ∷ s) =
     let f = filling s in (EndCollection ∷ f.0, (NoTrees, map without_length f.0, refl, f.1))
