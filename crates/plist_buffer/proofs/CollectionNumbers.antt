@@ -15,6 +15,7 @@ use Rattle.plist_buffer.specs.declared.entries.EventEntry.{EventEntry}
 use Rattle.plist_buffer.specs.declared.entries.EventEntry.TheVariants as entry
 use Rattle.plist_buffer.specs.declared.entries.ScalarNumber.TheVariants.{Small}
 use Rattle.plist_buffer.specs.inner.Columns.{ends_before, ends_in, kind_in, one_if_end}
+use Rattle.plist_buffer.specs.inner.Expected.{innermost}
 use Rattle.plist_buffer.specs.inner.UnclosedStarts.{skip_after, skip_after_event, skip_from, unclosed_after_event}
 use Rattle.plist_buffer.proofs.OpenStarts.{skip_ends, skip_forward}
 use Rattle.plist_buffer.proofs.EntryEvents.{end_there, long_shown, lt}
@@ -25,11 +26,6 @@ use Rattle.plist_buffer.proofs.TreeStarts.{begins, first_event, occurs_in, stand
 use Rattle.plist_buffer.proofs.Uniques.{all_from}
 
 -- ---- the start that an event closes
-
--- the innermost of open starts
-abbrev innermost : List ℕ → Option ℕ
-innermost [] = None
-innermost (q ∷ outer) = Some q
 
 -- the innermost start that is open before the event at index r, if the first event is at `index`
 abbrev open_at : List PlainEvent → (index r : ℕ) → (unclosed : List ℕ) → Option ℕ

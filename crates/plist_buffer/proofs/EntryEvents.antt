@@ -1,5 +1,5 @@
 -- The events that the entries of a table represent, and how each call maintains their invariants.
-use Rattle.std.proofs.Common.{rules, ◌≡◌, ◌≢◌, ◌⊎◌, inl, inr, ℕ, zero, suc, ◌+◌, ◌-◌, ◌^◌, ◌<◌, Bool, true, false, ◌≤◌, None, Some, Result, OnOk, OnErr, List, [], ◌∷◌, ◌++◌, length, set, slice_get, get_or, reverse, refl, ap, sym, ◌∙◌, subst, arith}
+use Rattle.std.proofs.Common.{rules, ◌≡◌, ◌≢◌, ◌⊎◌, inl, inr, ℕ, zero, suc, ◌+◌, ◌-◌, ◌^◌, ◌<◌, Bool, true, false, ◌≤◌, None, Some, Result, OnOk, OnErr, List, [], ◌∷◌, ◌++◌, drop, length, set, slice_get, get_or, reverse, refl, ap, sym, ◌∙◌, subst, arith}
 use Rattle.std.proofs.Math.ListN.{get_or-append}
 use Rattle.std.proofs.Math.Seq.{get_or-append_seam, map-set_same}
 use Rattle.std.proofs.lemmas.Bool.{eq-eqb, eqb-true}
@@ -20,7 +20,7 @@ use Rattle.plist_buffer.specs.declared.entries.ScalarNumber.{ScalarNumber}
 use Rattle.plist_buffer.specs.declared.entries.ScalarNumber.TheVariants.{Small, Long}
 use Rattle.plist_buffer.specs.inner.Columns.{scalar_named, index_of_number}
 use Rattle.plist_buffer.specs.inner.Entries.{AreDistinct, ScalarLists, all_scalars, event_numbered, same_number, scalar_numbered, is_leaf, entry_at, event_of_entry, events_of_entries, is_sound, is_start, index_after_entry, index_after_at, closed_at, ended_at, names, AreEntriesOf, IsValidTable, KeepsScalars}
-use Rattle.plist_buffer.specs.inner.UnclosedStarts.{unclosed_after_event, unclosed_after, skip_after_event, skip_after, without_innermost}
+use Rattle.plist_buffer.specs.inner.UnclosedStarts.{unclosed_after_event, unclosed_after, skip_after_event, skip_after}
 use Rattle.plist_buffer.proofs.Columns.{indexed, unnamed}
 use Rattle.plist_buffer.proofs.SetKeys.{first_of_both, old_or_last, second_of_both}
 use Rattle.plist_buffer.proofs.OpenStarts as opened
@@ -194,7 +194,7 @@ module _ {scalars : ScalarLists} {es : List EventEntry} {unclosed : List ℕ}
   entries_stray : unclosed ≡ [] → AreEntriesOf scalars (es ++ entry.End ∷ []) []
   entries_stray none =
       let nothing : unclosed_after events ≡ [] = sym t.starts ∙ ap reverse none in
-      entries_more entry.End [] refl refl (sym (ap without_innermost nothing))
+      entries_more entry.End [] refl refl (sym (ap (drop 1) nothing))
       (λ p k. ap (λ b. skip_after_event EndCollection (length es) b p k) nothing)
 
   -- an end is appended, which closes the innermost start
@@ -267,7 +267,7 @@ module _ {scalars : ScalarLists} {es : List EventEntry} {unclosed : List ℕ}
         (λ d. closing_same (is_sound scalars) (λ m n. refl) (λ m n. refl)
         ∙ sound_ended start within)
         (λ d. sound_ended p (omega (arith, lt, length-set ended start closing))))
-        (sym (ap without_innermost unclosed_is))
+        (sym (ap (drop 1) unclosed_is))
         (λ p lt. grind (
           arith,
           nat_tests,

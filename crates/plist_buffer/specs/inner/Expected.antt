@@ -35,10 +35,10 @@ expects_in OpenDictionary = Pairs
 abbrev pub expected_inside : List PlainEvent → List Expect
 expected_inside events = map expects_in (open_after events [])
 
--- the first of the expectations, or `None` if there are none
-abbrev pub innermost : List Expect → Option Expect
+-- the first item, which belongs to the innermost collection, or `None` if there is none
+abbrev pub innermost : {A : Type 0} → List A → Option A
 innermost [] = None
-innermost (expect ∷ outer) = Some expect
+innermost (first ∷ outer) = Some first
 
 -- the stack of expectations, given the next one and those of the open collections, innermost first
 abbrev pub all_expected : (next : Option Expect) → (inside : List Expect) → List Expect

@@ -1,15 +1,10 @@
 -- Which starts among events are open, and where the others end.
-use Rattle.std.specs.Prelude.{ℕ, ◌+◌, ◌==◌, if◌then◌else◌, List, [], ◌∷◌}
+use Rattle.std.specs.Prelude.{ℕ, ◌+◌, ◌==◌, if◌then◌else◌, List, [], ◌∷◌, drop}
 use Rattle.plist_base.specs.Events.{PlainEvent, EndCollection, ScalarEvent}
-
--- the indices without the innermost one
-abbrev pub without_innermost : List ℕ → List ℕ
-without_innermost [] = []
-without_innermost (index ∷ outer) = outer
 
 -- the indices of the open starts after the event at an index, innermost first
 abbrev pub unclosed_after_event : PlainEvent → (index : ℕ) → (unclosed : List ℕ) → List ℕ
-unclosed_after_event EndCollection index unclosed = without_innermost unclosed
+unclosed_after_event EndCollection index unclosed = drop 1 unclosed
 unclosed_after_event (ScalarEvent x) index unclosed = unclosed
 unclosed_after_event start index unclosed = index ∷ unclosed
 
