@@ -161,9 +161,6 @@ module _ (es : List PlainEvent) where
 -- a half of the children in a table has less than 2^63 indices
 pub few_in_table : (held : EventTable) (half : Half) (index : ℕ)
     → length (half_of (plain_events held) half index) < 2 ^ 63
-few_in_table held half index = omega (
-  arith,
-  few_children (plain_events held) half index,
-  long_shown (lists_in held) held.entries,
-  held.few,
-)
+few_in_table held half index =
+    let long = long_shown (lists_in held) held.entries in
+    omega (arith, few_children (plain_events held) half index, long, held.few)

@@ -111,12 +111,7 @@ pub columns_more : {kinds : List EntryKind} {numbers : List ℕ} {ends : ℕ}
     → AreColumns (kinds ++ kind_in e ∷ []) (numbers ++ number_in ends e ∷ [])
     (ends + one_if_end (kind_in e))
 columns_more {kinds} {numbers} {ends} columns e = record {
-  long = omega (
-    arith,
-    columns.long,
-    length-append kinds (kind_in e ∷ []),
-    length-append numbers (number_in ends e ∷ []),
-  );
+  long = omega (arith, columns.long, length-append {A = EntryKind}, length-append {A = ℕ});
   counted = ap (λ n. n + one_if_end (kind_in e)) columns.counted ∙ sym (ends_more kinds (kind_in e));
   numbered = λ p lt is. elim (eq-or-lt_of_le {n = p} {m = length kinds}
       (omega (arith, lt, length-append kinds (kind_in e ∷ [])))) [

@@ -135,13 +135,8 @@ module _ {scalars : ScalarLists} {es : List EventEntry} {unclosed : List ℕ}
       → index_after_at now p ≡ skip_after_event e (length es) (unclosed_after events) p (index_after_at es p))
       → index_after_at now (length es) ≡ length es + 1 → AreEntriesOf scalars now after
   entries_by now after e is sound starts before last =
-      let more : length now ≡ length es + 1 = omega (
-        arith,
-        long_shown scalars now,
-        ap length is,
-        length-append events (e ∷ []),
-        long,
-      ) in
+      let more : length now ≡ length es + 1 =
+      omega (arith, long_shown scalars now, ap length is, length-append events (e ∷ []), long) in
       record {
         sound = sound;
         starts = starts ∙ ap (λ n. unclosed_after_event e n (unclosed_after events)) (sym long)
@@ -349,13 +344,7 @@ module _ {scalars : ScalarLists} {es : List EventEntry} {unclosed : List ℕ}
   kept_end start outer is = record {
     apart = kept.apart;
     used = λ i d h. closing_used kept.entries_are start outer is i ∙ still_used entry.End i d h;
-    fewer = omega (
-      arith,
-      kept.fewer,
-      length-append es (entry.End ∷ []),
-      length-set (es ++ entry.End ∷ []) start (closed_at (entry_at (es ++ entry.End ∷ []) start)
-          (length es + 1)),
-    );
+    fewer = omega (arith, kept.fewer, length-append es, length-set (es ++ entry.End ∷ []) start);
     entries_are = entries_end kept.entries_are start outer is;
   }
 

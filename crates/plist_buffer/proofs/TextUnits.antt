@@ -41,14 +41,7 @@ few_units c = grind (arith, nat_tests, length-encode)
 pub few_units_in : (cs : List ℕ) → length (flat_map encode_utf16 cs) ≤ length (encode_utf8_all cs)
 few_units_in [] = omega arith
 few_units_in (c ∷ cs) =
-    omega (
-      arith,
-      few_units c,
-      few_units_in cs,
-      length-append (encode_utf16 c)
-          (flat_map encode_utf16 cs),
-      length-append (encode_utf8 c) (encode_utf8_all cs),
-    )
+    omega (arith, few_units c, few_units_in cs, length-append {A = ℕ})
 
 -- ---- the form of a string
 

@@ -42,10 +42,4 @@ returns-in-Ok-clause-closed c =
 pub returns-in-Ok-clause-small : goal.returns-in-Ok-clause-small
 returns-in-Ok-clause-small c =
     let now = c.push_reserved.new.self in
-    omega (
-      arith,
-      (long_columns (invariant_of-self-in-Ok c) refl).0,
-      now.ok.0,
-      now.ok.1,
-      now.small,
-    )
+    omega (arith, (long_columns (invariant_of-self-in-Ok c) refl).0, now.ok.0, now.ok.1, now.small)

@@ -38,10 +38,4 @@ returns-clause-pushed c =
 pub returns-clause-small : goal.returns-clause-small
 returns-clause-small c =
     let now = c.push_reserved.new.self in
-    omega (
-      arith,
-      (long_columns (invariant_of-self-2 c) refl).0,
-      now.ok.0,
-      now.ok.1,
-      now.small,
-    )
+    omega (arith, (long_columns (invariant_of-self-2 c) refl).0, now.ok.0, now.ok.1, now.small)

@@ -7,10 +7,4 @@ use Rattle.plist_buffer.proofs.event_table.EventTable.count_collections.Goals as
 pub returns-clause-small : goal.returns-clause-small
 returns-clause-small c =
     let entries = c.args.self.now.entries in
-    omega (
-      arith,
-      c.count_ends.ensures,
-      few_ends (map kind_in entries),
-      length-map entries kind_in,
-      c.args.self.now.few,
-    )
+    omega (arith, few_ends (map kind_in entries), length-map entries kind_in)

@@ -1,4 +1,4 @@
-use Rattle.std.proofs.Common.{◌≡◌, ℕ, ◌+◌, ◌-◌, ◌≤◌, List, length, take, drop, sym, ap, ◌∙◌, subst, arith}
+use Rattle.std.proofs.Common.{◌≡◌, ℕ, ◌-◌, ◌≤◌, List, length, take, drop, ap, ◌∙◌, arith}
 use Rattle.std.proofs.lemmas.List.{drop-take, length-drop, length-take-le}
 use Rattle.std.proofs.lemmas.List.Edits.{take-paste}
 use Rattle.std.specs.List.{copy_within}
@@ -8,11 +8,7 @@ use Rattle.plist_buffer.proofs.waiting.WaitingScalars.remove_first.Goals as goal
 moved : {A : Type 0} (xs : List A) (n k : ℕ) → k ≤ n → n ≤ length xs
     → take (n - k) (copy_within xs k n 0) ≡ drop k (take n xs)
 moved xs n k le fits =
-    let all : 0 + (n - k) ≡ n - k = omega arith in
-    let on : k + (n - k) ≡ n = omega arith in
-    subst (λ j. take j (copy_within xs k n 0) ≡ take (n - k) (drop k xs)) all
-    (take-paste xs 0 (drop k xs) (n - k) (omega arith) (omega (arith, length-drop k xs)))
-    ∙ sym (subst (λ j. drop k (take j xs) ≡ take (n - k) (drop k xs)) on (drop-take k (n - k) xs))
+    grind (arith, take-paste xs 0 (drop k xs) (n - k), length-drop k xs, drop-take k (n - k) xs)
 
 pub returns : goal.returns
 returns c =
