@@ -41,11 +41,7 @@ loop-key-init c =
 
 pub stamp-requires : goal.stamp-requires
 stamp-requires c =
-    omega (
-      arith,
-      c.loop-key.invariant.long,
-      slice_get_within (scalars_of c.args.events.now) _ _ c.in-Some-scalar_index.ensures.some,
-    )
+    omega (arith, slice_get_within (scalars_of c.args.events.now) _ _ c.in-Some-scalar_index.ensures.some)
 
 pub returns-in_default-scalar_index-clause-repeats
     : goal.returns-in_default-scalar_index-clause-repeats
@@ -67,12 +63,7 @@ loop-key-preserved c =
     let next = (goal.at.loop-key-preserved c).In-Some in
     let scalar = c.in-Some-scalar_index.scalar in
     let i = c.loop-key.invariant in
-    let within : scalar < length c.loop-key.stamps.items = omega (
-      arith,
-      i.long,
-      slice_get_within (scalars_of c.args.events.now) scalar _
-          c.in-Some-scalar_index.ensures.some,
-    ) in
+    let within : scalar < length c.loop-key.stamps.items = omega (arith, slice_get_within (scalars_of c.args.events.now) scalar _ c.in-Some-scalar_index.ensures.some) in
     record {
       long = ap length c.stamp.ensures.stamped
           ∙ length-set c.loop-key.stamps.items scalar (c.args.start + 1) ∙ i.long;

@@ -25,7 +25,7 @@ returns-then-repeats_at-clause-once c = λ tree alike. (
   (λ e. absurd (true≢false e)),
   (λ once. absurd (one_repeats (plain_events c.args.events.now) tree c.loop-index.index
       (plain_lengthless c.args.events.now tree alike)
-      (omega (arith, c.loop-index-test.true, c.len-index-end.ensures))
+      (omega arith)
       (c.repeats_at.ensures.begins c.if-repeats_at.true)
       (λ ms s. MatchBool-at_true _ _ c.if-repeats_at.true (c.repeats_at.ensures.repeats ms s))
       once)),
@@ -36,6 +36,6 @@ returns-clause-once c = λ tree alike. (
   (λ e. all_once (plain_events c.args.events.now) tree (plain_lengthless c.args.events.now tree
       alike)
       (λ p ms s. c.loop-index.invariant.once p ms
-      (omega (arith, occurs_in s, c.loop-index-test.false, c.len-index-end.ensures)) s)),
+      (omega (arith, occurs_in s)) s)),
   (λ once. refl),
 )

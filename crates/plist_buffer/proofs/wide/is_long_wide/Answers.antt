@@ -21,13 +21,7 @@ is_wide c h =
 is_long : (c : After-add_bytes-count)
     → c.add_bytes-count.result + length (encode_utf8_all (chars_left c.next.new.self))
     ≤ length (string_of_utf16 c.args.text)
-is_long c = omega (
-  arith,
-  c.loop-c.invariant.long,
-  ap (λ cs. length (encode_utf8_all cs)) c.in-Some.ensures.steps,
-  bytes_step c.in-Some.c (chars_left c.next.new.self),
-  c.add_bytes-count.ensures.bytes,
-)
+is_long c = omega (arith, ap (λ cs. length (encode_utf8_all cs)) c.in-Some.ensures.steps, bytes_step c.in-Some.c (chars_left c.next.new.self))
 
 pub loop-c-preserved : goal.loop-c-preserved
 loop-c-preserved c =
@@ -48,4 +42,4 @@ returns-then-count-gt8-clause-wide c =
 pub returns-then-count-gt8-clause-long : goal.returns-then-count-gt8-clause-long
 returns-then-count-gt8-clause-long c =
     let a = (goal.at.returns-then-count-gt8-clause-long c).After-add_bytes-count in
-    λ found. omega (arith, is_long a, c.if-count-gt8.true)
+    λ found. omega (arith, is_long a)

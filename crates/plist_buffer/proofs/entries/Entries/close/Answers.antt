@@ -4,18 +4,12 @@ use Rattle.plist_buffer.proofs.Columns.{columns_closed, ends_below, entries_clos
 use Rattle.plist_buffer.proofs.entries.Entries.close.Goals as goal
 
 pub set-requires : goal.set-requires
-set-requires c = omega (
-  arith,
-  c.requires.within,
-  (long_columns c.self.invariant c.self.view_is).1,
-  ap length c.in_ok-push.ensures.pushed,
-  length_push c.self.inside.numbers c.self.inside.ends,
-)
+set-requires c = omega (arith, (long_columns c.self.invariant c.self.view_is).1, ap length c.in_ok-push.ensures.pushed, length_push c.self.inside.numbers c.self.inside.ends)
 
 pub overflow_add-self : goal.overflow_add-self
 overflow_add-self c =
     let kinds = c.self.inside.kinds in
-    omega (arith, ends_below c.self.invariant c.self.view_is, kinds.ok.0, kinds.ok.1, kinds.small)
+    omega (arith, ends_below c.self.invariant c.self.view_is)
 
 pub invariant_of-self-in-Ok : goal.invariant_of-self-in-Ok
 invariant_of-self-in-Ok c =
@@ -30,7 +24,7 @@ invariant_of-self-in-Ok c =
 pub returns-in-Ok-clause-closed : goal.returns-in-Ok-clause-closed
 returns-in-Ok-clause-closed c =
     let counted : c.len.result ≡ length c.self.inside.kinds.items =
-    omega (arith, c.len.ensures, c.reserve.new.self.ok.0, ap length c.in_ok-reserve.ensures.items) in
+    omega (arith, ap length c.in_ok-reserve.ensures.items) in
     rw (
       c.push_reserved.ensures.items,
       c.in_ok-reserve.ensures.items,
@@ -42,4 +36,4 @@ returns-in-Ok-clause-closed c =
 pub returns-in-Ok-clause-small : goal.returns-in-Ok-clause-small
 returns-in-Ok-clause-small c =
     let now = c.push_reserved.new.self in
-    omega (arith, (long_columns (invariant_of-self-in-Ok c) refl).0, now.ok.0, now.ok.1, now.small)
+    omega (arith, (long_columns (invariant_of-self-in-Ok c) refl).0)

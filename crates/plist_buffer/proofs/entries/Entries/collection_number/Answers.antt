@@ -12,24 +12,18 @@ after_is c =
 
 pub get-after-requires : goal.get-after-requires
 get-after-requires c =
-    omega (arith, c.requires.within, (long_columns c.self.invariant c.self.view_is).1)
+    omega (arith, (long_columns c.self.invariant c.self.view_is).1)
 
 pub overflow_sub-after : goal.overflow_sub-after
 overflow_sub-after c =
-    omega (arith, after_is (goal.at.overflow_sub-after c).After-get-after, c.requires.after.0)
+    omega (arith, after_is (goal.at.overflow_sub-after c).After-get-after)
 
 pub get-requires : goal.get-requires
-get-requires c = omega (
-  arith,
-  c.requires.after.0,
-  c.requires.after.1,
-  after_is (goal.at.get-requires c).After-get-after,
-  (long_columns c.self.invariant c.self.view_is).1,
-)
+get-requires c = omega (arith, after_is (goal.at.get-requires c).After-get-after, (long_columns c.self.invariant c.self.view_is).1)
 
 pub returns : goal.returns
 returns c =
     c.get.ensures
     ∙ ap (λ n. get_or c.self.inside.numbers (n - 1) 0) (after_is (goal.at.returns c).After-get-after)
     ∙ end_number c.self.invariant c.self.view_is _
-    (omega (arith, c.requires.after.0, c.requires.after.1)) c.requires.end
+    (omega arith) c.requires.end

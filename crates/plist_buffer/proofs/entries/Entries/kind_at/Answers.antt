@@ -3,12 +3,7 @@ use Rattle.plist_buffer.proofs.Columns.{kind_read, long_columns}
 use Rattle.plist_buffer.proofs.entries.Entries.kind_at.Goals as goal
 
 pub bounds-as_slice-index : goal.bounds-as_slice-index
-bounds-as_slice-index c = omega (
-  arith,
-  ap length c.as_slice.ensures.value,
-  (long_columns c.self.invariant c.self.view_is).0,
-  c.requires,
-)
+bounds-as_slice-index c = omega (arith, ap length c.as_slice.ensures.value, (long_columns c.self.invariant c.self.view_is).0)
 
 pub returns : goal.returns
 returns c =

@@ -20,7 +20,7 @@ returns-in-Ok c =
     let chosen = c.change_by_earlier-change.ensures c.in_default.not-Refused in
     let next = after_repeating s c.args.index none chosen c.in_default.not-Refused
     c.in-Ok.ensures.events c.next_expected-self.ensures in
-    rw (event_in_table s c.args.index (omega (arith, c.len.ensures))) (record {
+    rw (event_in_table s c.args.index (omega arith)) (record {
       scalar = chosen.0;
       taken = (can_take s _ chosen.1 c.in_default.not-Refused, next.taken);
       refused = tt;
@@ -31,7 +31,7 @@ pub returns-in-Err : goal.returns-in-Err
 returns-in-Err c =
     let s = c.args.self.now in
     let chosen = c.change_by_earlier-change.ensures c.in_default.not-Refused in
-    rw (event_in_table s c.args.index (omega (arith, c.len.ensures)), c.from.ensures) (record {
+    rw (event_in_table s c.args.index (omega arith), c.from.ensures) (record {
       scalar = chosen.0;
       taken = tt;
       refused = (

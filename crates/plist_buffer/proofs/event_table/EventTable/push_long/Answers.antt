@@ -22,7 +22,7 @@ invariant_of-self-in-Err-push c =
     c.in-Ok.ensures.keys in
     record {
       kept = rw (back, c.in-Err-push.ensures.unchanged) s.kept;
-      few = omega (arith, ap length c.in-Err-push.ensures.unchanged, s.few);
+      few = omega (arith, ap length c.in-Err-push.ensures.unchanged);
     }
 
 pub returns-clause-events : goal.returns-clause-events

@@ -21,7 +21,7 @@ invariant_of-self-in-Err-push c =
     c.in-Ok.ensures.keys in
     record {
       kept = rw (back, c.in-Err-push.ensures.unchanged) s.kept;
-      few = omega (arith, ap length c.in-Err-push.ensures.unchanged, s.few);
+      few = omega (arith, ap length c.in-Err-push.ensures.unchanged);
     }
 
 pub returns-in-Ok-push-clause-events : goal.returns-in-Ok-push-clause-events

@@ -13,9 +13,9 @@ moved xs n k le fits =
 pub returns : goal.returns
 returns c =
     let w = c.self.inside in
-    let long = length-take-le w.count w.scalars (omega (arith, c.self.invariant.0, c.self.invariant.1)) in
+    let long = length-take-le w.count w.scalars (omega arith) in
     ap (take (w.count - c.args.count)) c.copy_within.ensures.after
     ∙ moved w.scalars w.count c.args.count
-    (omega (arith, c.requires, long, ap length c.self.view_is))
-    (omega (arith, c.self.invariant.0, c.self.invariant.1))
+    (omega (arith, long, ap length c.self.view_is))
+    (omega arith)
     ∙ ap (drop c.args.count) c.self.view_is
