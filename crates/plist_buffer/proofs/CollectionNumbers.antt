@@ -137,15 +137,7 @@ end_before : (es : List PlainEvent) (p : ℕ) (start : PlainEvent) (inside rest 
     → skip_after es p ≡ p + length (start ∷ (inside ++ EndCollection ∷ []))
     → event_at es (skip_after es p - 1) ≡ EndCollection
 end_before es p start inside rest is after =
-    grind (
-      arith,
-      after,
-      is,
-      length-append inside (EndCollection ∷ []),
-      append_assoc (start ∷ inside) (EndCollection ∷ []) rest,
-      past (start ∷ inside) (EndCollection ∷ rest) es p,
-      first_event es (p + length (start ∷ inside)) EndCollection rest,
-    )
+    grind (arith, length-append inside (EndCollection ∷ []), append_assoc (start ∷ inside) (EndCollection ∷ []) rest, past (start ∷ inside) (EndCollection ∷ rest) es p, first_event es (p + length (start ∷ inside)) EndCollection rest)
 
 -- a collection's last event is an end
 last_event : (es : List PlainEvent) (t : Tree) (p : ℕ) → IsCollectionAt es t p
@@ -241,13 +233,7 @@ module _ (held : EventTable) where
   number_below t p s =
       let last = last_kind t p s in
       let forward = skip_forward es p (occurs_in s.occurs) in
-      grind (
-        arith,
-        ends_rise kinds (skip_after es p - 1) (length kinds) last.0,
-        last.1,
-        forward.0,
-        take_all (length kinds) kinds,
-      )
+      grind (arith, ends_rise kinds (skip_after es p - 1) (length kinds) last.0, take_all (length kinds) kinds)
 
   -- two collections have different numbers
   pub numbers_apart : (t u : Tree) (p q : ℕ) → IsCollectionAt es t p → IsCollectionAt es u q
@@ -257,16 +243,7 @@ module _ (held : EventTable) where
       let b = last_kind u q r in
       let forward_p = skip_forward es p (occurs_in s.occurs) in
       let forward_q = skip_forward es q (occurs_in r.occurs) in
-      let ends : skip_after es q ≡ suc (skip_after es p - 1) = grind (
-        arith,
-        ends_rise kinds (skip_after es p - 1) (skip_after es q - 1) a.0,
-        ends_rise kinds (skip_after es q - 1) (skip_after es p - 1) b.0,
-        a.1,
-        b.1,
-        same,
-        forward_p.0,
-        forward_q.0,
-      ) in
+      let ends : skip_after es q ≡ suc (skip_after es p - 1) = grind (arith, ends_rise kinds (skip_after es p - 1) (skip_after es q - 1) a.0, ends_rise kinds (skip_after es q - 1) (skip_after es p - 1) b.0) in
       ends_once es p q (skip_after es p - 1) (omega (arith, forward_p.0))
       (λ h. omega (arith, h, skip_ends es t p s.occurs, s.large))
       ends

@@ -115,14 +115,7 @@ columns_more {kinds} {numbers} {ends} columns e = record {
   counted = ap (λ n. n + one_if_end (kind_in e)) columns.counted ∙ sym (ends_more kinds (kind_in e));
   numbered = λ p lt is. elim (eq-or-lt_of_le {n = p} {m = length kinds}
       (omega (arith, lt, length-append kinds (kind_in e ∷ [])))) [
-        | inl last ↦ grind (
-          arith,
-          last,
-          get_or-append_seam kinds (kind_in e) [] kind.Small,
-          get_or-append_seam numbers (number_in ends e) [] 0,
-          number_of_end ends e,
-          take-append_seam kinds (kind_in e ∷ []),
-        )
+        | inl last ↦ grind (arith, get_or-append_seam kinds (kind_in e) [] kind.Small, get_or-append_seam numbers (number_in ends e) [] 0, number_of_end ends e, take-append_seam kinds (kind_in e ∷ []))
         | inr old ↦
             get_or-append numbers _ 0 p (omega (arith, columns.long, old))
             ∙ columns.numbered p old (sym (get_or-append kinds _ kind.Small p old) ∙ is)
@@ -204,10 +197,7 @@ module _ {kinds : List EntryKind} {numbers : List ℕ} {ends : ℕ} {es : List E
     not_end is =
         let ended : get_or kinds start kind.End ≡ kind.End =
         sym (kind_is start) ∙ sym (kind_read refl start kind.Small within) ∙ is in
-        cc (
-          starts,
-          ap is_start (entry_is start ∙ ap (λ k. entry_of k (get_or numbers start 0)) ended),
-        )
+        cc (ap is_start (entry_is start ∙ ap (λ k. entry_of k (get_or numbers start 0)) ended))
 
     pub columns_closed : (n : ℕ) → AreColumns (kinds ++ kind.End ∷ [])
         (set (numbers ++ ends ∷ []) start n) (ends + 1)

@@ -141,18 +141,7 @@ module _ {scalars : ScalarLists} {es : List EventEntry} {unclosed : List ℕ}
         sound = sound;
         starts = starts ∙ ap (λ n. unclosed_after_event e n (unclosed_after events)) (sym long)
             ∙ sym (open_more events e) ∙ ap unclosed_after (sym is);
-        skips = λ p lt. grind (
-          arith,
-          skip_forward (events_of_entries scalars now) p,
-          long_shown scalars now,
-          last,
-          more,
-          long,
-          before p,
-          t.skips p,
-          skip_more events e p,
-          is,
-        );
+        skips = λ p lt. grind (arith, skip_forward (events_of_entries scalars now) p, long_shown scalars now, long, before p, t.skips p, skip_more events e p);
       }
 
   -- an entry is appended that closes no start

@@ -8,7 +8,6 @@ set-requires c = omega (arith, (long_columns c.self.invariant c.self.view_is).1,
 
 pub overflow_add-self : goal.overflow_add-self
 overflow_add-self c =
-    let kinds = c.self.inside.kinds in
     omega (arith, ends_below c.self.invariant c.self.view_is)
 
 pub invariant_of-self-in-Ok : goal.invariant_of-self-in-Ok
@@ -35,5 +34,4 @@ returns-in-Ok-clause-closed c =
 
 pub returns-in-Ok-clause-small : goal.returns-in-Ok-clause-small
 returns-in-Ok-clause-small c =
-    let now = c.push_reserved.new.self in
     omega (arith, (long_columns (invariant_of-self-in-Ok c) refl).0)

@@ -4,7 +4,6 @@ use Rattle.plist_buffer.proofs.entries.Entries.push.Goals as goal
 
 pub overflow_add-self : goal.overflow_add-self
 overflow_add-self c =
-    let kinds = c.self.inside.kinds in
     omega (arith, ends_below c.self.invariant c.self.view_is)
 
 pub invariant_of-self-2 : goal.invariant_of-self-2
@@ -30,5 +29,4 @@ returns-clause-pushed c =
 
 pub returns-clause-small : goal.returns-clause-small
 returns-clause-small c =
-    let now = c.push_reserved.new.self in
     omega (arith, (long_columns (invariant_of-self-2 c) refl).0)

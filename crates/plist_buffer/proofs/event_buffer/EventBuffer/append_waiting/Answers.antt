@@ -11,12 +11,7 @@ invariant_of-self c =
     c.remove_first.ensures in
     record {
       wanted = subst (λ events. ExpectsNext events s.expects) (sym same) s.wanted;
-      items = λ more. s.items (omega (
-        arith,
-        more,
-        ap length c.remove_first.ensures,
-        length-drop c.append_small-appended.result s.waiting,
-      ));
+      items = λ more. s.items (omega (arith, ap length c.remove_first.ensures, length-drop c.append_small-appended.result s.waiting));
     }
 
 pub returns-else-is_empty-clause-same : goal.returns-else-is_empty-clause-same
