@@ -65,8 +65,7 @@ closes (e ∷ es) index r q given unclosed is other =
 ends_once : (es : List PlainEvent) (p q r : ℕ) → skip_after es p ≡ suc r → p + 1 ≢ suc r
     → skip_after es q ≡ suc r → q + 1 ≢ suc r → p ≡ q
 ends_once es p q r a b c d =
-    let one = closes es 0 r p (p + 1) [] a b in
-    let two = closes es 0 r q (q + 1) [] c d in cc
+    cc (closes es 0 r p (p + 1) [] a b, closes es 0 r q (q + 1) [] c d)
 
 -- ---- the number of ends before an end
 

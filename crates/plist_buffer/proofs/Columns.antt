@@ -65,8 +65,7 @@ number_set : (kinds : List EntryKind) (numbers : List ℕ) (p n : ℕ)
     ≡ set (entries_from kinds numbers) p
     (entry_of (kind_in (entry_at (entries_from kinds numbers) p)) n)
 number_set [] numbers p n = refl
-number_set (k ∷ kinds) [] zero n = refl
-number_set (k ∷ kinds) [] (suc p) n = refl
+number_set (k ∷ kinds) [] p n = grind arith
 number_set (k ∷ kinds) (m ∷ numbers) zero n =
     ap (λ j. entry_of j n ∷ entries_from kinds numbers) (sym (same_kind k m))
 number_set (k ∷ kinds) (m ∷ numbers) (suc p) n =

@@ -9,7 +9,6 @@ use Rattle.std.proofs.lemmas.List.Folds.{Any-from_list_any, list_any-append, lis
 use Rattle.std.proofs.lemmas.Option.{slice_get-get_or, slice_get_within}
 use Rattle.std.specs.List.{list_any}
 use Rattle.std.specs.Option.{unwrap_or}
-use Rattle.std.specs.Prelude.{◌||◌}
 use Rattle.plist_base.specs.Bracketing.{without_length}
 use Rattle.plist_base.specs.Events.{PlainEvent, EndCollection, ScalarEvent}
 use Rattle.plist_base.specs.Trees.{Scalar}
@@ -212,9 +211,8 @@ module _ {scalars : ScalarLists} {es : List EventEntry} {unclosed : List ℕ}
         → names i e ≡ names i (entry_at l p)
         → list_any (names i) (set l p e) ≡ list_any (names i) l
     same_named i [] p e lt h = refl
-    same_named i (d ∷ l) zero e lt h = ap (λ b. b || list_any (names i) l) h
-    same_named i (d ∷ l) (suc p) e lt h =
-        ap (λ b. names i d || b) (same_named i l p e (omega arith) h)
+    same_named i (d ∷ l) zero e lt h = cc
+    same_named i (d ∷ l) (suc p) e lt h = cc (same_named i l p e (omega arith) h)
 
     closing_used : (i : ScalarNumber) → list_any (names i) (ended_at es start) ≡ list_any (names i) ended
     closing_used i = same_named i _ _ closing within

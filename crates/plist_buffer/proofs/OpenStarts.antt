@@ -72,12 +72,7 @@ skip_end : (body : List PlainEvent) (q given : ℕ) (unclosed : List ℕ)
     → skip_from (body ++ EndCollection ∷ []) (q + 1) (q ∷ unclosed) q given
     ≡ q + suc (length (body ++ EndCollection ∷ []))
 skip_end body q given unclosed h =
-    grind (
-      arith,
-      nat_tests,
-      skip_append body (EndCollection ∷ []) (q + 1) (q ∷ unclosed) q given,
-      length-append body (EndCollection ∷ []),
-    )
+    grind (arith, nat_tests, skip_append body (EndCollection ∷ []) (q + 1), length-append body)
 
 skip_tree : (t : Tree) (q : ℕ) (unclosed : List ℕ) → skip_from (lengthless t) q unclosed q (q + 1)
     ≡ q + event_count t

@@ -1,5 +1,5 @@
 -- The events at which trees begin.
-use Rattle.std.proofs.Common.{◌≡◌, ◌⊎◌, ℕ, ◌+◌, ◌-◌, ◌<◌, ◌≤◌, false, None, List, ◌∷◌, ◌++◌, length, drop, ap, sym, ◌∙◌, arith, length-append, length-drop, add-zero, rules}
+use Rattle.std.proofs.Common.{◌≡◌, ◌⊎◌, ℕ, ◌+◌, ◌<◌, ◌≤◌, false, None, List, ◌∷◌, ◌++◌, length, drop, ap, arith, length-append, length-drop, add-zero, rules}
 use Rattle.std.proofs.lemmas.List.{get_or-drop}
 use Rattle.plist_base.specs.Trees as trees
 use Rattle.plist_base.specs.Events.{PlainEvent, StartArray, StartDictionary, EndCollection, ScalarEvent}
@@ -16,8 +16,7 @@ first_event es p e r h =
 
 pub within : (es : List PlainEvent) (p : ℕ) (a r : List PlainEvent) → drop p es ≡ a ++ r
     → 0 < length a → p + length a ≤ length es
-within es p a r h k = let e : length es - p ≡ length (a ++ r) = sym (length-drop p es)
-    ∙ ap length h in omega (arith, length-append a r)
+within es p a r h k = omega (arith, length-drop p es, ap length h, length-append a r)
 
 pub size_positive : (t : Tree) → 0 < event_count t
 size_positive (Leaf x) = omega arith

@@ -17,12 +17,8 @@ one_more : (before : List PlainEvent) {now after : List PlainEvent} (xs : List P
     (x : PackedScalar) → i < length xs → x ≡ slice_index_or xs i x
     → now ≡ before ++ events_of_small (take i xs) → after ≡ now ++ event_of_small x ∷ []
     → after ≡ before ++ events_of_small (take (i + 1) xs)
-one_more before xs i x lt is so_far grown = grind (
-  arith,
-  append_assoc before (events_of_small (take i xs)) (event_of_small x ∷ []),
-  take_more xs i x lt,
-  map-append event_of_small (take i xs) (x ∷ []),
-)
+one_more before xs i x lt is so_far grown =
+    grind (arith, append_assoc before, take_more xs i x lt, map-append event_of_small (take i xs))
 
 pub loop-index-preserved : goal.loop-index-preserved
 loop-index-preserved c =

@@ -1,6 +1,4 @@
-use Rattle.std.proofs.Common.{◌≡◌, ◌+◌, subst}
 use Rattle.plist_buffer.specs.EventTable.{lists_in}
-use Rattle.plist_buffer.specs.inner.Entries.{index_after_entry}
 use Rattle.plist_buffer.proofs.EntryEvents.{long_shown, kept_start}
 use Rattle.plist_buffer.proofs.event_table.EventTable.start.Goals as goal
 
@@ -10,7 +8,6 @@ invariant_of-self-in-Ok c =
     record {
       kept = rw (c.in_ok-push.ensures.pushed, c.len.ensures, c.in-Ok.ensures.pushed)
           (kept_start s.kept c.args.entry c.requires.starts
-          (subst (λ n. index_after_entry n c.args.entry ≡ n + 1) (long_shown (lists_in s) s.entries)
-          c.requires.after));
+          (rw (long_shown (lists_in s) s.entries) at c.requires.after));
       few = c.in-Ok.ensures.small;
     }
