@@ -123,7 +123,7 @@ impl<'p, 'e> Iterator for Children<'p, 'e> {
             return None;
         }
         let last = self.child.last(first);
-        // For an item the two indices are equal.
+        // For an item the two indices are equal, and a tree begins there.
         if last != first && !self.events.has_item(last) {
             return None;
         }

@@ -254,8 +254,8 @@ impl EventBuffer {
         Ok(())
     }
 
-    // Returns how the scalar at an index of the table changes what is expected next, or `Refused` if
-    // the event there isn't a scalar. Only where a key is expected, the scalar is looked at.
+    // Returns how the scalar at an index of the table changes what is expected next, or `Refused`
+    // if the event there isn't a scalar. Only where a key is expected, the scalar is looked at.
     #[inline(always)]
     fn change_by_earlier(&self, index: usize) -> Transition
         requires { index < length (plain_events self.now.held) }

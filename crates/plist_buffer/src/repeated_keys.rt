@@ -32,7 +32,8 @@ fn repeats_at(events: &EventTable<'_>, start: usize, stamps: &mut Vec<usize>) ->
     requires older { AllBelow (start + 1) stamps.old.items }
     ensures long { length stamps.new.items ≡ length (scalars_of events.now) }
     ensures newer { AllBelow (start + 2) stamps.new.items }
-    ensures begins { result ≡ true → shape_of (table_event events.now start) ≡ EventShape.StartDictionary }
+    ensures begins { result ≡ true
+        → shape_of (table_event events.now start) ≡ EventShape.StartDictionary }
     ensures repeats { TestsRepeats events.now start result }
 {
     let EventShape::StartDictionary = events.kind_at(start) else {

@@ -44,8 +44,9 @@ impl EventTable<'static> {
         self.push_long(LongScalar::encode(alloc, text)?)
     }
 
-    /// Appends a copy of an event that isn't a scalar of at most eight bytes. A string or data that is
-    /// equal to a stored one isn't copied. An owned one is moved, and so its hash is computed only once.
+    /// Appends a copy of an event that isn't a scalar of at most eight bytes. A string or data that
+    /// is equal to a stored one isn't copied. An owned one is moved, and so its hash is computed
+    /// only once.
     ///
     /// The function is inlined because most callers pass an event whose kind they know.
     ///
