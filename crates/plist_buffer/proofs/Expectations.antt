@@ -89,16 +89,12 @@ all_again expects = search rules
 tests_whole : (es : List PlainEvent) (expects : List Expect) → expected_after es ≡ Some expects
     → TestsWhole (is_none (innermost expects)) es
 tests_whole es [] w = complete_of_whole es (bracketed es w)
-tests_whole es (x ∷ rest) w = λ whole.
-    let q
-    = sym (all_taken es _ whole.1) ∙ w in cc
+tests_whole es (x ∷ rest) w = λ whole. cc (all_taken es _ whole.1)
 
 -- if the buffered events are those of a tree, nothing more is expected
 pub whole_of_tree : (s : EventBuffer) → AreTreeEvents (buffered_events s) → is_whole s ≡ true
 whole_of_tree s whole =
-    let taken = sym (all_taken (buffered_events s) _ whole.1) ∙ s.wanted.all in
-    let none : all_expected s.expects (expected_inside (buffered_events s)) ≡ [] = cc in
-    ap is_none (s.wanted.first ∙ ap innermost none)
+    cc (all_taken (buffered_events s) _ whole.1, s.wanted.all, s.wanted.first)
 
 -- the length of a start doesn't matter
 same_wants : (es : List PlainEvent) (e : PlainEvent)

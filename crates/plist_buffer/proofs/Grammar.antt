@@ -48,8 +48,7 @@ bracketed held p =
 pub all_taken : (held : List PlainEvent) (t : Tree) → AreAlike held (bracketing t)
     → expected_after held ≡ Some []
 all_taken held t p =
-    wanted_alike held (bracketing t) p
-    ∙ ap expected_after (sym (append-nil (bracketing t))) ∙ steps_tree t [] []
+    cc (wanted_alike held (bracketing t) p, append-nil (bracketing t), steps_tree t [] [])
 
 pub none_is : {A : Type 0} (o : Option A) (t : A) → o ≡ None → o ≡ Some t → ⊥
 none_is o t p q = cc

@@ -1,5 +1,5 @@
 -- Which events fill a stack of expectations.
-use Rattle.std.proofs.Common.{◌≡◌, ℕ, true, List, [], ◌∷◌, ◌++◌, Option, Some, None, map, refl, ap, ◌∙◌, append_assoc, subst, option_and_then}
+use Rattle.std.proofs.Common.{◌≡◌, ℕ, true, List, [], ◌∷◌, ◌++◌, Option, Some, None, map, refl, ap, ◌∙◌, append_assoc, option_and_then, arith}
 use Rattle.plist_base.specs.Events.{PlainEvent, StartArray, StartDictionary, EndCollection, ScalarEvent}
 use Rattle.plist_base.specs.Trees as trees
 use Rattle.plist_base.specs.Trees.{Tree, Leaf, Array, Dictionary, Trees, NoTrees, TreeAnd, Members, NoMembers, MemberAnd}
@@ -24,7 +24,7 @@ Fills (Pairs ∷ rest) es =
     × Fills rest left
 
 refill : {a b : Stack} (m : List PlainEvent) → Some a ≡ Some b → Fills b m → Fills a m
-refill {a} {b} m p f = let same : b ≡ a = cc in subst (λ s. Fills s m) same f
+refill m p f = grind arith
 
 no_stack : {A : Type 0} (b : Stack) → None ≡ Some b → A
 no_stack b e = cc
