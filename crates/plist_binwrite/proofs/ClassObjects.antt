@@ -1,8 +1,7 @@
 -- A plan by classes is a numbering: each number has one object.
 use Rattle.std.proofs.Common.{◌≡◌, ℕ, ◌+◌, ◌-◌, ◌<◌, Bool, nat_eq, List, ◌∷◌, get_or, refl, ap, sym, ◌∙◌}
 use Rattle.plist_base.specs.Events.{PlainEvent}
-use Rattle.plist_base.specs.Trees as trees
-use Rattle.plist_base.specs.Trees.{Scalar, Tree, Leaf, Array, Dictionary, Trees, NoTrees, TreeAnd, Members, NoMembers, MemberAnd}
+use Rattle.plist_base.specs.Trees.{Tree, Leaf, Array, Dictionary, Trees, NoTrees, TreeAnd, Members, NoMembers, MemberAnd}
 use Rattle.plist_base.specs.Object as obj
 use Rattle.plist_base.specs.Object.{Object}
 use Rattle.plist_binwrite.specs.Classes.{AreClasses, object_of, Describes}
@@ -20,21 +19,6 @@ use Rattle.plist_binwrite.proofs.Unfold.{references, pairs}
 abbrev pub same_class : (class : ℕ → ℕ) → ℕ × Tree → ℕ × Tree → Bool
 same_class class a b = nat_eq (class a.0) (class b.0)
 
-pub the_scalar : (x y : Scalar) → obj.Scalar x ≡ obj.Scalar y → x ≡ y
-the_scalar x y p = cc
-
-pub the_text : (k l : List ℕ) → trees.String k ≡ trees.String l → k ≡ l
-the_text k l p = cc
-
-pub the_items : (a b : List ℕ) → obj.Array a ≡ obj.Array b → a ≡ b
-the_items a b p = cc
-
-pub the_pairs : (a b : List (ℕ × ℕ)) → obj.Dictionary a ≡ obj.Dictionary b → a ≡ b
-the_pairs a b p = cc
-
-pub cons_is : {A : Type 0} (a b : A) (xs ys : List A) → a ∷ xs ≡ b ∷ ys → (a ≡ b) × (xs ≡ ys)
-cons_is a b xs ys p = (cc, cc)
-
 module _ {es : List PlainEvent} {class : ℕ → ℕ} (c : AreClasses es class) where
   module _ (num : ℕ → ℕ)
       (same : (t u : Tree) (p q : ℕ) → OccursAt es t p → OccursAt es u q → class p ≡ class q
@@ -45,49 +29,43 @@ module _ {es : List PlainEvent} {class : ℕ → ℕ} (c : AreClasses es class) 
           → class p ≡ class q
           → (t ≡ u) × (object_of num t p ≡ object_of num u q)
       one_object (Leaf x) (Leaf y) p q s r e =
-          let k = c.object (Leaf x) (Leaf y) p q s r e in (ap Leaf (the_scalar x y k), k)
+          let k = c.object (Leaf x) (Leaf y) p q s r e in (cc, cc)
       one_object (Array ts) (Array us) p q s r e =
-          let k = one_items ts us (p + 1) (q + 1) (occurs_items s) (occurs_items r)
-          (the_items _ _ (c.object (Array ts) (Array us) p q s r e)) in
+          let o = c.object (Array ts) (Array us) p q s r e in
+          let k = one_items ts us (p + 1) (q + 1) (occurs_items s) (occurs_items r) (cc) in
           (ap Array k.0, ap obj.Array k.1)
       one_object (Dictionary ms) (Dictionary ns) p q s r e =
-          let k = one_pairs ms ns (p + 1) (q + 1) (occurs_pairs s) (occurs_pairs r)
-          (the_pairs _ _ (c.object (Dictionary ms) (Dictionary ns) p q s r e)) in
+          let o = c.object (Dictionary ms) (Dictionary ns) p q s r e in
+          let k = one_pairs ms ns (p + 1) (q + 1) (occurs_pairs s) (occurs_pairs r) (cc) in
           (ap Dictionary k.0, ap obj.Dictionary k.1)
-      one_object t u p q s r e = let k = c.object t u p q s r e in cc
+      one_object t u p q s r e = let k = c.object t u p q s r e in (cc, cc)
 
       one_items : (ts us : Trees) (p q : ℕ) → ItemsOccurAt es ts p → ItemsOccurAt es us q
           → references class ts p ≡ references class us q → (ts ≡ us)
           × (references num ts p ≡ references num us q)
       one_items NoTrees NoTrees p q s r e = (refl, refl)
-      one_items NoTrees (TreeAnd u us) p q s r e = cc
-      one_items (TreeAnd t ts) NoTrees p q s r e = cc
       one_items (TreeAnd t ts) (TreeAnd u us) p q s r e =
-          let h = cons_is _ _ _ _ e in
-          let k = one_object t u p q (occurs_item s) (occurs_item r) h.0 in
-          let n = same t u p q (occurs_item s) (occurs_item r) h.0 in
-          let more = one_items ts us (p + event_count t) (q + event_count u) (occurs_next s)
-          (occurs_next r) h.1 in
-          ((λ i. TreeAnd (k.0 i) (more.0 i)), λ i. n i ∷ more.1 i)
+          let k = one_object t u p q (occurs_item s) (occurs_item r) (cc) in
+          let n = same t u p q (occurs_item s) (occurs_item r) (cc) in
+          let more = one_items ts us _ _ (occurs_next s) (occurs_next r) (cc) in
+          (cc, cc)
+      one_items ts us p q s r e = (cc, cc)
 
       one_pairs : (ms ns : Members) (p q : ℕ) → PairsOccurAt es ms p → PairsOccurAt es ns q
           → pairs class ms p ≡ pairs class ns q → (ms ≡ ns) × (pairs num ms p ≡ pairs num ns q)
       one_pairs NoMembers NoMembers p q s r e = (refl, refl)
-      one_pairs NoMembers (MemberAnd l u ns) p q s r e = cc
-      one_pairs (MemberAnd k t ms) NoMembers p q s r e = cc
       one_pairs (MemberAnd k t ms) (MemberAnd l u ns) p q s r e =
-          let h = cons_is _ _ _ _ e in
-          let first = ap (λ d. d.0) h.0 in
-          let second = ap (λ d. d.1) h.0 in
-          let key = the_text k l (the_scalar _ _
-          (c.object (Leaf (trees.String k)) (Leaf (trees.String l)) p q
-          (occurs_key s) (occurs_key r) first)) in
+          let one : ◌≡◌ {A = ℕ × ℕ} (class p, class (p + 1)) (class q, class (q + 1)) = cc in
+          let first = ap (λ d. d.0) one in
+          let second = ap (λ d. d.1) one in
+          let o = c.object _ _ p q (occurs_key s) (occurs_key r) first in
+          let key : k ≡ l = cc in
           let m = same _ _ p q (occurs_key s) (occurs_key r) first in
           let j = one_object t u (p + 1) (q + 1) (occurs_value s) (occurs_value r) second in
-          let n = same t u (p + 1) (q + 1) (occurs_value s) (occurs_value r) second in
-          let more = one_pairs ms ns (p + 1 + event_count t) (q + 1 + event_count u) (occurs_next_pair s)
-          (occurs_next_pair r) h.1 in
+          let n = same t u _ _ (occurs_value s) (occurs_value r) second in
+          let more = one_pairs ms ns _ _ (occurs_next_pair s) (occurs_next_pair r) (cc) in
           ((λ i. MemberAnd (key i) (j.0 i) (more.0 i)), λ i. (m i, n i) ∷ more.1 i)
+      one_pairs ms ns p q s r e = (cc, cc)
 
   pub sound : (t u : Tree) (p q : ℕ) → OccursAt es t p → OccursAt es u q → class p ≡ class q → t ≡ u
   sound t u p q s r e = (one_object _ (λ t u p q s r e. e) t u p q s r e).0

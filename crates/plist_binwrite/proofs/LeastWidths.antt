@@ -12,39 +12,20 @@ use Rattle.plist_binwrite.specs.Forms.{least_width}
 
 -- ---- the least width
 
-pub width_1 : (n : ℕ) → n < 256 → least_width n ≡ 1
-unfolding least_width
-width_1 n h = rw (lt-ltb n _ h) refl
-
-pub width_2 : (n : ℕ) → 256 ≤ n → n < 65536 → least_width n ≡ 2
-unfolding least_width
-width_2 n l h = rw (le-ltb n _ l, lt-ltb n _ h) refl
-
-pub width_4 : (n : ℕ) → 65536 ≤ n → n < 4294967296 → least_width n ≡ 4
-unfolding least_width
-width_4 n l h = rw (le-ltb n (2 ^ 8) (omega arith), le-ltb n _ l, lt-ltb n _ h) refl
-
-pub width_8 : (n : ℕ) → 4294967296 ≤ n → least_width n ≡ 8
-unfolding least_width
-width_8 n l =
-    rw (le-ltb n (2 ^ 8) (omega arith), le-ltb n (2 ^ 16) (omega arith), le-ltb n _ l) refl
-
-pub ruleset widths = (width_1, width_2, width_4, width_8)
-
 -- what is true of 1, 2, 4 and 8, each if it is wide enough, is true of the least width
 pub at_width : (n : ℕ) (P : ℕ → Type 0) → (n < 256 ^ 1 → P 1) → (n < 256 ^ 2 → P 2)
     → (n < 256 ^ 4 → P 4) → P 8 → P (least_width n)
-at_width n P one two four eight =
-    elim (cases_lt n 256) [
-      | inl a ↦ rw (width_1 n a) (one (omega (arith, a)))
-      | inr a ↦ elim (cases_lt n _) [
-        | inl b ↦ rw (width_2 n a b) (two (omega (arith, b)))
-        | inr b ↦ elim (cases_lt n _) [
-          | inl d ↦ rw (width_4 n b d) (four (omega (arith, d)))
-          | inr d ↦ rw (width_8 n d) eight
-        ]
-      ]
-    ]
+unfolding least_width
+at_width n P one two four eight = elim (cases_lt n (2 ^ 8)) [
+  | inl a ↦ rw (lt-ltb n _ a) (one a)
+  | inr a ↦ rw (le-ltb n _ a) (elim (cases_lt n (2 ^ 16)) [
+    | inl b ↦ rw (lt-ltb n _ b) (two b)
+    | inr b ↦ rw (le-ltb n _ b) (elim (cases_lt n (2 ^ 32)) [
+      | inl d ↦ rw (lt-ltb n _ d) (four d)
+      | inr d ↦ rw (le-ltb n _ d) eight
+    ])
+  ])
+]
 
 pub width_holds : (n : ℕ) → n < 2 ^ 64 → n < 256 ^ least_width n
 width_holds n h = at_width n (λ w. n < 256 ^ w) (λ a. a) (λ a. a) (λ a. a) (omega arith)
@@ -72,21 +53,11 @@ number_after : (w m n : ℕ) → number_from_digits_after 256 m (bytes_high_firs
     ≡ m * 256 ^ w + n % 256 ^ w
 number_after zero m n = let z : n % 256 ^ 0 ≡ 0 = omega arith in omega arith
 number_after (suc w) m n =
-    let next = number_after w _ n in
-    let split = high_digit w n in
-    let power = pow-succ' 256 w in
-    let spread : (m * 256 + byte_at w n) * 256 ^ w
-    ≡ m * (256 * 256 ^ w) + byte_at w n * 256 ^ w = grind arith in
-    next ∙ ap (λ k. k + n % 256 ^ w) spread
-    ∙ (let e : m * (256 * 256 ^ w) + byte_at w n * 256 ^ w + n % 256 ^ w
-    ≡ m * 256 ^ suc w + n % 256 ^ suc w = rw (power)
-    (let s = rw power at split in omega (arith, s)) in e)
+    rw (number_after w _ n, high_digit w n, pow-succ' 256 w) (grind arith)
 
 -- a number that is written is read back
 pub number_back : (w n : ℕ) → n < 256 ^ w → number_of (bytes_high_first w n) ≡ n
-number_back w n h =
-    let small = mod-eq_of_lt h in
-    number_after w 0 n ∙ (let e : 0 * 256 ^ w + n % 256 ^ w ≡ n = omega arith in e)
+number_back w n h = omega (arith, number_after w 0 n, mod-eq_of_lt h)
 
 -- ---- numbers in the highest bytes of another one
 

@@ -29,39 +29,37 @@ pub record AllOnce (count : ℕ) (order : List ℕ) : Type 0 where
 pub length-magic : (xs : List ℕ) → length (magic ++ xs) ≡ 8 + length xs
 length-magic xs = length-append magic xs
 
--- object k lies among these bytes, of which the first is at the offset `at`
-pub record Lies (w : ℕ) (objects : ℕ → Object) (offsets bytes : List ℕ) (at k : ℕ) : Type 0 where
-  pub before : List ℕ
-  pub after : List ℕ
-  pub is : bytes ≡ before ++ (form w (objects k) ++ after)
-  pub at_place : get_or offsets k 0 ≡ at + length before
-  pub good : IsWritable w (objects k)
-
 module _ (w : ℕ) (objects : ℕ → Object) where
-  found : (offsets order : List ℕ) (at k : ℕ) → Laid w objects offsets order at → list_any
-      (eqb k) order ≡ true → Lies w objects offsets (object_table w objects order) at k
-  found offsets [] at k l any = cc
-  found offsets (j ∷ order) at k l any =
+  -- object k lies among these bytes
+  pub record Lies (offsets bytes : List ℕ) (k : ℕ) : Type 0 where
+    pub before : List ℕ
+    pub after : List ℕ
+    pub is : bytes ≡ before ++ (form w (objects k) ++ after)
+    pub at_place : get_or offsets k 0 ≡ length before
+    pub good : IsWritable w (objects k)
+
+  found : (offsets order front more : List ℕ) (k : ℕ) → Laid w objects offsets order (length front)
+      → list_any (eqb k) order ≡ true
+      → Lies offsets (front ++ (object_table w objects order ++ more)) k
+  found offsets [] front more k l any = cc
+  found offsets (j ∷ order) front more k l any =
+      let body = form w (objects j) in
       elim (eqb_tells k j) [
-        | inl e ↦ rw e.1
-            (record {
-              before = [];
-              after = object_table w objects order;
-              is = refl;
-              at_place = omega
-                  (arith, l.0);
-              good = l.1;
-            })
-        | inr d ↦ let f = found offsets order _ k l.2
+        | inl e ↦ rw e.1 (record {
+          before = front;
+          after = object_table w objects order ++ more;
+          is = simp append_assoc;
+          at_place = l.0;
+          good = l.1;
+        })
+        | inr d ↦
+            let f = found offsets order (front ++ body) more k (rw length-append l.2)
             (sym (ap (λ b. b || list_any (eqb k) order) d.0) ∙ any) in
             record {
-              before = form w (objects j) ++ f.before;
+              before = f.before;
               after = f.after;
-              is =
-                  ap (λ l. form w (objects j) ++ l) f.is
-                  ∙ sym (append_assoc (form w (objects j)) f.before
-                  (form w (objects k) ++ f.after));
-              at_place = omega (arith, f.at_place, length-append (form w (objects j)) f.before);
+              is = simp append_assoc (simp append_assoc at f.is);
+              at_place = f.at_place;
               good = f.good;
             }
       ]
@@ -69,31 +67,19 @@ module _ (w : ℕ) (objects : ℕ → Object) where
   module _ (order offsets : List ℕ) (k : ℕ) (l : Laid w objects offsets order 8)
       (any : list_any (eqb k) order ≡ true) where
     -- object k stays where it is when something is appended
-    pub object_there : (more : List ℕ)
-        → Lies w objects offsets (laid_out w objects order ++ more) 0 k
-    object_there more =
-        let f = found _ _ 8 k l any in
-        record {
-          before = magic ++ f.before;
-          after = f.after ++ more;
-          is =
-              ap (λ x. (magic ++ x) ++ more) f.is
-              ∙ append_assoc (magic ++ f.before) (form w (objects k) ++ f.after) more
-              ∙ ap (λ x. (magic ++ f.before) ++ x) (append_assoc (form w (objects k)) f.after more);
-          at_place = omega (arith, f.at_place, length-magic f.before);
-          good = f.good;
-        }
+    pub object_there : (more : List ℕ) → Lies offsets (laid_out w objects order ++ more) k
+    object_there more = rw append_assoc (found offsets order magic more k l any)
 
     -- its offset is within the file
     pub found_place : get_or offsets k 0 ≤ length (laid_out w objects order)
     found_place =
-        let f = found offsets order 8 k l any in
+        let o = object_there [] in
         omega (
           arith,
-          f.at_place,
-          length-magic (object_table w objects order),
-          ap length f.is,
-          length-append f.before (form w (objects k) ++ f.after),
+          o.at_place,
+          ap length o.is,
+          length-append (laid_out w objects order) [],
+          length-append o.before (form w (objects k) ++ o.after),
         )
 
   pub laid_snoc : (offsets order : List ℕ) (at k v : ℕ) → k < length offsets

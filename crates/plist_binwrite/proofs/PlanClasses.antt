@@ -22,7 +22,7 @@ use Rattle.plist_buffer.proofs.SameScalars.{tells_both}
 use Rattle.plist_buffer.proofs.TreeOccurrences.{occurs_whole}
 use Rattle.plist_buffer.proofs.TreeStarts.{begins, occurs_in}
 use Rattle.plist_binwrite.proofs.NumberingSteps.{known_number, numbers_below}
-use Rattle.plist_binwrite.proofs.Totals.{count_below, total, total_all, unique_member, unique_distinct, total-map, total_equal, total_one, total_sum}
+use Rattle.plist_binwrite.proofs.Totals.{count_below, total, total_all, unique_member, unique_distinct, total_map, total_one, total_sum}
 use Rattle.plist_buffer.proofs.Uniques.{all_from, all_unique, members_self, member_has, unique_seen}
 
 -- ---- the numbers of a tree's positions
@@ -63,8 +63,7 @@ module _ {es : List PlainEvent} (whole : Tree) (e : es ≡ lengthless whole) (cl
   total_is w v same =
       let kept = unique_seen (same_class class) eqb number (Stands es) alike _ stand in
       sym (total_numbers w) ∙ ap (total w) (sym kept)
-      ∙ total-map number w (representatives class whole)
-      ∙ total_equal _ v (representatives class whole) (all_from _ (Stands es) same _
+      ∙ total_map number w v (representatives class whole) (all_from _ (Stands es) same _
       (all_unique (Stands es) (same_class class) (positions whole 0) stand))
 
   -- there are as many numbers as classes

@@ -7,7 +7,7 @@ use Rattle.std.proofs.lemmas.List.Elements.{All-from_get_or, recursion_from_All}
 use Rattle.std.proofs.lemmas.Option.{slice_get-map, slice_get-get_or}
 use Rattle.plist_base.specs.Bracketing.{bracketing, lengthless, AreAlike, AreTreeEvents}
 use Rattle.plist_base.specs.Trees.{Tree}
-use Rattle.plist_base.specs.Container.{Head, head_of}
+use Rattle.plist_base.specs.Container.{head_of}
 use Rattle.plist_base.specs.Object.{Object, object_in}
 use Rattle.plist_base.specs.Unfolding.{TableEntry, table_of, unfolding_of, until_fault, items_with, items_of_file, visits_of, visits_with, visits}
 use Rattle.plist_base.proofs.Tables.{length-table_of}
@@ -27,7 +27,7 @@ use Rattle.plist_binwrite.proofs.PlanClasses.{bound_is_count, numbered_count, nu
 use Rattle.plist_binwrite.proofs.NumberingSteps.{size_told}
 use Rattle.plist_binwrite.proofs.ObjectOffsets.{AllOnce, all_once, length-magic, found_place, object_there, total_bodies}
 use Rattle.plist_binwrite.proofs.Reading.{form_read}
-use Rattle.plist_binwrite.proofs.ReadingNumbers.{with_table_and_trailer, drop_front, width_positive, last, length_closed, front_is, head_is}
+use Rattle.plist_binwrite.proofs.ReadingNumbers.{whole, drop_front, width_positive, last, length_closed, front_is, head_is}
 use Rattle.plist_buffer.proofs.TreeOccurrences.{occurs_whole}
 use Rattle.plist_binwrite.proofs.Unfold.{Shows, unfolds_whole, no_fault}
 use Rattle.plist_binwrite.proofs.LeastWidths.{width_holds}
@@ -87,13 +87,16 @@ module _ {plan : FilePlan} (r : IsFilePlan plan) {objects : ℕ → Object} {ord
   short : length file < 2 ^ 64
   short = omega (arith, place_is, fits)
 
-  whole : AllOnce (length offsets) order
-  whole = rw l.long (all_once l all)
+  each_once : AllOnce (length offsets) order
+  each_once = rw l.long (all_once l all)
 
   -- ---- the contents of the file's offset table
 
+  abbrev bytes : List ℕ
+  bytes = whole body offsets
+
   abbrev before : List ℕ
-  before = take (last body offsets) (with_table_and_trailer file offsets)
+  before = take (last body offsets) bytes
 
   abbrev entries : List TableEntry
   entries = table_of before w offsets
@@ -101,13 +104,12 @@ module _ {plan : FilePlan} (r : IsFilePlan plan) {objects : ℕ → Object} {ord
   entry_read : (k : ℕ) → k < length offsets
       → slice_get entries k ≡ Some (record { place = get_or offsets k 0; object = objects k })
   entry_read k h =
-      let o = object_there w objects order offsets k laid ((whole.numbered k).1 h)
+      let o = object_there w objects order offsets k laid ((each_once.numbered k).1 h)
       (table_form (least_width (length file)) offsets) in
       slice_get-map _ offsets k ∙ ap (option_map _) (slice_get-get_or offsets k 0 h)
       ∙ ap (λ object. Some (record { place = get_or offsets k 0; object = object }))
       (ap (λ bytes. object_in w (drop (get_or offsets k 0) bytes)) (front_is body offsets ∙ o.is)
-      ∙ ap (object_in w) (drop_front o.before (form w (objects k) ++ o.after) _
-      (omega (arith, o.at_place)))
+      ∙ ap (object_in w) (drop_front o.before (form w (objects k) ++ o.after) _ (sym o.at_place))
       ∙ form_read w (width_positive (length offsets - 1)) (objects k) o.after o.good)
 
   fit : AllFit (least_width (length file)) offsets
@@ -115,11 +117,11 @@ module _ {plan : FilePlan} (r : IsFilePlan plan) {objects : ℕ → Object} {ord
       let Fits : ℕ → Type 0 = λ n. n < 256 ^ least_width (length file) in
       recursion_from_All Fits offsets (All-from_get_or Fits offsets 0 (λ k h. omega (
         arith,
-        found_place w objects order offsets k laid ((whole.numbered k).1 h),
+        found_place w objects order offsets k laid ((each_once.numbered k).1 h),
         width_holds (length file) short,
       )))
 
-  head_found : head_of (with_table_and_trailer file offsets) ≡ Ok
+  head_found : head_of bytes ≡ Ok
       (record { trailer = last body offsets; reference_width = w; root = 0; places = offsets })
   head_found = head_is body offsets (omega (arith, l.long, r.numbered.so_far.small)) short fit
 
@@ -139,21 +141,17 @@ module _ {plan : FilePlan} (r : IsFilePlan plan) {objects : ℕ → Object} {ord
       t (last body offsets) (occurs_whole e) in
       rw (buffer, r.numbered.root) at all
 
-  items_are : items_of_file (with_table_and_trailer file offsets) ≡ map Ok (bracketing t)
+  items_are : items_of_file bytes ≡ map Ok (bracketing t)
   unfolding items_of_file
   items_are =
-      ap (items_with (with_table_and_trailer file offsets)) head_found ∙ ap until_fault shows.items
+      ap (items_with bytes) head_found ∙ ap until_fault shows.items
       ∙ no_fault (bracketing t)
 
-  visits_are : visits (with_table_and_trailer file offsets) ≡ map (λ one. num one.0) (collections_in t)
+  visits_are : visits bytes ≡ map (λ one. num one.0) (collections_in t)
   unfolding visits
-  visits_are = ap (visits_with (with_table_and_trailer file offsets)) head_found ∙ shows.visits
+  visits_are = ap (visits_with bytes) head_found ∙ shows.visits
 
-  ok_same : (a b : Head) → Ok a ≡ head_of (with_table_and_trailer file offsets)
-      → head_of (with_table_and_trailer file offsets) ≡ Ok b → b ≡ a
-  ok_same a b p q = cc
-
-  pub finished : IsFileBy class t (with_table_and_trailer file offsets)
+  pub finished : IsFileBy class t bytes
   finished = record {
     numbers = num;
     apart = λ u v p q s o. number_apart r.numbered u v p q (rw e s) (rw e o);
@@ -163,14 +161,14 @@ module _ {plan : FilePlan} (r : IsFilePlan plan) {objects : ℕ → Object} {ord
       objects = objects;
       offsets = offsets;
       distinct = l.distinct;
-      numbered = whole.numbered;
+      numbered = each_once.numbered;
       laid = laid;
       is = refl;
       items = items_are;
     };
     count =
-        λ head is. ap (λ (h : Head). length h.places) (ok_same _ head (sym head_found) is)
-        ∙ count_is;
+        λ head is. let same : head.places ≡ offsets = cc (head_found, is) in
+        ap length same ∙ count_is;
     size =
         length_closed body offsets
         ∙ (λ i. place_is i + count_is i * least_width (place_is i) + 32);

@@ -1,5 +1,5 @@
 -- How each form is read back as its object, whatever follows.
-use Rattle.std.proofs.Common.{◌≡◌, inl, inr, ℕ, ◌+◌, ◌-◌, ◌/◌, ◌%◌, ◌≤◌, List, [], ◌++◌, length, flat_map, ap, ◌∙◌, arith, length-append, suc, ◌*◌, ◌^◌, ◌<◌, true, false, cond, ◌∷◌, refl}
+use Rattle.std.proofs.Common.{◌≡◌, inl, inr, ℕ, List, [], ◌++◌, length, flat_map, ap, ◌∙◌, arith, length-append, suc, ◌*◌, ◌^◌, ◌<◌, true, false, cond, ◌∷◌, refl}
 use Rattle.std.specs.Char.Escape.{encode_utf16}
 use Rattle.std.proofs.lemmas.Bool.{lt-ltb, le-ltb, cases_lt, and_parts}
 use Rattle.std.proofs.lemmas.Grind.{flat_map-append}
@@ -20,13 +20,6 @@ use Rattle.plist_base.proofs.Layouts.{layout-data, layout-text, layout-wide_text
 use Rattle.plist_buffer.proofs.TextUnits.{few_units_in, units_are}
 use Rattle.plist_buffer.proofs.Uniques.{all_both}
 use Rattle.plist_binwrite.proofs.ReadingNumbers.{counted, front, integer_read, length-table, numbers_back, uid_read}
-
--- these are the bytes of a surrogate pair
-pub pair_units : (c : ℕ) → 0x1_0000 ≤ c
-    → bytes_high_first 2 (0xd800 + (c - 0x1_0000) / 0x400)
-    ++ bytes_high_first 2 (0xdc00 + (c - 0x1_0000) % 0x400)
-    ≡ table_form 2 (encode_utf16 c)
-pair_units c high = rw (le-ltb c _ high) refl
 
 -- ---- strings
 

@@ -173,15 +173,12 @@ numbers_back w xs positive fit =
     (λ k h. number_there w xs k fit h)))
 
 width_is : (n : ℕ) → is_width (least_width n) ≡ true
-width_is n = at_width n (λ w. is_width w ≡ true) (λ a. refl) (λ a. refl) (λ a. refl) refl
+unfolding least_width
+width_is n = grind arith
 
 pub width_positive : (n : ℕ) → 0 < least_width n
-width_positive n =
-    at_width n (λ w. 0 < w) (λ a. omega arith) (λ a. omega arith) (λ a. omega arith) (omega arith)
-
--- a file with its offset table and trailer
-abbrev pub with_table_and_trailer : (file offsets : List ℕ) → List ℕ
-with_table_and_trailer file offsets = file ++ table_and_trailer offsets (length file)
+unfolding least_width
+width_positive n = grind arith
 
 trailer_back : (ow rf count at : ℕ) → count < 2 ^ 64 → at < 2 ^ 64
     → trailer_in (0 ∷ 0 ∷ 0 ∷ 0 ∷ 0 ∷ 0 ∷ ow ∷ rf
@@ -229,46 +226,42 @@ module _ (body offsets : List ℕ) where
   abbrev pub last : ℕ
   last = length file + length offsets * wide
 
-  length_front : length (file ++ table) ≡ last
-  length_front =
-      omega (arith, length-append file table, length-table wide offsets)
+  -- the file with its offset table and trailer
+  abbrev pub whole : List ℕ
+  whole = file ++ table_and_trailer offsets (length file)
 
-  regroup : with_table_and_trailer file offsets ≡ (file ++ table) ++ trailer
+  length_front : length (file ++ table) ≡ last
+  length_front = omega (arith, length-append file table, length-table wide offsets)
+
+  regroup : whole ≡ (file ++ table) ++ trailer
   regroup = sym (append_assoc file _ _)
 
-  pub length_closed : length (with_table_and_trailer file offsets) ≡ last + 32
+  pub length_closed : length whole ≡ last + 32
   length_closed =
       let n : length trailer ≡ 32 = refl in
       omega (arith, n, ap length regroup, length-append (file ++ table) trailer, length_front)
 
-  pub front_is : take last (with_table_and_trailer file offsets) ≡ file ++ table
+  pub front_is : take last whole ≡ file ++ table
   front_is = ap (take _) regroup ∙ take_front _ trailer last length_front
 
   pub head_is : length offsets < 2 ^ 64 → length file < 2 ^ 64 → AllFit wide offsets
-      → head_of (with_table_and_trailer file offsets)
-      ≡ Ok (record {
+      → head_of whole ≡ Ok (record {
         trailer = last;
-        reference_width = reference_width
-            (length offsets);
+        reference_width = reference_width (length offsets);
         root = 0;
         places = offsets;
       })
   head_is few short fit =
-      let at : length (with_table_and_trailer file offsets) - 32 ≡ last = omega (arith, length_closed) in
-      let back : numbers_spelled wide
-      (take (length offsets * wide) (drop (length file) (with_table_and_trailer file offsets)))
-      ≡ offsets
-      = ap (λ l. numbers_spelled wide (take (length offsets * wide) l))
-      (drop-append_seam file (table ++ trailer))
-      ∙ ap (numbers_spelled wide) (take_front table trailer _ (length-table wide offsets))
-      ∙ numbers_back wide offsets (width_positive (length file)) fit in
-      head_whole (with_table_and_trailer file offsets) refl (omega (arith, length_closed))
-      ∙ (λ i. head_with (with_table_and_trailer file offsets) (at i) (trailer_in (drop (at i) (with_table_and_trailer file offsets))))
-      ∙ ap (λ r. head_with (with_table_and_trailer file offsets) last (trailer_in r))
-      (ap (drop last) regroup ∙ drop_front (file ++ table) trailer last length_front)
-      ∙ ap (head_with (with_table_and_trailer file offsets) last)
-      (trailer_back wide (reference_width (length offsets)) (length offsets)
-      (length file) few short)
-      ∙ head_with_is (with_table_and_trailer file offsets) offsets last wide
-      (reference_width (length offsets)) (length offsets) (length file) (width_is (length file))
-      (width_is (length offsets - 1)) (omega arith) back
+      let at : length whole - 32 ≡ last = omega (arith, length_closed) in
+      let end : drop last whole ≡ trailer =
+      ap (drop last) regroup ∙ drop_front (file ++ table) trailer last length_front in
+      let back : numbers_spelled wide (take (length offsets * wide) (drop (length file) whole))
+      ≡ offsets = rw (
+        drop-append_seam file (table ++ trailer),
+        take_front table trailer _ (length-table wide offsets),
+      ) (numbers_back wide offsets (width_positive (length file)) fit) in
+      head_whole whole refl (omega (arith, length_closed))
+      ∙ rw (at, end) (ap (head_with whole last)
+      (trailer_back wide (reference_width (length offsets)) (length offsets) (length file) few short)
+      ∙ head_with_is whole offsets last wide (reference_width (length offsets)) (length offsets)
+      (length file) (width_is (length file)) (width_is (length offsets - 1)) (omega arith) back)

@@ -1,11 +1,10 @@
 -- Totals over distinct keys.
-use Rattle.std.proofs.Common.{◌≡◌, ◌⊎◌, inl, inr, ℕ, zero, suc, ◌+◌, ◌<◌, ◌≤◌, Bool, true, false, not, cond, ◌||◌, ◌&&◌, eqb, List, [], ◌∷◌, length, map, refl, ap, sym, ◌∙◌, subst, arith}
-use Rattle.std.specs.List.{AllByRecursion, IsDistinct, filter, sum_by}
+use Rattle.std.proofs.Common.{◌≡◌, ◌⊎◌, inl, inr, ℕ, zero, suc, ◌+◌, ◌<◌, ◌≤◌, Bool, true, false, cond, ◌||◌, eqb, List, [], ◌∷◌, length, map, refl, ap, sym, ◌∙◌, subst, arith}
+use Rattle.std.specs.List.{AllByRecursion, IsDistinct, sum_by}
 use Rattle.std.specs.Set.{is_member, unique_keys}
-use Rattle.std.proofs.lemmas.Bool.{or_parts, or_left, and_parts, and_from, eq-eqb, ne_eqb, eqb-true, eqb-false, not-true, not_from_false}
-use Rattle.std.proofs.lemmas.Cmp.{nat_eq_equiv}
-use Rattle.std.proofs.lemmas.List.Elements.{All-filter, All-from_recursion, recursion_from_All}
-use Rattle.std.proofs.lemmas.Map.Made.{is_member-filter}
+use Rattle.std.proofs.lemmas.Bool.{cases_Bool, or_parts, or_left, or_right, eq-eqb, ne_eqb}
+use Rattle.std.proofs.lemmas.List.Elements.{All-from_recursion}
+use Rattle.std.proofs.lemmas.List.Folds.{list_any_none}
 use Rattle.std.proofs.lemmas.Bool.Decides.{eqb_tells}
 use Rattle.std.proofs.lemmas.List.Recursion.{is_sum_by}
 use Rattle.plist_binwrite.specs.inner.Numbering.{total_below}
@@ -32,88 +31,54 @@ pub count_below : (n : ℕ) → total_below (λ x. 1) n ≡ n
 count_below zero = refl
 count_below (suc n) = omega (arith, count_below n)
 
--- the numbers of a list except this one
-abbrev others : ℕ → List ℕ → List ℕ
-others x ys = filter (λ y. not (eqb x y)) ys
+-- one weight is greater
+one_more : (f g : ℕ → ℕ) (x more n : ℕ) → x < n → g x ≡ more + f x
+    → ((k : ℕ) → (k ≡ x → ⊥) → g k ≡ f k) → total_below g n ≡ more + total_below f n
+one_more f g x more zero low here other = absurd (omega (arith, low))
+one_more f g x more (suc n) low here other = elim (eqb_tells n x) [
+  | inl s ↦
+      let at : g n ≡ more + f n = rw s.1 here in
+      omega (arith, at, total_below_same g f n (λ k h. other k (λ e. omega (arith, e, h, s.1))))
+  | inr d ↦ omega (
+    arith,
+    other n d.1,
+    one_more f g x more n (omega (arith, low, d.1)) here other,
+  )
+]
 
-none_out : (x : ℕ) (ys : List ℕ) → AllByRecursion (λ y. eqb x y ≡ false) ys → others x ys ≡ ys
-none_out x [] a = refl
-none_out x (y ∷ ys) a = rw a.0 (ap (λ l. y ∷ l) (none_out x ys a.1))
-
-distinct_out : (x : ℕ) (ys : List ℕ) → IsDistinct eqb ys → IsDistinct eqb (others x ys)
-unfolding IsDistinct
-distinct_out x [] d = tt
-distinct_out x (y ∷ ys) d =
-    elim (eqb x y) as (λ b. IsDistinct eqb (cond (not b) (y ∷ others x ys) (others x ys))) [
-      | true ↦ distinct_out x ys d.1
-      | false ↦ (
-        recursion_from_All _ (others x ys) (All-filter (λ z. not (eqb x z))
-            (λ z. eqb y z ≡ false) ys (All-from_recursion (λ z. eqb y z ≡ false) ys d.0)),
-        distinct_out x ys d.1,
-      )
-    ]
-
-module _ (w : ℕ → ℕ) where
-  one_out : (x : ℕ) (ys : List ℕ) → IsDistinct eqb ys → is_member eqb ys x ≡ true
-      → total w ys ≡ w x + total w (others x ys)
+module _ (w : ℕ → ℕ) (n : ℕ) where
+  -- the total of distinct numbers below a count is that of the numbers below it which are among them
+  total_members : (xs : List ℕ) → IsDistinct eqb xs
+      → ((q : ℕ) → is_member eqb xs q ≡ true → q < n)
+      → total w xs ≡ total_below (λ k. cond (is_member eqb xs k) (w k) 0) n
   unfolding IsDistinct
-  one_out x [] d h = cc
-  one_out x (y ∷ ys) d h =
-      elim (eqb_tells x y) [
-        | inl t ↦
-            let all = subst (λ k. AllByRecursion (λ z. eqb k z ≡ false) ys) (sym t.1) d.0 in
-            rw t.0 (cc (none_out x ys all))
-        | inr f ↦
-            let more = one_out x ys d.1 (cc) in
-            rw f.0 (omega arith)
-      ]
-
-  left : (n q : ℕ) (xs : List ℕ)
-      → is_member eqb (others n xs) q ≡ (is_member eqb xs q && not (eqb n q))
-  left n q xs =
-      is_member-filter nat_eq_equiv (λ y. not _) q
-      (λ x e. ap (λ k. not (eqb n k)) (eqb-true q x e)) xs
-
-  still_low : (n q : ℕ) (xs : List ℕ) → ((q : ℕ) → is_member eqb xs q ≡ true → q < suc n)
-      → is_member eqb (others n xs) q ≡ true → q < n
-  still_low n q xs low h =
-      let p : (is_member eqb xs q ≡ true) × (not (eqb n q) ≡ true) = and_parts _ _
-      (sym (left n q xs) ∙ h) in
-      omega (arith, low q p.0, eqb-false n q (not-true _ p.1))
+  total_members [] d low = sym (none n)
+    where
+      none : (n : ℕ) → total_below (λ k. 0) n ≡ 0
+      none zero = refl
+      none (suc n) = omega (arith, none n)
+  total_members (x ∷ xs) d low =
+      let absent = list_any_none (eqb x) xs (All-from_recursion (λ y. eqb x y ≡ false) xs d.0) in
+      ap (λ k. w x + k) (total_members xs d.1 (λ q h. low q (or_right _ _ h)))
+      ∙ sym (one_more _ _ x (w x) n (low x (or_left _ _ (eq-eqb x x refl)))
+      (rw (eq-eqb x x refl, absent) (omega arith)) (λ k other. rw (ne_eqb k x other) refl))
 
   -- distinct numbers that are exactly those below a count have the total of the numbers below it
-  pub total_all : (n : ℕ) (xs : List ℕ) → IsDistinct eqb xs
+  pub total_all : (xs : List ℕ) → IsDistinct eqb xs
       → ((q : ℕ) → is_member eqb xs q ≡ true → q < n)
       → ((q : ℕ) → q < n → is_member eqb xs q ≡ true) → total w xs ≡ total_below w n
-  total_all zero [] d low all = refl
-  total_all zero (x ∷ xs) d low all =
-      absurd (omega (arith, low x (or_left _ _ (eq-eqb x x refl))))
-  total_all (suc n) xs d low all =
-      cc (
-        one_out n xs d (all n (omega arith)),
-        total_all n (others n xs) (distinct_out n xs d) (λ q h. still_low n q xs low h)
-            (λ q h. left n q xs ∙ and_from _ _ (all q (omega (arith, h)))
-            (not_from_false _ (ne_eqb n q (λ e. omega (arith, e, h))))),
-      )
+  total_all xs d low all =
+      total_members xs d low ∙ total_below_same _ w n (λ k h. rw (all k h) refl)
 
 -- `eq` decides whether two keys are equal
 module _ {K : Type 0} (eq : K → K → Bool) (tells : (a b : K)
     → ((eq a b ≡ true) × (a ≡ b)) ⊎ ((eq a b ≡ false) × (a ≡ b → ⊥))) where
-  member_one : (xs : List K) (x q : K) (b : Bool) → is_member eq xs x ≡ b
-      → is_member eq (unique_keys eq xs) q ≡ is_member eq xs q
-      → is_member eq (cond b (unique_keys eq xs) (x ∷ unique_keys eq xs)) q
-      ≡ eq q x || is_member eq xs q
-  member_one xs x q false e same = ap (λ b. eq q x || b) same
-  member_one xs x q true e same =
-      same ∙ elim (tells q x) [
-        | inl t ↦ rw t.1 e
-            ∙ sym (ap (λ b. b || is_member eq xs q) t.0)
-        | inr f ↦ sym (ap (λ b. b || is_member eq xs q) f.0)
-      ]
-
   pub unique_member : (xs : List K) (q : K) → is_member eq (unique_keys eq xs) q ≡ is_member eq xs q
   unique_member [] q = refl
-  unique_member (x ∷ xs) q = member_one xs x q _ refl (unique_member xs q)
+  unique_member (x ∷ xs) q = elim (cases_Bool (is_member eq xs x)) [
+    | inl t ↦ rw t (unique_member xs q ∙ elim (tells q x) [ inl e ↦ cc | inr d ↦ cc ])
+    | inr f ↦ rw f (ap (λ b. eq q x || b) (unique_member xs q))
+  ]
 
   all_apart : (x : K) (ys : List K) → is_member eq ys x ≡ false
       → AllByRecursion (λ y. eq x y ≡ false) ys
@@ -121,17 +86,13 @@ module _ {K : Type 0} (eq : K → K → Bool) (tells : (a b : K)
   all_apart x (y ∷ ys) h =
       let k = or_parts _ _ h in (k.0, all_apart x ys k.1)
 
-  distinct_one : (xs : List K) (x : K) (b : Bool) → is_member eq xs x ≡ b
-      → IsDistinct eq (unique_keys eq xs) → IsDistinct eq
-      (cond b (unique_keys eq xs) (x ∷ unique_keys eq xs))
-  unfolding IsDistinct
-  distinct_one xs x true e d = d
-  distinct_one xs x false e d = (all_apart x _ (unique_member xs x ∙ e), d)
-
   pub unique_distinct : (xs : List K) → IsDistinct eq (unique_keys eq xs)
   unfolding IsDistinct
   unique_distinct [] = tt
-  unique_distinct (x ∷ xs) = distinct_one xs x _ refl (unique_distinct xs)
+  unique_distinct (x ∷ xs) = elim (cases_Bool (is_member eq xs x)) [
+    | inl t ↦ rw t (unique_distinct xs)
+    | inr f ↦ rw f (all_apart x _ (unique_member xs x ∙ f), unique_distinct xs)
+  ]
 
   -- the keys have numbers below a count, and no two have the same number
   module _ (count : ℕ) (At : K → ℕ → Type 0)
@@ -174,15 +135,11 @@ module _ {K : Type 0} (eq : K → K → Bool) (tells : (a b : K)
 
 -- ---- lists with the same total
 
-pub total-map : {A B : Type 0} (f : A → B) (w : B → ℕ) (xs : List A)
-    → total w (map f xs) ≡ total (λ a. w (f a)) xs
-total-map f w [] = refl
-total-map f w (x ∷ xs) = ap (λ n. w (f x) + n) (total-map f w xs)
-
-pub total_equal : {A : Type 0} (v w : A → ℕ) (xs : List A) → AllByRecursion (λ a. v a ≡ w a) xs
-    → total v xs ≡ total w xs
-total_equal v w [] a = refl
-total_equal v w (x ∷ xs) a = λ i. a.0 i + total_equal v w xs a.1 i
+-- a total of the images of items
+pub total_map : {A B : Type 0} (f : A → B) (w : B → ℕ) (v : A → ℕ) (xs : List A)
+    → AllByRecursion (λ a. w (f a) ≡ v a) xs → total w (map f xs) ≡ total v xs
+total_map f w v [] a = refl
+total_map f w v (x ∷ xs) a = λ i. a.0 i + total_map f w v xs a.1 i
 
 pub total_one : {A : Type 0} (xs : List A) → total (λ x. 1) xs ≡ length xs
 total_one [] = refl

@@ -4,7 +4,7 @@ ghost use Rattle.std.specs.Prelude.{◌≡◌, ◌≤◌, ◌<◌, ◌^◌};
 ghost use Rattle.plist_binwrite.specs.Forms.{least_width, reference_width};
 
 /// Returns the smallest of the widths 1, 2, 4 and 8 into which a number fits, in bytes.
-#[tactic(auto, using(crate::proofs::LeastWidths::widths))]
+#[tactic(auto, unfolding(crate::specs::Forms::least_width))]
 pub fn least_width(number: u64) -> usize
     ensures value { result ≡ least_width number }
     ensures range { (1 ≤ result) × (result ≤ 8) }

@@ -13,14 +13,14 @@ use Rattle.plist_binwrite.specs.EventClasses.{HasEachCollection, listed_class}
 use Rattle.plist_binwrite.specs.Forms.{key_numbers, value_numbers}
 use Rattle.plist_binwrite.specs.declared.classes.ClassList.{ClassList}
 use Rattle.plist_buffer.specs.EventTable.{HasItem, IsBracketed, collection_number, is_end, item_indices, key_indices, value_indices, event_at, plain_events, scalars_of}
-use Rattle.plist_binwrite.proofs.Unfold.{pairs}
+use Rattle.plist_binwrite.proofs.Unfold.{pairs, references}
 use Rattle.plist_buffer.specs.Occurrences.{OccursAt, ItemsOccurAt, PairsOccurAt}
 use Rattle.plist_base.specs.declared.event.EventShape.{EventShape}
 use Rattle.plist_base.specs.declared.event.EventShape.TheVariants as shape
 use Rattle.plist_buffer.specs.declared.event_table.EventTable.{EventTable}
 use Rattle.plist_buffer.specs.inner.Entries.{AreDistinct, is_leaf}
 use Rattle.plist_buffer.proofs.CollectionNumbers.{IsCollectionAt, array_at, collection_at, dictionary_at, number_below, numbers_apart, occurs_at}
-use Rattle.plist_binwrite.proofs.ClassObjects.{sound, the_items, the_pairs}
+use Rattle.plist_binwrite.proofs.ClassObjects.{sound}
 use Rattle.plist_binwrite.proofs.ScalarClasses.{collection_class, leaf_any, leaf_below, leaf_used, leaves_same}
 use Rattle.plist_binwrite.proofs.TreeObjects.{keys_are, values_are}
 use Rattle.plist_binwrite.proofs.Reading.{dictionary_is, length-keys_of, length-values_of}
@@ -129,11 +129,12 @@ module _ {es : List PlainEvent} {class : ℕ → ℕ} {count : ℕ} (keys : List
           → class p ≡ class q
       given (Leaf x) p q s r e = (leaves.same x x p q s r).1 refl
       given (Array ts) p q s r e =
-          one_class p q _ _ (ap (λ l. (false, l)) (the_items _ _ e)) (all (Array ts) p s) (all (Array ts) q r)
+          let same : references class ts (p + 1) ≡ references class ts (q + 1) = cc in
+          one_class p q _ _ (ap (λ l. (false, l)) same) (all (Array ts) p s) (all (Array ts) q r)
       given (Dictionary ms) p q s r e =
-          let k = same_halves _ _ ms _ _ (the_pairs _ _ e) in
-          one_class p q _ _ (ap (λ l. (true, l)) k) (all (Dictionary ms) p s)
-          (all (Dictionary ms) q r)
+          let same : pairs class ms (p + 1) ≡ pairs class ms (q + 1) = cc in
+          one_class p q _ _ (ap (λ l. (true, l)) (same_halves _ _ ms _ _ same))
+          (all (Dictionary ms) p s) (all (Dictionary ms) q r)
 
       -- trees of one class are equal
       pub separate_trees : SeparatesTrees es class

@@ -9,7 +9,6 @@ use Rattle.plist_base.specs.Trees.{Tree, Leaf, Array, Dictionary, Trees, NoTrees
 use Rattle.plist_base.specs.Object as obj
 use Rattle.plist_base.specs.Object.{Object}
 use Rattle.plist_base.specs.Unfolding.{TableEntry}
-use Rattle.plist_binwrite.proofs.ClassObjects.{the_scalar, the_text, the_items, the_pairs}
 use Rattle.plist_buffer.proofs.Uniques.{all_both}
 use Rattle.plist_buffer.specs.Occurrences.{positions, positions_in_items, positions_in_pairs}
 
@@ -31,16 +30,14 @@ module _ (table : List TableEntry) where
 
     pub MeansItems : Trees → List ℕ → Type 0
     MeansItems NoTrees [] = ⊤
-    MeansItems NoTrees (c ∷ cs) = ⊥
-    MeansItems (TreeAnd t ts) [] = ⊥
     MeansItems (TreeAnd t ts) (c ∷ cs) = Means t c × MeansItems ts cs
+    MeansItems ts references = ⊥
 
     pub MeansPairs : Members → List (ℕ × ℕ) → Type 0
     MeansPairs NoMembers [] = ⊤
-    MeansPairs NoMembers (p ∷ ps) = ⊥
-    MeansPairs (MemberAnd k t ms) [] = ⊥
     MeansPairs (MemberAnd k t ms) (p ∷ ps) =
         Stands p.0 (obj.Scalar (trees.String k)) × Means t p.1 × MeansPairs ms ps
+    MeansPairs ms pairs = ⊥
 
   pub one_object : {i : ℕ} {a b : Object} → Stands i a → Stands i b → a ≡ b
   one_object s t =
@@ -49,42 +46,32 @@ module _ (table : List TableEntry) where
   mutual
     -- no number represents two trees
     pub one_tree : (t u : Tree) (i : ℕ) → Means t i → Means u i → t ≡ u
-    one_tree (Leaf x) (Leaf y) i m n = ap Leaf (the_scalar x y (one_object m n))
-    one_tree (Leaf x) (Array us) i m n = let p = one_object m n.1 in cc
-    one_tree (Leaf x) (Dictionary ns) i m n = let p = one_object m n.1 in cc
-    one_tree (Array ts) (Leaf y) i m n = let p = one_object m.1 n in cc
+    one_tree (Leaf x) (Leaf y) i m n = let o = one_object m n in cc
     one_tree (Array ts) (Array us) i m n =
-        ap Array (one_items ts us m.0 m.2
-        (rw (← (the_items _ _ (one_object n.1 m.1))) n.2))
-    one_tree (Array ts) (Dictionary ns) i m n = let p = one_object m.1 n.1 in cc
-    one_tree (Dictionary ms) (Leaf y) i m n = let p = one_object m.1 n in cc
-    one_tree (Dictionary ms) (Array us) i m n = let p = one_object m.1 n.1 in cc
+        let o = one_object n.1 m.1 in
+        let same : n.0 ≡ m.0 = cc in
+        ap Array (one_items m.0 ts us m.2 (rw (← same) n.2))
     one_tree (Dictionary ms) (Dictionary ns) i m n =
-        ap Dictionary (one_pairs ms ns m.0 m.2
-        (rw (← (the_pairs _ _ (one_object n.1 m.1))) n.2))
+        let o = one_object n.1 m.1 in
+        let same : n.0 ≡ m.0 = cc in
+        ap Dictionary (one_pairs m.0 ms ns m.2 (rw (← same) n.2))
+    one_tree t u i m n = cc
 
-    one_items : (ts us : Trees) (references : List ℕ) → MeansItems ts references
+    one_items : (references : List ℕ) (ts us : Trees) → MeansItems ts references
         → MeansItems us references → ts ≡ us
-    one_items NoTrees NoTrees references m n = refl
-    one_items NoTrees (TreeAnd u us) [] m n = absurd n
-    one_items NoTrees (TreeAnd u us) (c ∷ cs) m n = absurd m
-    one_items (TreeAnd t ts) NoTrees [] m n = absurd m
-    one_items (TreeAnd t ts) NoTrees (c ∷ cs) m n = absurd n
-    one_items (TreeAnd t ts) (TreeAnd u us) [] m n = absurd m
-    one_items (TreeAnd t ts) (TreeAnd u us) (c ∷ cs) m n =
-        λ i. TreeAnd (one_tree t u c m.0 n.0 i) (one_items ts us cs m.1 n.1 i)
+    one_items [] NoTrees NoTrees m n = refl
+    one_items (c ∷ cs) (TreeAnd t ts) (TreeAnd u us) m n =
+        λ i. TreeAnd (one_tree t u c m.0 n.0 i) (one_items cs ts us m.1 n.1 i)
+    one_items references ts us m n = absurd (assumption)
 
-    one_pairs : (ms ns : Members) (pairs : List (ℕ × ℕ)) → MeansPairs ms pairs → MeansPairs ns pairs
+    one_pairs : (pairs : List (ℕ × ℕ)) (ms ns : Members) → MeansPairs ms pairs → MeansPairs ns pairs
         → ms ≡ ns
-    one_pairs NoMembers NoMembers pairs m n = refl
-    one_pairs NoMembers (MemberAnd l u ns) [] m n = absurd n
-    one_pairs NoMembers (MemberAnd l u ns) (p ∷ ps) m n = absurd m
-    one_pairs (MemberAnd k t ms) NoMembers [] m n = absurd m
-    one_pairs (MemberAnd k t ms) NoMembers (p ∷ ps) m n = absurd n
-    one_pairs (MemberAnd k t ms) (MemberAnd l u ns) [] m n = absurd m
-    one_pairs (MemberAnd k t ms) (MemberAnd l u ns) (p ∷ ps) m n =
-        λ i. MemberAnd (the_text k l (the_scalar _ _ (one_object m.0 n.0)) i)
-        (one_tree t u p.1 m.1 n.1 i) (one_pairs ms ns ps m.2 n.2 i)
+    one_pairs [] NoMembers NoMembers m n = refl
+    one_pairs (p ∷ ps) (MemberAnd k t ms) (MemberAnd l u ns) m n =
+        let o = one_object m.0 n.0 in
+        let key : k ≡ l = cc in
+        λ i. MemberAnd (key i) (one_tree t u p.1 m.1 n.1 i) (one_pairs ps ms ns m.2 n.2 i)
+    one_pairs pairs ms ns m n = absurd (assumption)
 
   -- the tree has a number, which is below the number of objects
   abbrev pub Numbered : Tree → Type 0
