@@ -3,16 +3,31 @@ use Rattle.std.proofs.Common.{◌≡◌, ◌↔◌, inl, inr, ℕ, ◌+◌, ◌-
 use Rattle.std.proofs.lemmas.Bool.Decides.{eqb_tells, leb_tells}
 use Rattle.plist_base.specs.Events.{PlainEvent}
 use Rattle.plist_base.specs.Scalars.{scalar_eq}
-use Rattle.plist_base.specs.Trees.{Tree, Leaf, Array, Dictionary}
+use Rattle.plist_base.specs.Trees.{Scalar, Tree, Leaf, Array, Dictionary}
 use Rattle.plist_buffer.specs.Occurrences.{OccursAt}
 use Rattle.plist_binwrite.specs.EventClasses.{scalar_class}
 use Rattle.plist_buffer.specs.EventTable.{HasItem, IsBracketed, count_collections, plain_events, scalars_of}
 use Rattle.plist_buffer.specs.declared.event_table.EventTable.{EventTable}
-use Rattle.plist_binwrite.specs.inner.Scalars.{Identity, identity_of, shared, alone, AreIdentities}
 use Rattle.plist_buffer.proofs.CollectionNumbers.{IsCollectionAt, array_at, dictionary_at, number_below, number_used, numbers_apart}
 use Rattle.plist_binwrite.proofs.ScalarClasses.{collection_class, leaf_below, leaf_used, leaves_same}
 use Rattle.plist_buffer.proofs.SameScalars.{Tells, scalars_tell, tells_made}
 use Rattle.plist_buffer.proofs.TreeStarts.{begins, occurs_in}
+
+-- what a tree shares its object with: equal scalars share one, and a collection has its own
+pub data Identity : Type 0 where
+  shared : Scalar → Identity
+  alone : ℕ → Identity
+
+-- the identity of a tree that begins at an index
+abbrev pub identity_of : Tree → (index : ℕ) → Identity
+identity_of (Leaf x) p = shared x
+identity_of tree p = alone p
+
+-- the classes are below a count, and those of trees are equal if and only if the identities are
+pub record AreIdentities (es : List PlainEvent) (class : ℕ → ℕ) (count : ℕ) : Type 0 where
+  pub below : (t : Tree) (p : ℕ) → OccursAt es t p → class p < count
+  pub same : (t u : Tree) (p q : ℕ) → OccursAt es t p → OccursAt es u q
+      → (class p ≡ class q) ↔ (identity_of t p ≡ identity_of u q)
 
 abbrev pub owner_eq : Identity → Identity → Bool
 owner_eq (shared a) (shared b) = scalar_eq a b

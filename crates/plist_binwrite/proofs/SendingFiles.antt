@@ -14,7 +14,7 @@ use Rattle.plist_binwrite.specs.declared.classes.Classed.{Classed}
 use Rattle.plist_binwrite.specs.Files.{IsFileOf, least_files}
 use Rattle.plist_buffer.specs.EventTable.{plain_events}
 use Rattle.plist_binwrite.specs.SendingAs.{FileKind, IsOfTree, FailsAs, SendsAs}
-use Rattle.plist_binwrite.specs.inner.Scalars.{AreIdentities}
+use Rattle.plist_binwrite.proofs.Identities.{AreIdentities}
 use Rattle.plist_binwrite.proofs.Least.{least}
 use Rattle.plist_binwrite.proofs.WriterClasses.{owned_count, owned_size, entered_once}
 use Rattle.plist_buffer.proofs.TreeOccurrences.{occurs_whole}

@@ -11,11 +11,10 @@ use Rattle.plist_base.specs.Trees.{Scalar, Tree, Leaf, Array, Dictionary, Trees,
 use Rattle.plist_binwrite.specs.Classes.{AreClasses, representatives, count_by, objects_by, size_by, object_of}
 use Rattle.plist_base.specs.Scalars.{scalar_eq}
 use Rattle.plist_binwrite.specs.Sizes.{object_count, scalars_in, collections_in, leaf_scalar, collection_of, object_size, size_with, file_size}
-use Rattle.plist_binwrite.specs.inner.Scalars.{alone, identity_of, AreIdentities}
 use Rattle.plist_buffer.specs.Occurrences.{event_count, OccursAt, positions, positions_in_items, positions_in_pairs}
 use Rattle.plist_binwrite.specs.Forms.{reference_width, scalar_form}
 use Rattle.plist_buffer.proofs.TreePositions.{Stands, one_tree, positions_stand}
-use Rattle.plist_binwrite.proofs.Identities.{owner_eq, owners_tell}
+use Rattle.plist_binwrite.proofs.Identities.{alone, identity_of, AreIdentities, owner_eq, owners_tell}
 use Rattle.plist_buffer.proofs.SameScalars.{tells_both}
 use Rattle.plist_buffer.proofs.TreeOccurrences.{occurs_whole}
 use Rattle.plist_binwrite.proofs.Totals.{total, total_one, total_sum}

@@ -2,5 +2,4 @@
 pub mod Laws
 pub mod Layout
 pub mod Numbering
-pub mod Scalars
 pub mod Units

@@ -269,30 +269,13 @@ fn length_of_bytes(count: u64) -> u64
     count.saturating_add(length_of_count(count))
 }
 
-// Returns the length of the object of data, or 2^64 - 1 if it is greater.
-fn length_of_data(content: &[u8]) -> u64
-    ensures value { IsCapped result (length (scalar_form (trees.Data content.now))) }
-    ensures writable { IsWritableScalar (trees.Data content.now) }
-{
-    length_of_bytes(content.len() as u64)
-}
-
-// Returns the length of the object of a string in ASCII, or 2^64 - 1 if it is greater.
-fn length_of_ascii(text: &str) -> u64
-    requires { is_ascii_text text.now ≡ true }
-    ensures value { IsCapped result (length (scalar_form (trees.String text.now))) }
-    ensures writable { IsWritableScalar (trees.String text.now) }
-{
-    length_of_bytes(text.len() as u64)
-}
-
 // Returns the length of a string's object, or 2^64 - 1 if it is greater.
 fn length_of_text(text: &str) -> u64
     ensures value { IsCapped result (length (scalar_form (trees.String text.now))) }
     ensures writable { IsWritableScalar (trees.String text.now) }
 {
     if is_ascii_text(text) {
-        return length_of_ascii(text);
+        return length_of_bytes(text.len() as u64);
     }
     let count = count_units(text) as u64;
     count
@@ -312,18 +295,6 @@ fn length_of_wide(units: &[u8]) -> u64
     size.saturating_add(length_of_count(size / 2))
 }
 
-// Returns the length of an integer's object.
-fn length_of_integer(value: Integer) -> u64
-    ensures value { result ≡ length (scalar_form (trees.Integer value)) }
-    ensures writable { IsWritableScalar (trees.Integer value) }
-{
-    match (value.as_unsigned(), value.as_signed()) {
-        (Some(number), Some(_)) => length_of_unsigned(number),
-        (Some(_), None) => 17,
-        (None, _) => 9,
-    }
-}
-
 // Returns the length of the object of a scalar that isn't a string or data of more than eight bytes.
 fn length_of_packed(scalar: PackedScalar) -> u64
     ensures value { IsCapped result (length (scalar_form (scalar_of_packed scalar))) }
@@ -332,11 +303,13 @@ fn length_of_packed(scalar: PackedScalar) -> u64
     let content = scalar.content();
     match scalar.kind() {
         PackedKind::Boolean(_) => 1,
-        PackedKind::Unsigned => length_of_integer(Integer::from(content)),
+        PackedKind::Unsigned if content > i64::MAX as u64 => 17,
+        PackedKind::Unsigned | PackedKind::Uid => length_of_unsigned(content),
         PackedKind::Negative | PackedKind::Real | PackedKind::Date => 9,
         PackedKind::ShortReal => 5,
-        PackedKind::Uid => length_of_unsigned(content),
-        PackedKind::Data(size) => length_of_data(&content.to_be_bytes()[..usize::from(size)]),
+        PackedKind::Data(size) => {
+            length_of_bytes(content.to_be_bytes()[..usize::from(size)].len() as u64)
+        }
         PackedKind::String(size) => length_of_text(scalar.text_in(&content.to_be_bytes(), size)),
     }
 }
@@ -349,8 +322,8 @@ pub(crate) fn length_of_scalar(scalar: ScalarRef<'_>) -> u64
 {
     match scalar {
         ScalarRef::Packed(packed) => length_of_packed(packed),
-        ScalarRef::AsciiString(text) => length_of_ascii(text),
+        ScalarRef::AsciiString(text) => length_of_bytes(text.len() as u64),
         ScalarRef::WideString(units) => length_of_wide(units),
-        ScalarRef::Data(bytes) => length_of_data(bytes),
+        ScalarRef::Data(bytes) => length_of_bytes(bytes.len() as u64),
     }
 }

@@ -1,7 +1,7 @@
 //! Plans a file: a walk over the events numbers the objects, and adds up their sizes. The plan is
 //! complete before the first byte of the file is written.
 
-ghost use Rattle.std.specs.Prelude.{◌≡◌, ◌+◌, ◌*◌, ◌<◌, ◌≤◌, ◌^◌, ◌⊎◌, ℕ, length, IfOk, IfSome};
+ghost use Rattle.std.specs.Prelude.{◌≡◌, ◌+◌, ◌*◌, ◌<◌, ◌≤◌, ◌^◌, ◌⊎◌, ◌∷◌, [], ℕ, length, IfOk, IfSome, OnOk};
 ghost use Rattle.plist_base.specs.Bracketing.{AreTreeEvents};
 ghost use Rattle.plist_base.specs.Events.{ScalarEvent};
 ghost use Rattle.plist_base.specs.Faults.{OutOfMemory, PlistTooLarge, fault_without_offset};
@@ -14,7 +14,7 @@ ghost use Rattle.plist_binwrite.specs.Forms.{IsWritableScalar, length_form, refe
 ghost use Rattle.plist_binwrite.specs.SendingAs.{IsOfTree};
 ghost use Rattle.plist_binwrite.specs.Sizes.{object_size, size_with};
 ghost use Rattle.plist_binwrite.specs.inner.Layout.{IsFilePlan};
-ghost use Rattle.plist_binwrite.specs.inner.Numbering.{IsNumberingOfEvents, object_number, IsCapped};
+ghost use Rattle.plist_binwrite.specs.inner.Numbering.{IsNumberedSoFar, IsNumberingOfEvents, Numbers, object_number, IsCapped};
 ghost use Rattle.plist_buffer.specs.Children.{half_of};
 ghost use Rattle.plist_buffer.specs.EventTable.{HasItem, IsBracketed, plain_events, table_event};
 ghost use Rattle.plist_buffer.specs.Occurrences.{OccursAt};
@@ -106,14 +106,6 @@ pub fn object_number(given: &Classed<'_, '_>, numbering: &Numbering, index: usiz
 }
 
 impl Numbering {
-    ghost use Rattle.std.specs.Prelude.{◌≡◌, ◌<◌, ◌∷◌, ◌++◌, [], length, OnOk};
-    ghost use Rattle.plist_binwrite.specs.EventClasses.{bound_in, events_in};
-    ghost use Rattle.plist_binwrite.specs.Forms.{reference_width};
-    ghost use Rattle.plist_buffer.specs.Children.{half_of};
-    ghost use Rattle.plist_buffer.specs.EventTable.{HasItem};
-    ghost use Rattle.plist_buffer.specs.declared.children.Half.TheVariants.{Keys, Values};
-    ghost use Rattle.plist_binwrite.specs.inner.Numbering.{IsNumberedSoFar, Numbers, object_number};
-
     // Assigns the next number to the object of the event at an index, unless it has one already. A
     // reference has `width` bytes.
     #[inline(always)]
@@ -167,28 +159,6 @@ impl Numbering {
         }
         Ok(())
     }
-
-    // Numbers the objects of the keys of the collection that begins at an index, and then those of
-    // its items or values. A scalar or an end has no children.
-    fn number_children(
-        &mut self,
-        given: &Classed<'_, '_>,
-        width: usize,
-        index: usize,
-    ) -> Result<(), AllocError>
-        requires so_far { IsNumberedSoFar given.now self.old }
-        requires width { width ≡ reference_width (bound_in given.now) }
-        requires index { index < length (events_in given.now) }
-        ensures { OnOk result (Numbers given.now (half_of (events_in given.now) Keys index
-            ++ half_of (events_in given.now) Values index) self.old self.new) }
-    {
-        if !begins_collection(given.events, index) {
-            return Ok(());
-        }
-        self.number_half(given, width, index, Half::Keys)?;
-        self.number_half(given, width, index, Half::Values)?;
-        Ok(())
-    }
 }
 
 // Numbers the objects of a tree's events, one for each class, or fails if an allocation fails. The
@@ -212,7 +182,10 @@ fn number_objects(
     };
     numbering.number_one(given, width, 0)?;
     for index in 0..given.events.len() {
-        numbering.number_children(given, width, index)?;
+        if begins_collection(given.events, index) {
+            numbering.number_half(given, width, index, Half::Keys)?;
+            numbering.number_half(given, width, index, Half::Values)?;
+        }
     }
     Ok(numbering)
 }

@@ -24,9 +24,8 @@ pub trait Sharing: Sealed + Drop {
     ///
     /// # Errors
     ///
-    /// `PlistTooLarge` if the file would have 2^64 bytes or more, and `OutOfMemory` if an
-    /// allocation fails: no byte was written. `Io` if a write or the flush fails: a prefix of the
-    /// file was written, and all of it if the flush failed. No error has an offset.
+    /// Any error of [`write_file_by_class`](crate::write_file_by_class), with the same state after
+    /// each.
     fn write_file<W: Write>(
         alloc: Global,
         events: &EventTable<'_>,

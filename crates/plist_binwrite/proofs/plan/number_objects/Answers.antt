@@ -1,14 +1,18 @@
-use Rattle.std.proofs.Common.{◌-◌, ◌∙◌, ap, arith, below_more, replicate, subst}
+use Rattle.std.proofs.Common.{◌-◌, ◌∙◌, ◌++◌, List, ℕ, ap, arith, below_more, refl, replicate, subst}
 use Rattle.std.specs.List.{AllByRecursion}
 use Rattle.plist_binwrite.specs.EventClasses.{events_in}
-use Rattle.plist_binwrite.specs.inner.Numbering.{IsNumbered}
+use Rattle.plist_binwrite.specs.inner.Numbering.{IsNumbered, Numbers}
+use Rattle.plist_buffer.specs.Children.{half_of}
+use Rattle.plist_buffer.specs.declared.children.Half.{Half}
+use Rattle.plist_buffer.specs.declared.children.Half.TheVariants.{Keys, Values}
 use Rattle.plist_buffer.proofs.ChildIndices.{keys_are_in, values_are_in}
 use Rattle.plist_buffer.proofs.TreePositions.{positions_all, positions_have}
 use Rattle.plist_buffer.proofs.TreeOccurrences.{occurs_whole}
-use Rattle.plist_binwrite.proofs.NumberingSteps.{numbered_none, still_numbered}
+use Rattle.plist_binwrite.proofs.NumberingSteps.{numbered_none, numbers_both, numbers_none, still_numbered}
 use Rattle.plist_buffer.proofs.TreeStarts.{begins, occurs_in}
 use Rattle.plist_buffer.proofs.Uniques.{all_from, all_left, all_right}
 use Rattle.plist_binwrite.proofs.plan.number_objects.Goals as goal
+use Rattle.plist_binwrite.proofs.plan.number_objects.Goals.{then-begins_collection+in_ok-number_half+in_ok-number_half-2, else-begins_collection}
 
 pub number_one-requires-clause-so_far : goal.number_one-requires-clause-so_far
 number_one-requires-clause-so_far c =
@@ -32,7 +36,15 @@ loop-index-init c =
 pub loop-index-preserved : goal.loop-index-preserved
 loop-index-preserved c =
     let i = c.loop-index.invariant in
-    let one = c.in_ok-number_children.ensures in
+    let halves : Half → List ℕ = λ half. half_of (events_in c.args.given.now) half c.loop-index.index in
+    let one : Numbers c.args.given.now (halves Keys ++ halves Values) c.loop-index.numbering
+    c.if-begins_collection.numbering = elim c.if-begins_collection.branch [
+      | then-begins_collection+in_ok-number_half+in_ok-number_half-2 w ↦ rw w.numbering-is
+          (numbers_both w.in_ok-number_half.ensures w.in_ok-number_half-2.ensures)
+      | else-begins_collection w ↦
+          let none = w.if-begins_collection.ensures.no refl in
+          rw (w.numbering-is, none Keys, none Values) (numbers_none i.so_far tt)
+    ] in
     record {
       so_far = one.so_far;
       numbered = still_numbered one 0 i.numbered;
