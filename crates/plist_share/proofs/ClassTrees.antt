@@ -3,7 +3,7 @@ use Rattle.std.proofs.Common.{◌≡◌, ◌≢◌, ◌⊎◌, inl, inr, ℕ, �
 use Rattle.std.proofs.lemmas.Bool.Decides.{eqb_tells, leb_tells}
 use Rattle.std.proofs.lemmas.List.{get_or-set_other, get_or-set_same}
 use Rattle.std.proofs.lemmas.Option.{slice_get_within, same_Some}
-use Rattle.std.specs.Prelude.{slice_index}
+use Rattle.std.specs.Prelude.{option_map, slice_get, slice_index}
 use Rattle.plist_base.specs.Trees.{Scalar, Tree, Leaf, Array, Dictionary, Trees, NoTrees, TreeAnd, Members, NoMembers, MemberAnd}
 use Rattle.plist_base.specs.Events.{PlainEvent, EndCollection, ScalarEvent, shape_of}
 use Rattle.plist_base.specs.Object as obj
@@ -27,7 +27,7 @@ use Rattle.plist_binwrite.proofs.Reading.{dictionary_is, length-keys_of, length-
 use Rattle.plist_buffer.proofs.TreeOccurrences.{occurs_items, occurs_pairs, occurs_item, occurs_next, occurs_key, occurs_value, occurs_next_pair}
 use Rattle.plist_buffer.proofs.TreeStarts.{begins, occurs_in, starts_array, starts_dictionary}
 use Rattle.plist_share.proofs.EqualClasses.{complete}
-use Rattle.plist_share.specs.inner.Nodes.{AreClassesFrom, AreScalarClasses, Node, node_at, node_by, IsClass, IsClassAt, Extends, SeparatesTrees}
+use Rattle.plist_share.specs.inner.Nodes.{AreClassesFrom, Node, node_at, node_by, IsClass, IsClassAt, Extends, SeparatesAll}
 
 -- ---- a dictionary's pairs by their keys and their values, and back
 
@@ -62,107 +62,107 @@ same_halves f g ms p q e = λ i.
 
 -- ---- all indices have their classes
 
-module _ {es : List PlainEvent} {class : ℕ → ℕ} {count : ℕ} (keys : List Node)
-    (leaves : AreScalarClasses es class count)
-    (all : (t : Tree) (p : ℕ) → OccursAt es t p → IsClass count keys (node_at class t p) (class p))
-  where
-    -- the index has the class of this node
-    abbrev At : Node → ℕ → Type 0
-    At k p = IsClass count keys (Some k) (class p)
+module _ {held : EventTable} {found : ClassList} {nodes : List Node} {from : ℕ}
+    (bound : found.bound ≡ length (scalars_of held)) (given : AreClassesFrom held found nodes from)
+    (start : from ≡ 0) (long : HasEachCollection found held) where
+  abbrev es : List PlainEvent
+  es = plain_events held
 
-    -- two collections of one class have the same node
-    one_key : (k l : Node) (p q : ℕ) → At k p → At l q → class p ≡ class q → k ≡ l
-    one_key k l p q a b e =
-        let same : a.0 ≡ b.0 = omega arith in
-        same_Some k l (cc)
+  abbrev class : ℕ → ℕ
+  class = listed_class found held
 
-    apart_kinds : {A : Type 0} (a b : List ℕ) (p q : ℕ) → At (false, a) p → At (true, b) q
-        → class p ≡ class q → A
-    apart_kinds a b p q s r e =
-        let no = ap (λ (k : Node). k.0) (one_key _ _ p q s r e) in cc
+  abbrev of_collection : ℕ → ℕ
+  of_collection = slice_index found.by_collection
 
-    -- a scalar and a collection have different classes
-    apart_leaf : {A : Type 0} (x : Scalar) (k : Node) (p q : ℕ) → OccursAt es (Leaf x) p → At k q
-        → class p ≡ class q → A
-    apart_leaf x k p q s a e = absurd (omega (arith, leaves.below x p s, a.1, e))
+  all : (t : Tree) (p : ℕ) → OccursAt es t p → IsClass found.bound nodes (node_at class t p) (class p)
+  all t p s = given.each p (omega arith) t s
 
-    -- trees of one class have the same object
-    pub one_object : (t u : Tree) (p q : ℕ) → OccursAt es t p → OccursAt es u q → class p ≡ class q
-        → object_of class t p ≡ object_of class u q
-    one_object (Leaf x) (Leaf y) p q s r e = ap obj.Scalar ((leaves.same x y p q s r).0 e)
-    one_object (Array ts) (Array us) p q s r e =
-        let k = one_key _ _ p q (all (Array ts) p s) (all (Array us) q r) e in
-        ap obj.Array (ap (λ (k : Node). k.1) k)
-    one_object (Array ts) (Dictionary ns) p q s r e =
-        apart_kinds _ _ p q (all (Array ts) p s) (all _ q r) e
-    one_object (Dictionary ms) (Array us) p q s r e =
-        apart_kinds _ _ q p (all (Array us) q r) (all _ p s) (sym e)
-    one_object (Dictionary ms) (Dictionary ns) p q s r e =
-        let k = one_key _ _ p q (all (Dictionary ms) p s) (all (Dictionary ns) q r) e in
-        same_pairs _ ms ns _ _ (ap (λ (k : Node). k.1) k)
-    one_object (Leaf x) (Array us) p q s r e = apart_leaf x _ p q s (all (Array us) q r) e
-    one_object (Leaf x) (Dictionary ns) p q s r e = apart_leaf x _ p q s (all (Dictionary ns) q r) e
-    one_object (Array ts) (Leaf y) p q s r e = apart_leaf y _ q p r (all (Array ts) p s) (sym e)
-    one_object (Dictionary ms) (Leaf y) p q s r e =
-        apart_leaf y _ q p r (all (Dictionary ms) p s) (sym e)
+  -- the class of a scalar is below the bound
+  low : (t : Tree) (p : ℕ) → OccursAt es t p → node_at class t p ≡ None → class p < found.bound
+  low (Leaf x) p s e = omega (arith, bound, leaf_below held of_collection x p s)
+  low (Array ts) p s e = cc
+  low (Dictionary ms) p s e = cc
 
-    -- so these are classes in the sense of `AreClasses`
-    pub found_classes : AreClasses es class
-    found_classes = record { object = one_object }
+  -- trees of one class have the same node, if any
+  one_node : (a b : Option Node) (c d : ℕ) → IsClass found.bound nodes a c
+      → IsClass found.bound nodes b d → (a ≡ None → c < found.bound)
+      → (b ≡ None → d < found.bound) → c ≡ d → a ≡ b
+  one_node None None c d k l f g e = refl
+  one_node None (Some n) c d k l f g e = absurd (omega (arith, f refl, l.1, e))
+  one_node (Some m) None c d k l f g e = absurd (omega (arith, g refl, k.1, e))
+  one_node (Some m) (Some n) c d k l f g e =
+      let same : k.0 ≡ l.0 = omega (arith, k.1, l.1, e) in
+      sym k.2 ∙ ap (slice_get nodes) same ∙ l.2
 
-    -- each class is less than the count and the number of nodes together
-    pub class_below : (t : Tree) (p : ℕ) → OccursAt es t p → class p < count + length keys
-    class_below (Leaf x) p s = omega (arith, leaves.below x p s)
-    class_below (Array ts) p s =
-        let a = all (Array ts) p s in omega (arith, a.1, slice_get_within keys a.0 _ a.2)
-    class_below (Dictionary ms) p s =
-        let a = all (Dictionary ms) p s in omega (arith, a.1, slice_get_within keys a.0 _ a.2)
+  -- collections of one node have the same object
+  node_object : (t u : Tree) (p q : ℕ) → ((x y : Scalar) → t ≡ Leaf x → u ≡ Leaf y → x ≡ y)
+      → node_at class t p ≡ node_at class u q → object_of class t p ≡ object_of class u q
+  node_object (Leaf x) (Leaf y) p q leaf e = ap obj.Scalar (leaf x y refl refl)
+  node_object (Array ts) (Array us) p q leaf e =
+      ap (λ (k : Node). obj.Array k.1) (same_Some _ _ e)
+  node_object (Dictionary ms) (Dictionary ns) p q leaf e =
+      same_pairs _ ms ns _ _ (ap (λ (k : Node). k.1) (same_Some _ _ e))
+  node_object t u p q leaf e = let kinds = ap (option_map (λ (k : Node). k.0)) e in cc
 
-    module _ (apart : AreDistinct keys) where
-      one_class : (p q : ℕ) (k l : Node) → k ≡ l → At k p → At l q → class p ≡ class q
-      one_class p q k l e a b =
-          let same = apart a.0 b.0 k a.2 (cc) in
-          omega arith
+  one_object : (t u : Tree) (p q : ℕ) → OccursAt es t p → OccursAt es u q → class p ≡ class q
+      → object_of class t p ≡ object_of class u q
+  one_object t u p q s r e =
+      node_object t u p q (λ x y i j. (leaves_same held of_collection x y p q (rw i at s) (rw j at r)).0 e)
+      (one_node _ _ _ _ (all t p s) (all u q r) (low t p s) (low u q r) e)
 
-      given : (t : Tree) (p q : ℕ) → OccursAt es t p → OccursAt es t q
-          → object_of class t p ≡ object_of class t q
-          → class p ≡ class q
-      given (Leaf x) p q s r e = (leaves.same x x p q s r).1 refl
-      given (Array ts) p q s r e =
-          let same : references class ts (p + 1) ≡ references class ts (q + 1) = cc in
-          one_class p q _ _ (ap (λ l. (false, l)) same) (all (Array ts) p s) (all (Array ts) q r)
-      given (Dictionary ms) p q s r e =
-          let same : pairs class ms (p + 1) ≡ pairs class ms (q + 1) = cc in
-          one_class p q _ _ (ap (λ l. (true, l)) (same_halves _ _ ms _ _ same))
-          (all (Dictionary ms) p s) (all (Dictionary ms) q r)
+  found_classes : AreClasses es class
+  found_classes = record { object = one_object }
 
-      -- trees of one class are equal
-      pub separate_trees : SeparatesTrees es class
-      separate_trees t u p q s r = (
+  -- each class is less than the bound and the number of nodes together
+  class_below : (t : Tree) (p : ℕ) → OccursAt es t p → class p < found.bound + length nodes
+  class_below (Leaf x) p s = omega (arith, bound, leaf_below held of_collection x p s)
+  class_below (Array ts) p s =
+      let a = all (Array ts) p s in omega (arith, a.1, slice_get_within nodes a.0 _ a.2)
+  class_below (Dictionary ms) p s =
+      let a = all (Dictionary ms) p s in omega (arith, a.1, slice_get_within nodes a.0 _ a.2)
+
+  -- each number below these is the class of a scalar or of a collection
+  class_used : (k : ℕ) → k < found.bound + length nodes
+      → (p : ℕ) × HasItem es p × (class p ≡ k)
+  class_used k lt = elim (leb_tells found.bound k) [
+    | inl after ↦
+        let (p, le, item, is) = given.used (k - found.bound) (omega (arith, lt, after.1)) in
+        (p, item, omega (arith, is, after.1))
+    | inr before ↦ leaf_used held of_collection k (omega (arith, before.1, bound))
+  ]
+
+  module _ (apart : AreDistinct nodes) where
+    -- indices of one node have one class
+    one_class : (k l : Node) (c d : ℕ) → k ≡ l → IsClass found.bound nodes (Some k) c
+        → IsClass found.bound nodes (Some l) d → c ≡ d
+    one_class k l c d e a b =
+        let same = apart a.0 b.0 k a.2 (cc) in
+        omega arith
+
+    same_class : (t : Tree) (p q : ℕ) → OccursAt es t p → OccursAt es t q
+        → object_of class t p ≡ object_of class t q → class p ≡ class q
+    same_class (Leaf x) p q s r e = (leaves_same held of_collection x x p q s r).1 refl
+    same_class (Array ts) p q s r e =
+        let same : references class ts (p + 1) ≡ references class ts (q + 1) = cc in
+        one_class _ _ _ _ (ap (λ l. (false, l)) same) (all (Array ts) p s) (all (Array ts) q r)
+    same_class (Dictionary ms) p q s r e =
+        let same : pairs class ms (p + 1) ≡ pairs class ms (q + 1) = cc in
+        one_class _ _ _ _ (ap (λ l. (true, l)) (same_halves _ _ ms _ _ same))
+        (all (Dictionary ms) p s) (all (Dictionary ms) q r)
+
+    -- the classes separate the trees
+    pub separates : IsBracketed es → SeparatesAll held
+        (record { by_collection = found.by_collection; bound = found.bound + length nodes })
+    separates whole = record {
+      objects = found_classes;
+      trees = λ t u p q s r. (
         sound found_classes t u p q s r,
-        λ e. complete es class given t p q s (rw e r),
-      )
-
--- the classes of scalars are right, whatever those of collections are
-pub scalar_classes : (held : EventTable) (found : ClassList)
-    → AreScalarClasses (plain_events held) (listed_class found held) (length (scalars_of held))
-scalar_classes held found = record {
-  below = leaf_below held (slice_index found.by_collection);
-  same = leaves_same held (slice_index found.by_collection);
-}
-
--- each number below the bound is the class of a scalar or of a collection
-pub classes_used : {held : EventTable} {found : ClassList} {nodes : List Node} {from : ℕ}
-    → found.bound ≡ length (scalars_of held) → AreClassesFrom held found nodes from → (k : ℕ)
-    → k < found.bound + length nodes
-    → (p : ℕ) × HasItem (plain_events held) p × (listed_class found held p ≡ k)
-classes_used {held} {found} bound given k lt = elim (leb_tells found.bound k) [
-  | inl after ↦
-      let (p, le, item, is) = given.used (k - found.bound) (omega (arith, lt, after.1)) in
-      (p, item, omega (arith, is, after.1))
-  | inr before ↦
-      leaf_used held (slice_index found.by_collection) k (omega (arith, before.1, bound))
-]
+        λ e. complete es class same_class t p q s (rw e r),
+      );
+      long = long;
+      below = λ p item. let t = occurs_at es whole p item in class_below t.0 p t.1;
+      used = class_used;
+    }
 
 -- a collection begins at the index of a start
 pub start_at : (held : EventTable) → IsBracketed (plain_events held) → (p : ℕ)
@@ -240,8 +240,8 @@ module _ (es : List PlainEvent) (class : ℕ → ℕ) (count : ℕ) (keys : List
 -- the class of the collection at index p is set
 module _ (held : EventTable) (found : ClassList) (p c : ℕ) (u : Tree)
     (at : IsCollectionAt (plain_events held) u p) (long : HasEachCollection found held) where
-  abbrev es : List PlainEvent
-  es = plain_events held
+  abbrev events : List PlainEvent
+  events = plain_events held
 
   abbrev number : ℕ
   number = collection_number held p
@@ -254,7 +254,7 @@ module _ (held : EventTable) (found : ClassList) (p c : ℕ) (u : Tree)
       ∙ get_or-set_same found.by_collection number c 0
       (omega (arith, number_below held u p at, long))
 
-  other : (t : Tree) (q : ℕ) → IsCollectionAt es t q → q ≢ p
+  other : (t : Tree) (q : ℕ) → IsCollectionAt events t q → q ≢ p
       → listed_class set_list held q ≡ listed_class found held q
   other t q s n =
       collection_class held (slice_index set_list.by_collection) t q s
@@ -262,14 +262,14 @@ module _ (held : EventTable) (found : ClassList) (p c : ℕ) (u : Tree)
       (λ e. n (numbers_apart held t u q p s at e))
       ∙ sym (collection_class held (slice_index found.by_collection) t q s)
 
-  agree : (t : Tree) (q : ℕ) → OccursAt es t q → q ≢ p
+  agree : (t : Tree) (q : ℕ) → OccursAt events t q → q ≢ p
       → listed_class set_list held q ≡ listed_class found held q
   agree (Leaf x) q s n =
       leaf_any held (slice_index set_list.by_collection) (slice_index found.by_collection) x q s
   agree (Array ts) q s n = other _ q (array_at s) n
   agree (Dictionary ms) q s n = other _ q (dictionary_at s) n
 
-  pub collection_written : (keys new : List Node) → IsBracketed es
+  pub collection_written : (keys new : List Node) → IsBracketed events
       → AreClassesFrom held found keys (p + 1) → found.bound ≤ c
       → Extends keys (c - found.bound) new → IsClassAt held found new p c
       → AreClassesFrom held set_list new p
@@ -277,10 +277,8 @@ module _ (held : EventTable) (found : ClassList) (p c : ℕ) (u : Tree)
     each = λ q le t s.
         let class = listed_class found held in
         let after = listed_class set_list held in
-        rw (node_stays es class after p agree t q s le) (elim (eqb_tells q p) [
-          | inl e ↦ subst
-              (λ r. OccursAt es t r → IsClass found.bound new (node_at class t r) (after r))
-              (sym e.1) (λ r. rw here (this t r)) s
+        rw (node_stays events class after p agree t q s le) (elim (eqb_tells q p) [
+          | inl e ↦ rw (e.1, here) (this t (rw e.1 at s))
           | inr n ↦ rw (agree t q s n.1)
               (class_stays found.bound more _ _ (old.each q (omega (arith, le, n.1)) t s))
         ]);
@@ -293,7 +291,7 @@ module _ (held : EventTable) (found : ClassList) (p c : ℕ) (u : Tree)
       )
       | inr n ↦
           let (q, le, item, is) = old.used i (more.only i lt n.1) in
-          let t = occurs_at es whole q item in
+          let t = occurs_at events whole q item in
           (q, omega (arith, le), item, agree t.0 q t.1 (λ same. omega (arith, same, le)) ∙ is)
     ];
   }
@@ -305,10 +303,7 @@ pub none_written : (held : EventTable) (found : ClassList) (keys : List Node) (p
     → AreClassesFrom held found keys (p + 1) → AreClassesFrom held found keys p
 none_written held found keys p a d old = record {
   each = λ q le t s. elim (eqb_tells q p) [
-    | inl e ↦
-        let class = listed_class found held in
-        subst (λ r. OccursAt (plain_events held) t r
-        → IsClass found.bound keys (node_at class t r) (class r)) (sym e.1) (none t) s
+    | inl e ↦ rw e.1 (none t (rw e.1 at s))
     | inr n ↦ old.each q (omega (arith, le, n.1)) t s
   ];
   used = λ i lt. let (q, le, item, is) = old.used i lt in (q, omega (arith, le), item, is);

@@ -67,38 +67,13 @@ fn push_half(
     Ok(())
 }
 
-// Returns the classes of the children of the collection that begins at an index.
-fn classes_within(
-    alloc: Global,
-    events: &EventTable<'_>,
-    classes: &ClassList,
-    index: usize,
-) -> Result<Vec<usize>, AllocError>
-    requires whole { IsBracketed (plain_events events.now) }
-    requires index { index < length (plain_events events.now) }
-    requires long { HasEachCollection classes.now events.now }
-    ensures { IfOk result (λ found. found.items
-        ≡ map (listed_class classes.now events.now)
-        (half_of (plain_events events.now) Keys index)
-        ++ map (listed_class classes.now events.now)
-        (half_of (plain_events events.now) Values index)) }
-{
-    let mut found = Vec::new(alloc);
-    push_half(&mut found, events, classes, index, Half::Keys)?;
-    push_half(&mut found, events, classes, index, Half::Values)?;
-    Ok(found)
-}
-
 // Returns whether a dictionary begins at an index.
 fn begins_dictionary(events: &EventTable<'_>, index: usize) -> bool
     requires { index < length (plain_events events.now) }
     ensures { IsTrue result
         ↔ (shape_of (table_event events.now index) ≡ EventShape.StartDictionary) }
 {
-    match events.kind_at(index) {
-        EventShape::StartDictionary => true,
-        EventShape::StartArray | EventShape::EndCollection | EventShape::Scalar => false,
-    }
+    matches!(events.kind_at(index), EventShape::StartDictionary)
 }
 
 // Returns the class of the collection that begins at an index. It is at least `found.bound`, which
@@ -122,7 +97,9 @@ fn class_of_collection(
         (class - found.now.bound) (map node_of collections.new.keys)) }
     ensures apart { OnOk result (AreDistinct (map node_of collections.new.keys)) }
 {
-    let children = classes_within(alloc, events, found, index)?;
+    let mut children = Vec::new(alloc);
+    push_half(&mut children, events, found, index, Half::Keys)?;
+    push_half(&mut children, events, found, index, Half::Values)?;
     let collection = Collection {
         is_dictionary: begins_dictionary(events, index),
         children,
@@ -165,34 +142,6 @@ fn assign_class(
     }
 }
 
-// Sets the class of each collection among these events. The walk goes backwards, so that the
-// classes of a collection's children are known before its own class is determined. Then adds the
-// number of different collections to the bound.
-fn assign_classes(
-    alloc: Global,
-    events: &EventTable<'_>,
-    found: &mut ClassList,
-) -> Result<(), AllocError>
-    requires whole { IsBracketed (plain_events events.now) }
-    requires long { HasEachCollection found.old events.now }
-    requires bound { found.old.bound ≡ length (scalars_of events.now) }
-    ensures { OnOk result (SeparatesAll events.now found.new) }
-{
-    let mut collections = IndexSet::new(alloc);
-    let mut index = events.len();
-    'back: while index > 0 {
-        index -= 1;
-        assign_class(alloc, events, index, found, &mut collections)?;
-    }
-    match found.bound.checked_add(collections.len()) {
-        Some(bound) => {
-            found.bound = bound;
-            Ok(())
-        }
-        None => Err(AllocError),
-    }
-}
-
 /// Returns the class of every collection among the events of a tree. Two events at which trees
 /// begin have the same class if and only if the trees are equal. It fails if an allocation fails.
 pub fn tree_classes(alloc: Global, events: &EventTable<'_>) -> Result<ClassList, AllocError>
@@ -204,6 +153,17 @@ pub fn tree_classes(alloc: Global, events: &EventTable<'_>) -> Result<ClassList,
         by_collection: CompactNumbers::zeros(alloc, events.count_collections())?,
         bound: events.count_scalars(),
     };
-    assign_classes(alloc, events, &mut found)?;
+    let mut collections = IndexSet::new(alloc);
+    // The walk goes backwards, so that the classes of a collection's children are known before its
+    // own class is determined.
+    let mut index = events.len();
+    'back: while index > 0 {
+        index -= 1;
+        assign_class(alloc, events, index, &mut found, &mut collections)?;
+    }
+    found.bound = found
+        .bound
+        .checked_add(collections.len())
+        .ok_or(AllocError)?;
     Ok(found)
 }

@@ -1,7 +1,7 @@
 -- Collections, described by the classes of their children.
 use Rattle.std.specs.Prelude.{◌≡◌, ◌≢◌, ◌↔◌, ℕ, ◌+◌, ◌<◌, ◌≤◌, Bool, true, false, List, ◌++◌, length, map, Option, None, Some, slice_get, ⊤}
 use Rattle.plist_base.specs.Events.{PlainEvent}
-use Rattle.plist_base.specs.Trees.{Scalar, Tree, Leaf, Array, Dictionary}
+use Rattle.plist_base.specs.Trees.{Tree, Leaf, Array, Dictionary}
 use Rattle.plist_buffer.specs.EventTable.{HasItem, keys_in, plain_events, values_in}
 use Rattle.plist_buffer.specs.declared.event_table.EventTable.{EventTable}
 use Rattle.plist_buffer.specs.Occurrences.{OccursAt}
@@ -53,12 +53,6 @@ pub record AreClassesFrom (held : EventTable) (found : ClassList) (nodes : List 
   pub each : (p : ℕ) → from ≤ p → IsClassAt held found nodes p (listed_class found held p)
   pub used : (i : ℕ) → i < length nodes → (p : ℕ) × (from ≤ p) × HasItem (plain_events held) p
       × (listed_class found held p ≡ found.bound + i)
-
--- each scalar has a class below the count, and equal ones have the same
-pub record AreScalarClasses (es : List PlainEvent) (class : ℕ → ℕ) (count : ℕ) : Type 0 where
-  pub below : (x : Scalar) (p : ℕ) → OccursAt es (Leaf x) p → class p < count
-  pub same : (x y : Scalar) (p q : ℕ) → OccursAt es (Leaf x) p → OccursAt es (Leaf y) q
-      → (class p ≡ class q) ↔ (x ≡ y)
 
 -- two indices have the same class if and only if the same tree begins at both
 abbrev pub SeparatesTrees : List PlainEvent → (class : ℕ → ℕ) → Type 0

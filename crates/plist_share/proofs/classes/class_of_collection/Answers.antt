@@ -1,4 +1,4 @@
-use Rattle.std.proofs.Common.{rules, arith, ◌≡◌, ◌+◌, ◌-◌, ◌++◌, map, Some, ◌∙◌}
+use Rattle.std.proofs.Common.{rules, arith, ◌≡◌, ◌+◌, ◌-◌, Some, ◌∙◌}
 use Rattle.plist_binwrite.specs.EventClasses.{listed_class}
 use Rattle.plist_buffer.specs.EventTable.{plain_events}
 use Rattle.plist_buffer.proofs.ChildIndices.{keys_are_in, values_are_in}
@@ -9,8 +9,9 @@ pub returns-clause-class : goal.returns-clause-class
 returns-clause-class c t s =
     let es = plain_events c.args.events.now in
     let class = listed_class c.args.found.now c.args.events.now in
-    let is = c.in_ok-children.ensures ∙ (λ i. map class (keys_are_in es t c.args.index s i)
-    ++ map class (values_are_in es t c.args.index s i)) in
+    let at = c.args.index in
+    let first = rw (c.new-children.ensures.items, keys_are_in es t at s) at c.in_ok-push_half.ensures in
+    let is = rw (first, values_are_in es t at s) at c.in_ok-push_half-2.ensures in
     let sum : c.in_ok-class.class ≡ c.args.found.now.bound + c.in_ok-node.node = search rules in
     by_collection es class c.args.found.now.bound _
     c.begins_dictionary.result t c.args.index c.in_ok-class.class s

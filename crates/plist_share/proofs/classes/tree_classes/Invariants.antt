@@ -3,7 +3,7 @@ use Rattle.plist_binwrite.specs.EventClasses.{HasEachCollection}
 use Rattle.plist_buffer.specs.EventTable.{plain_events, scalars_of}
 use Rattle.plist_buffer.specs.inner.Entries.{AreDistinct}
 use Rattle.plist_share.specs.inner.Nodes.{AreClassesFrom, node_of}
-use Rattle.plist_share.proofs.classes.assign_classes.Given as goal
+use Rattle.plist_share.proofs.classes.tree_classes.Given as goal
 
 abbrev pub invariant-back : goal.invariant-back
 invariant-back l = record {
