@@ -14,7 +14,7 @@ use Rattle.plist_binwrite.specs.Forms.{key_numbers, value_numbers}
 use Rattle.plist_binwrite.specs.declared.classes.ClassList.{ClassList}
 use Rattle.plist_buffer.specs.EventTable.{HasItem, IsBracketed, collection_number, is_end, item_indices, key_indices, value_indices, event_at, plain_events, scalars_of}
 use Rattle.plist_binwrite.proofs.Unfold.{pairs, references}
-use Rattle.plist_buffer.specs.Occurrences.{OccursAt, ItemsOccurAt, PairsOccurAt}
+use Rattle.plist_buffer.specs.Occurrences.{event_count, OccursAt, ItemsOccurAt, PairsOccurAt}
 use Rattle.plist_base.specs.declared.event.EventShape.{EventShape}
 use Rattle.plist_base.specs.declared.event.EventShape.TheVariants as shape
 use Rattle.plist_buffer.specs.declared.event_table.EventTable.{EventTable}
@@ -26,7 +26,6 @@ use Rattle.plist_binwrite.proofs.TreeObjects.{keys_are, values_are}
 use Rattle.plist_binwrite.proofs.Reading.{dictionary_is, length-keys_of, length-values_of}
 use Rattle.plist_buffer.proofs.TreeOccurrences.{occurs_items, occurs_pairs, occurs_item, occurs_next, occurs_key, occurs_value, occurs_next_pair}
 use Rattle.plist_buffer.proofs.TreeStarts.{begins, occurs_in, starts_array, starts_dictionary}
-use Rattle.plist_share.proofs.EqualClasses.{complete}
 use Rattle.plist_share.specs.inner.Nodes.{AreClassesFrom, Node, node_at, node_by, IsClass, IsClassAt, Extends, SeparatesAll}
 
 -- ---- a dictionary's pairs by their keys and their values, and back
@@ -139,16 +138,36 @@ module _ {held : EventTable} {found : ClassList} {nodes : List Node} {from : ℕ
         let same = apart a.0 b.0 k a.2 (cc) in
         omega arith
 
-    same_class : (t : Tree) (p q : ℕ) → OccursAt es t p → OccursAt es t q
-        → object_of class t p ≡ object_of class t q → class p ≡ class q
-    same_class (Leaf x) p q s r e = (leaves_same held of_collection x x p q s r).1 refl
-    same_class (Array ts) p q s r e =
-        let same : references class ts (p + 1) ≡ references class ts (q + 1) = cc in
-        one_class _ _ _ _ (ap (λ l. (false, l)) same) (all (Array ts) p s) (all (Array ts) q r)
-    same_class (Dictionary ms) p q s r e =
-        let same : pairs class ms (p + 1) ≡ pairs class ms (q + 1) = cc in
-        one_class _ _ _ _ (ap (λ l. (true, l)) (same_halves _ _ ms _ _ same))
-        (all (Dictionary ms) p s) (all (Dictionary ms) q r)
+    mutual
+      -- the indices of equal trees have the same class
+      complete : (t : Tree) (p q : ℕ) → OccursAt es t p → OccursAt es t q → class p ≡ class q
+      complete (Leaf x) p q s r = (leaves_same held of_collection x x p q s r).1 refl
+      complete (Array ts) p q s r =
+          one_class _ _ _ _
+          (ap (λ l. (false, l)) (complete_items ts _ _ (occurs_items s) (occurs_items r)))
+          (all (Array ts) p s) (all (Array ts) q r)
+      complete (Dictionary ms) p q s r =
+          let same = complete_pairs ms _ _ (occurs_pairs s) (occurs_pairs r) in
+          one_class _ _ _ _ (ap (λ l. (true, l)) (same_halves _ _ ms _ _ same))
+          (all (Dictionary ms) p s) (all (Dictionary ms) q r)
+
+      complete_items : (ts : Trees) (p q : ℕ) → ItemsOccurAt es ts p → ItemsOccurAt es ts q
+          → references class ts p ≡ references class ts q
+      complete_items NoTrees p q s r = refl
+      complete_items (TreeAnd t ts) p q s r =
+          let first = complete t p q (occurs_item s) (occurs_item r) in
+          let more = complete_items ts (p + event_count t) _ (occurs_next s) (occurs_next r) in
+          λ i. first i ∷ more i
+
+      complete_pairs : (ms : Members) (p q : ℕ) → PairsOccurAt es ms p → PairsOccurAt es ms q
+          → pairs class ms p ≡ pairs class ms q
+      complete_pairs NoMembers p q s r = refl
+      complete_pairs (MemberAnd k t ms) p q s r =
+          let key = (leaves_same held of_collection _ _ p q (occurs_key s) (occurs_key r)).1 refl in
+          let first = complete t _ _ (occurs_value s) (occurs_value r) in
+          let more = complete_pairs ms _ _ (occurs_next_pair s)
+          (occurs_next_pair r) in
+          λ i. (key i, first i) ∷ more i
 
     -- the classes separate the trees
     pub separates : IsBracketed es → SeparatesAll held
@@ -157,7 +176,7 @@ module _ {held : EventTable} {found : ClassList} {nodes : List Node} {from : ℕ
       objects = found_classes;
       trees = λ t u p q s r. (
         sound found_classes t u p q s r,
-        λ e. complete es class same_class t p q s (rw e r),
+        λ e. complete t p q s (rw e r),
       );
       long = long;
       below = λ p item. let t = occurs_at es whole p item in class_below t.0 p t.1;

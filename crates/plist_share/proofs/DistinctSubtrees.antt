@@ -1,5 +1,5 @@
 -- A file with one object for each class has one for each different subtree.
-use Rattle.std.proofs.Common.{◌≡◌, inl, inr, ℕ, ◌+◌, ◌^◌, ◌<◌, true, nat_eq, List, length, map, sym, ap, ◌∙◌, subst}
+use Rattle.std.proofs.Common.{◌≡◌, ℕ, ◌+◌, ◌^◌, ◌<◌, nat_eq, List, length, map, sym, ap, ◌∙◌, subst}
 use Rattle.std.specs.List.{sum_by}
 use Rattle.std.proofs.lemmas.List.Folds.{fold-map}
 use Rattle.std.specs.Set.{unique_keys}
@@ -13,10 +13,11 @@ use Rattle.plist_buffer.specs.Occurrences.{OccursAt, positions}
 use Rattle.plist_binwrite.specs.Forms.{reference_width}
 use Rattle.plist_buffer.proofs.TreePositions.{Stands, positions_stand}
 use Rattle.plist_buffer.proofs.Uniques.{unique_seen}
+use Rattle.plist_buffer.proofs.SameScalars.{tells_both}
 use Rattle.plist_share.specs.inner.Nodes.{SeparatesTrees}
 use Rattle.plist_share.specs.SharedFiles.{tree_eq, subtrees, distinct_subtrees, IsSharedFileOf, shared_file_size}
 use Rattle.plist_share.proofs.Least.{least}
-use Rattle.plist_share.proofs.TreeEquality.{tree_same, tree_other}
+use Rattle.plist_share.proofs.TreeEquality.{tree_tells}
 use Rattle.plist_binwrite.proofs.ClassObjects.{same_class}
 
 abbrev tree_positions : ℕ × Tree → Tree
@@ -30,11 +31,8 @@ module _ (es : List PlainEvent) (class : ℕ → ℕ) (given : SeparatesTrees es
   separate_alike : (a b : ℕ × Tree) → OccursAt es a.1 a.0 → OccursAt es b.1 b.0
       → nat_eq (class a.0) (class b.0) ≡ tree_eq a.1 b.1
   separate_alike a b s r =
-      elim (eqb_tells (class a.0) (class b.0)) [
-        | inl y ↦ y.0 ∙ sym (subst (λ w. tree_eq a.1 w ≡ true) ((given a.1 b.1 a.0 b.0 s r).0 y.1)
-            (tree_same a.1))
-        | inr n ↦ n.0 ∙ sym (tree_other a.1 b.1 (λ e. n.1 ((given a.1 b.1 a.0 b.0 s r).1 e)))
-      ]
+      tells_both nat_eq tree_eq (class a.0) (class b.0) a.1 b.1 (eqb_tells _ _) (tree_tells _ _)
+      (given a.1 b.1 a.0 b.0 s r).0 (given a.1 b.1 a.0 b.0 s r).1
 
   module _ (t : Tree) (s : OccursAt es t 0) where
     trees_kept : map tree_positions (representatives class t) ≡ unique_keys tree_eq (subtrees t)

@@ -10,7 +10,8 @@ use Rattle.plist_base.specs.Container.{Head, head_of}
 use Rattle.plist_base.specs.Unfolding.{table_of, unfolding_of, items_with, items_of_file}
 use Rattle.plist_binwrite.proofs.Least.{no_fault, all_items}
 use Rattle.plist_binwrite.proofs.Totals.{unique_distinct, pigeons}
-use Rattle.plist_buffer.proofs.Uniques.{all_unique}
+use Rattle.plist_buffer.proofs.Uniques.{all_map, all_unique}
+use Rattle.plist_buffer.specs.Occurrences.{positions}
 use Rattle.plist_share.specs.SharedFiles.{tree_eq, subtrees, distinct_subtrees, IsLeastOfAll}
 use Rattle.plist_share.proofs.Meaning.{Means, Numbered, one_tree, all_numbered}
 use Rattle.plist_share.proofs.Parsing.{unfolding_parses}
@@ -33,7 +34,8 @@ least_with file t (Ok head) h p =
       h,
       rw (← size) (pigeons tree_eq tree_tells (length table) (Means table) (one_tree table)
           (unique_keys tree_eq (subtrees t))
-          (all_unique (Numbered table) tree_eq (subtrees t) (all_numbered table t 0 head.root means))
+          (all_unique (Numbered table) tree_eq (subtrees t)
+          (all_map (Numbered table) (λ one. one.1) (positions t 0) (all_numbered table t 0 head.root means)))
           (unique_distinct tree_eq tree_tells (subtrees t))),
     )
 

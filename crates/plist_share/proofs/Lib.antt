@@ -1,10 +1,7 @@
 pub mod Meaning
 pub mod Parsing
 pub mod Least
-pub mod EqualClasses
-pub mod EqualKeys
 pub mod ClassTrees
 pub mod TreeEquality
 pub mod DistinctSubtrees
-pub mod SharedFile
 pub mod SharedFilesOfTrees

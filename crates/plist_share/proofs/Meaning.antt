@@ -1,8 +1,7 @@
 -- The one tree that an object number represents in a table of objects.
-use Rattle.std.proofs.Common.{◌≡◌, ℕ, ◌+◌, ◌<◌, List, [], ◌∷◌, ◌++◌, length, map, Some, refl, ap, subst, sym}
+use Rattle.std.proofs.Common.{◌≡◌, ℕ, ◌+◌, ◌<◌, List, [], ◌∷◌, length, Some, refl, ap}
 use Rattle.std.specs.Prelude.{slice_get, ⊤}
 use Rattle.std.specs.List.{AllByRecursion}
-use Rattle.std.proofs.lemmas.List.{map-append}
 use Rattle.std.proofs.lemmas.Option.{slice_get_within}
 use Rattle.plist_base.specs.Trees as trees
 use Rattle.plist_base.specs.Trees.{Tree, Leaf, Array, Dictionary, Trees, NoTrees, TreeAnd, Members, NoMembers, MemberAnd}
@@ -77,49 +76,39 @@ module _ (table : List TableEntry) where
   abbrev pub Numbered : Tree → Type 0
   Numbered tree = (number : ℕ) × (number < length table) × Means tree number
 
-  stands_below : (i : ℕ) (o : Object) → Stands i o → i < length table
-  stands_below i o s = slice_get_within _ i s.entry s.found
-
   means_below : (t : Tree) (i : ℕ) → Means t i → i < length table
-  means_below (Leaf x) i m = stands_below i _ m
-  means_below (Array ts) i m = stands_below i _ m.1
-  means_below (Dictionary ms) i m = stands_below i _ m.1
+  means_below (Leaf x) i m = slice_get_within _ i _ m.found
+  means_below (Array ts) i m = slice_get_within _ i _ m.1.found
+  means_below (Dictionary ms) i m = slice_get_within _ i _ m.1.found
 
   numbered : (t : Tree) (i : ℕ) → Means t i → Numbered t
   numbered t i m = (i, means_below t i m, m)
 
-  -- the tree at a position
-  abbrev tree_at : ℕ × Tree → Tree
-  tree_at one = one.1
-
-  both_numbered : (xs ys : List (ℕ × Tree)) → AllByRecursion Numbered (map tree_at xs)
-      → AllByRecursion Numbered (map tree_at ys) → AllByRecursion Numbered (map tree_at (xs ++ ys))
-  both_numbered xs ys p q =
-      subst (AllByRecursion Numbered) (sym (map-append tree_at xs ys))
-      (all_both Numbered (map tree_at xs) (map tree_at ys) p q)
+  -- the trees at these positions have numbers
+  abbrev AreNumbered : List (ℕ × Tree) → Type 0
+  AreNumbered ones = AllByRecursion (λ one. Numbered one.1) ones
 
   mutual
     -- each tree in a tree has a number
-    pub all_numbered : (t : Tree) (p i : ℕ) → Means t i
-        → AllByRecursion Numbered (map tree_at (positions t p))
+    pub all_numbered : (t : Tree) (p i : ℕ) → Means t i → AreNumbered (positions t p)
     all_numbered (Leaf x) p i m = (numbered (Leaf x) i m, tt)
     all_numbered (Array ts) p i m = (numbered (Array ts) i m, items_numbered ts (p + 1) m.0 m.2)
     all_numbered (Dictionary ms) p i m =
         (numbered (Dictionary ms) i m, pairs_numbered ms (p + 1) m.0 m.2)
 
     items_numbered : (ts : Trees) (p : ℕ) (references : List ℕ) → MeansItems ts references
-        → AllByRecursion Numbered (map tree_at (positions_in_items ts p))
+        → AreNumbered (positions_in_items ts p)
     items_numbered NoTrees p references m = tt
     items_numbered (TreeAnd t ts) p [] m = absurd m
     items_numbered (TreeAnd t ts) p (c ∷ cs) m =
-        both_numbered (positions t p) _ (all_numbered t p c m.0) (items_numbered ts _ cs m.1)
+        all_both _ _ _ (all_numbered t p c m.0) (items_numbered ts _ cs m.1)
 
     pairs_numbered : (ms : Members) (p : ℕ) (pairs : List (ℕ × ℕ)) → MeansPairs ms pairs
-        → AllByRecursion Numbered (map tree_at (positions_in_pairs ms p))
+        → AreNumbered (positions_in_pairs ms p)
     pairs_numbered NoMembers p pairs m = tt
     pairs_numbered (MemberAnd k t ms) p [] m = absurd m
     pairs_numbered (MemberAnd k t ms) p (n ∷ ns) m = (
       numbered (Leaf (trees.String k)) n.0 m.0,
-      both_numbered (positions t (p + 1)) _ (all_numbered t (p + 1) n.1 m.1)
+      all_both _ _ _ (all_numbered t (p + 1) n.1 m.1)
           (pairs_numbered ms _ ns m.2),
     )

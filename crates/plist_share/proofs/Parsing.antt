@@ -1,38 +1,25 @@
 -- An object whose items are a tree's events represents the tree.
-use Rattle.std.proofs.Common.{◌≡◌, ℕ, zero, suc, ◌+◌, Bool, true, false, nat_eq, List, [], ◌∷◌, ◌++◌, length, map, Option, Some, None, Ok, Err, refl, ap, ◌∙◌, append_assoc, arith}
+use Rattle.std.proofs.Common.{◌≡◌, ℕ, zero, suc, ◌+◌, Bool, true, false, nat_eq, List, [], ◌∷◌, ◌++◌, drop, length, map, Option, Some, None, Ok, refl, ap, append_assoc, arith}
 use Rattle.std.specs.Prelude.{slice_get}
 use Rattle.std.specs.List.{list_any, flat_map}
 use Rattle.std.proofs.lemmas.Option.{slice_get_within}
 use Rattle.plist_base.proofs.Paths.{IsPath, path_push, path_rises}
-use Rattle.plist_base.specs.Faults.{Fault}
-use Rattle.plist_base.specs.Events.{PlainEvent, EndCollection, ScalarEvent, Item}
+use Rattle.plist_base.specs.Events.{PlainEvent, EndCollection, Item}
 use Rattle.plist_base.specs.Trees as trees
 use Rattle.plist_base.specs.Trees.{Tree, Leaf, Array, Dictionary, Trees, NoTrees, TreeAnd, Members, NoMembers, MemberAnd}
 use Rattle.plist_base.specs.Bracketing.{bracketing, bracketing_of_items, bracketing_of_pairs}
 use Rattle.plist_base.specs.Object as obj
 use Rattle.plist_base.specs.Object.{Object, children_of}
 use Rattle.plist_base.specs.Unfolding.{TableEntry, items_of, items_found, unfolding_of}
+use Rattle.plist_binwrite.proofs.Least.{no_fault}
 use Rattle.plist_share.proofs.Meaning.{Stands, Means, MeansItems, MeansPairs}
 
-tail_is : (a b : Item) (xs ys : List Item) → a ∷ xs ≡ b ∷ ys → xs ≡ ys
-tail_is a b xs ys p = cc
-
-head_scalar : (x y : trees.Scalar) (xs ys : List Item) → Ok (ScalarEvent x) ∷ xs ≡ Ok (ScalarEvent y) ∷ ys
-    → x ≡ y
-head_scalar x y xs ys p = cc
-
--- a tree's events begin neither with an end nor with a fault
+-- a tree's events don't begin with an end
 not_end : (t : Tree) (zs : List PlainEvent) (xs : List Item)
     → Ok EndCollection ∷ xs ≡ map Ok (bracketing t ++ zs) → ⊥
 not_end (Leaf x) zs xs p = cc
 not_end (Array ts) zs xs p = cc
 not_end (Dictionary ms) zs xs p = cc
-
-not_fault : (t : Tree) (zs : List PlainEvent) (f : Fault) (xs : List Item)
-    → Err f ∷ xs ≡ map Ok (bracketing t ++ zs) → ⊥
-not_fault (Leaf x) zs f xs p = cc
-not_fault (Array ts) zs f xs p = cc
-not_fault (Dictionary ms) zs f xs p = cc
 
 module _ (table : List TableEntry) where
   -- if these items begin with a tree's events, the number represents the tree, and the rest
@@ -48,7 +35,7 @@ module _ (table : List TableEntry) (child : ℕ → List Item)
       → flat_map child references ++ Ok EndCollection ∷ xs
       ≡ map Ok (bracketing_of_items ts ++ EndCollection ∷ es) → MeansItems table ts references
       × (xs ≡ map Ok es)
-  items_parse [] NoTrees es xs p = (tt, tail_is _ _ xs (map Ok es) p)
+  items_parse [] NoTrees es xs p = (tt, cc)
   items_parse [] (TreeAnd t ts) es xs p = absurd (not_end t _ xs (simp append_assoc at p))
   items_parse (c ∷ cs) NoTrees es xs p = absurd ((good c).1 _ _ (simp append_assoc at p))
   items_parse (c ∷ cs) (TreeAnd t ts) es xs p =
@@ -61,7 +48,7 @@ module _ (table : List TableEntry) (child : ℕ → List Item)
       → flat_map child (children_of pairs) ++ Ok EndCollection ∷ xs
       ≡ map Ok (bracketing_of_pairs ms ++ EndCollection ∷ es) → MeansPairs table ms pairs
       × (xs ≡ map Ok es)
-  pairs_parse [] NoMembers es xs p = (tt, tail_is _ _ xs (map Ok es) p)
+  pairs_parse [] NoMembers es xs p = (tt, cc)
   pairs_parse [] (MemberAnd k t ms) es xs p = cc
   pairs_parse (q ∷ qs) NoMembers es xs p =
       absurd ((good q.0).1 _ (map Ok es) (simp append_assoc at p))
@@ -79,20 +66,16 @@ module _ (table : List TableEntry) (child : ℕ → List Item)
       → items_of place o child ++ xs ≡ map Ok (bracketing t ++ es) → Means table t i
       × (xs ≡ map Ok es)
   object_parses i place (obj.Scalar y) is (Leaf x) es xs p = (
-    record {
-      entry = is.entry;
-      found = is.found;
-      is = is.is ∙ ap obj.Scalar (head_scalar y x xs (map Ok es) p);
-    },
-    tail_is _ _ xs (map Ok es) p,
+    record { entry = is.entry; found = is.found; is = cc },
+    cc,
   )
   object_parses i place (obj.Array references) is (Array ts) es xs p =
-      let inner = items_parse references ts es xs (simp append_assoc at (tail_is _ _ _ _ p)) in
+      let inner = items_parse references ts es xs (simp append_assoc at (ap (drop 1) p)) in
       ((references, is, inner.0), inner.1)
   object_parses i place (obj.Dictionary pairs) is (Dictionary ms) es xs p =
-      let inner = pairs_parse pairs ms es xs (simp append_assoc at (tail_is _ _ _ _ p)) in
+      let inner = pairs_parse pairs ms es xs (simp append_assoc at (ap (drop 1) p)) in
       ((pairs, is, inner.0), inner.1)
-  object_parses i place (obj.Faulty kind) is t es xs p = absurd (not_fault t es _ xs p)
+  object_parses i place (obj.Faulty kind) is t es xs p = no_fault _ xs (bracketing t ++ es) p
   object_parses i place o is t es xs p = cc
 
   -- an object's items don't begin with an end
@@ -111,9 +94,9 @@ module _ (table : List TableEntry) where
       → is_open ≡ false → IsTree table i (items entry))
       → IsTree table i (items_found found is_open at items)
   found_parses i at None o items f good =
-      ((λ t es xs p. absurd (not_fault t es _ xs p)), λ xs ys p. cc)
+      ((λ t es xs p. no_fault _ xs (bracketing t ++ es) p), λ xs ys p. cc)
   found_parses i at (Some entry) true items f good =
-      ((λ t es xs p. absurd (not_fault t es _ xs p)), λ xs ys p. cc)
+      ((λ t es xs p. no_fault _ xs (bracketing t ++ es) p), λ xs ys p. cc)
   found_parses i at (Some entry) false items f good = good entry f refl
 
   -- if an object's items begin with a tree's events, its number represents the tree

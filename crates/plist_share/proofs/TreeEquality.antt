@@ -1,5 +1,5 @@
 -- The test of trees decides whether they are equal.
-use Rattle.std.proofs.Common.{◌≡◌, inl, inr, Bool, true, false, ◌&&◌, refl, ap, ◌∙◌}
+use Rattle.std.proofs.Common.{◌≡◌, inl, inr, Bool, ◌&&◌, refl, ap, ◌∙◌}
 use Rattle.std.specs.Str.{bytes_eq}
 use Rattle.plist_base.specs.Trees.{Tree, Leaf, Array, Dictionary, Trees, NoTrees, TreeAnd, Members, NoMembers, MemberAnd}
 use Rattle.plist_base.specs.Scalars.{scalar_eq}
@@ -48,9 +48,3 @@ mutual
       (tells_both tree_eq members_eq rest_eq (λ a b. (a, b)) t u ms ns refl
       (λ e. (ap (λ p. p.0) e, ap (λ p. p.1) e)) (tree_tells t u) (members_tell ms ns))
   members_tell ms ns = inr (refl, λ e. cc)
-
-pub tree_same : (t : Tree) → tree_eq t t ≡ true
-tree_same t = elim (tree_tells t t) [ inl y ↦ y.0 | inr n ↦ absurd (n.1 refl) ]
-
-pub tree_other : (t u : Tree) → (t ≡ u → ⊥) → tree_eq t u ≡ false
-tree_other t u h = elim (tree_tells t u) [ inl y ↦ absurd (h y.1) | inr n ↦ n.0 ]

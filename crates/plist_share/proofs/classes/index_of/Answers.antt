@@ -1,8 +1,28 @@
-use Rattle.std.proofs.Common.{inl, inr}
+use Rattle.std.proofs.Common.{◌≡◌, ◌&&◌, Bool, true, ap, inl, inr}
+use Rattle.std.specs.Bool.{Decides}
+use Rattle.std.specs.Cmp.{booleans_Decides}
+use Rattle.std.specs.Str.{bytes_eq}
+use Rattle.std.proofs.lemmas.Bool.Decides.{Decides-and}
+use Rattle.std.proofs.lemmas.Slice.Eq.{bytes_eq-Decides}
+use mathlib.Core.Bool.{beq}
 use Rattle.plist_buffer.proofs.SetKeys.{key_at, key_came, keys_kept, keys_apart}
-use Rattle.plist_share.specs.inner.Nodes.{node_of}
-use Rattle.plist_share.proofs.EqualKeys.{same, same_key, key_same}
+use Rattle.plist_share.specs.declared.classes.Collection.{Collection}
+use Rattle.plist_share.specs.inner.Nodes.{Node, node_of}
 use Rattle.plist_share.proofs.classes.index_of.Goals as goal
+
+-- the derived test of collections, which decides whether they have the same node
+abbrev same : Collection → Collection → Bool
+same x y = beq x.is_dictionary y.is_dictionary && bytes_eq x.children.items y.children.items
+
+both_parts : (x y : Collection) → Decides (same x y)
+    ((x.is_dictionary ≡ y.is_dictionary) × (x.children.items ≡ y.children.items))
+both_parts x y = Decides-and _ _ (booleans_Decides _ _) (bytes_eq-Decides _ _)
+
+same_key : (x y : Collection) → same x y ≡ true → node_of x ≡ node_of y
+same_key x y h = let p = (both_parts x y).0 h in λ i. (p.0 i, p.1 i)
+
+key_same : (x y : Collection) → node_of x ≡ node_of y → same x y ≡ true
+key_same x y h = (both_parts x y).1 (ap (λ (k : Node). k.0) h, ap (λ (k : Node). k.1) h)
 
 pub returns-in-Ok-clause-stored : goal.returns-in-Ok-clause-stored
 returns-in-Ok-clause-stored c =
