@@ -1,11 +1,14 @@
--- The bytes of each form of a number or a length.
-use Rattle.std.proofs.Common.{◌≡◌, ℕ, zero, suc, ◌+◌, ◌*◌, ◌^◌, ◌<◌, ◌≤◌, [], ◌∷◌, ◌++◌, refl, arith}
+-- The bytes of each form of a number or a length, and of numbers that are put one after another.
+use Rattle.std.proofs.Common.{◌≡◌, ℕ, zero, suc, ◌+◌, ◌*◌, ◌^◌, ◌<◌, ◌≤◌, [], ◌∷◌, ◌++◌, refl, arith, List, length, get_or, map, take, ap, sym, ◌∙◌, append-nil}
 use Rattle.std.specs.Int.{byte_at, bytes_high_first}
 use Rattle.std.proofs.lemmas.Bool.{lt-ltb, le-ltb}
 use native.Mathlib.Nat.{div-eq_of_lt}
 use Rattle.plist_base.specs.Object.{high_half}
 use Rattle.plist_base.specs.declared.marker.CountedKind.{CountedKind}
-use Rattle.plist_binwrite.specs.Forms.{unsigned_form, length_form}
+use Rattle.plist_binwrite.specs.Forms.{unsigned_form, length_form, table_form}
+use Rattle.std.proofs.lemmas.List.{map-append, take_more}
+use Rattle.std.specs.List.{flat_map}
+use Rattle.std.proofs.lemmas.Grind.{flat_map-append}
 
 pub length_short : (kind : CountedKind) (count : ℕ) → count < 15 → length_form kind count ≡ (high_half kind * 16 + count) ∷ []
 unfolding length_form
@@ -32,3 +35,29 @@ wide_is n h =
       high_zero 9 n (omega arith),
       high_zero 8 n (omega arith),
     ) refl
+
+-- ---- the bytes of several numbers
+
+module _ (f : ℕ → List ℕ) (xs : List ℕ) (i : ℕ) (lt : i < length xs) where
+  pub one_part : flat_map f (take i xs) ++ f (get_or xs i 0) ≡ flat_map f (take (i + 1) xs)
+  one_part =
+      rw (
+        take_more xs i 0 lt,
+        flat_map-append f _ _,
+        append-nil _,
+      ) refl
+
+-- ---- the bytes of references
+
+-- the numbers of the events at these indices
+abbrev pub references : (number : ℕ → ℕ) (width : ℕ) → List ℕ → List ℕ
+references number width indices = table_form width (map number indices)
+
+-- one more reference is put
+pub references_more : (number : ℕ → ℕ) (width : ℕ) (front : List ℕ) (child : ℕ)
+    → references number width front ++ bytes_high_first width (number child)
+    ≡ references number width (front ++ child ∷ [])
+references_more number width front child =
+    sym (ap (table_form width) (map-append number front (child ∷ []))
+    ∙ flat_map-append (bytes_high_first width) (map number front) (number child ∷ [])
+    ∙ ap (λ l. references number width front ++ l) (append-nil _))

@@ -22,8 +22,7 @@ use Rattle.plist_buffer.specs.Occurrences.{positions}
 use Rattle.plist_binwrite.specs.Written.{Laid, file_with, laid_out, object_table}
 use Rattle.plist_binwrite.specs.declared.classes.Classed.{Classed}
 use Rattle.plist_binwrite.specs.declared.plan.FilePlan.{FilePlan}
-use Rattle.plist_binwrite.proofs.ClassObjects.{Numbered, numbered, number_apart, number_below}
-use Rattle.plist_binwrite.proofs.PlanClasses.{bound_is_count, numbered_count, numbered_size, size_by_numbers}
+use Rattle.plist_binwrite.proofs.ClassObjects.{Numbered, numbered, number_apart, number_below, bound_is_count, numbered_count, numbered_size, size_by_numbers}
 use Rattle.plist_binwrite.proofs.NumberingSteps.{size_told}
 use Rattle.plist_binwrite.proofs.ObjectOffsets.{AllOnce, all_once, length-magic, found_place, object_there, total_bodies}
 use Rattle.plist_binwrite.proofs.Reading.{form_read}
@@ -46,7 +45,10 @@ use Rattle.plist_buffer.proofs.Lengthless.{plain_lengthless}
 module _ {plan : FilePlan} (r : IsFilePlan plan) {objects : ℕ → Object} {order offsets : List ℕ}
     (l : IsLayout plan objects order offsets)
     (all : (k : ℕ) → k < plan.numbering.count → get_or offsets k 0 ≢ 0) (t : Tree)
-    (e : events_in plan.given ≡ lengthless t) where
+    (alike : AreAlike (events_in plan.given) (bracketing t)) where
+  e : events_in plan.given ≡ lengthless t
+  e = plain_lengthless plan.given.events.now t alike
+
   abbrev class : ℕ → ℕ
   class = class_in plan.given
 
@@ -151,7 +153,7 @@ module _ {plan : FilePlan} (r : IsFilePlan plan) {objects : ℕ → Object} {ord
   unfolding visits
   visits_are = ap (visits_with bytes) head_found ∙ shows.visits
 
-  pub finished : IsFileBy class t bytes
+  finished : IsFileBy class t bytes
   finished = record {
     numbers = num;
     apart = λ u v p q s o. number_apart r.numbered u v p q (rw e s) (rw e o);
@@ -174,6 +176,10 @@ module _ {plan : FilePlan} (r : IsFilePlan plan) {objects : ℕ → Object} {ord
         ∙ (λ i. place_is i + count_is i * least_width (place_is i) + 32);
     fits = fits;
   }
+
+  -- all objects of a plan are a file of its tree
+  pub file_made : IsFileBy class t (file_with plan.width objects offsets order)
+  file_made = subst (λ w. IsFileBy class t (file_with w objects offsets order)) (sym wide) finished
 
 -- ---- a plan
 
@@ -204,17 +210,6 @@ module _ {given : Classed} {numbering : Numbering} (n : IsNumberingOfEvents give
       record { numbered = n; width = wide; narrow = narrow; small = rw wide (fits _ size_is) }
 
 -- ---- what is put
-
--- all objects of a plan are a file of its tree
-pub file_made : {plan : FilePlan} (r : IsFilePlan plan) {objects : ℕ → Object}
-    {order offsets : List ℕ} → IsLayout plan objects order offsets
-    → ((k : ℕ) → k < plan.numbering.count → get_or offsets k 0 ≢ 0) → (tree : Tree)
-    → AreAlike (events_in plan.given) (bracketing tree)
-    → IsFileBy (class_in plan.given) tree (file_with plan.width objects offsets order)
-file_made {plan} r {objects} {order} {offsets} l all t alike =
-    let e = plain_lengthless plan.given.events.now t alike in
-    subst (λ w. IsFileBy (class_in plan.given) t (file_with w objects offsets order))
-    (sym (wide r l all t e)) (finished r l all t e)
 
 module _ (plan : FilePlan) {W : Type 0} {contents : W → Option (List ℕ)} {start : Sink W}
     (empty : pending start ≡ []) (tree : AreTreeEvents (events_in plan.given)) where

@@ -1,24 +1,29 @@
--- What writing a file does.
-use Rattle.std.proofs.Common.{◌≡◌, ◌⊎◌, inl, inr, ℕ, ◌^◌, ◌<◌, ◌≤◌, List, Option, Ok, Err, ◌∙◌, subst, refl}
-use Rattle.plist_buffer.specs.declared.event_table.EventTable.{EventTable}
-use Rattle.plist_base.specs.Bracketing.{bracketing, lengthless, AreAlike, AreComplete}
+-- What writing a file does, and the paths through a call of a writer.
+use Rattle.std.proofs.Common.{◌≡◌, ◌⊎◌, inl, inr, ℕ, ◌^◌, ◌<◌, ◌≤◌, List, Option, Ok, Err, ◌∙◌, subst, refl, Bool, true, false, MatchBool, [], ◌∷◌, ◌++◌}
+use Rattle.plist_base.specs.Bracketing.{bracketing, lengthless, AreAlike, AreComplete, without_length, CanContinue}
 use Rattle.plist_base.specs.Events.{PlainEvent}
 use Rattle.plist_base.specs.Faults.{FaultKind, Fault, Io, OutOfMemory, PlistTooLarge, fault_without_offset}
 use Rattle.plist_base.specs.Trees.{Tree}
-use Rattle.plist_base.specs.Writing.{Answer}
-use Rattle.plist_base.proofs.Lengths.{whole_alike}
+use Rattle.plist_base.specs.Writing.{Answer, MatchKind}
+use Rattle.plist_base.proofs.Lengths.{whole_alike, alike_last}
 use Rattle.plist_buffer.proofs.Grammar.{complete_of_whole}
 use Rattle.plist_binwrite.specs.Classes.{IsFileBy, files_by, size_by}
 use Rattle.plist_binwrite.specs.EventClasses.{class_in, events_in}
 use Rattle.plist_binwrite.specs.declared.classes.Classed.{Classed}
-use Rattle.plist_binwrite.specs.Files.{IsFileOf, least_files}
-use Rattle.plist_buffer.specs.EventTable.{plain_events}
+use Rattle.plist_binwrite.specs.Files.{IsFileOf}
 use Rattle.plist_binwrite.specs.SendingAs.{FileKind, IsOfTree, FailsAs, SendsAs}
-use Rattle.plist_binwrite.proofs.Identities.{AreIdentities}
+use Rattle.plist_binwrite.proofs.ScalarClasses.{AreIdentities}
 use Rattle.plist_binwrite.proofs.Least.{least}
 use Rattle.plist_binwrite.proofs.WriterClasses.{owned_count, owned_size, entered_once}
 use Rattle.plist_buffer.proofs.TreeOccurrences.{occurs_whole}
-use Rattle.plist_buffer.proofs.Lengthless.{plain_lengthless}
+use Rattle.std.proofs.Props.{props}
+use Rattle.std.specs.declared.io.traits.Write.{Ghosts}
+use mathlib.Core.HLevel.{is_prop→PathP}
+use Rattle.plist_buffer.specs.declared.event_buffer.EventBuffer.{EventBuffer}
+use Rattle.plist_buffer.specs.EventBuffers.{is_whole, misplaced_fault}
+use Rattle.plist_binwrite.specs.declared.sharing.Sharing.{Ghosts as SharingGhosts}
+use Rattle.plist_binwrite.specs.declared.writer.FileWriter.{FileWriter}
+use Rattle.plist_binwrite.specs.FileWriter.{IsWriterStep, open_events, failed_of, sink_of}
 
 -- for events that are alike, a file of the first kind is one of the second kind, and has the same
 -- size
@@ -63,7 +68,7 @@ sends_nothing contents given fault old new (inr large) same = rw large.0 (refl, 
 
 -- ---- a file by the classes of `BinaryWriter` is the tree's file
 
-owned_file : {class : ℕ → ℕ} {count : ℕ} (tree : Tree) (file : List ℕ)
+pub owned_file : {class : ℕ → ℕ} {count : ℕ} (tree : Tree) (file : List ℕ)
     → AreIdentities (lengthless tree) class count → IsFileBy class tree file → IsFileOf tree file
 owned_file tree file o f = record {
   written = f.written;
@@ -79,13 +84,76 @@ owned_file tree file o f = record {
   fits = subst (λ n. n < 2 ^ 64) (owned_size tree o) f.fits;
 }
 
-pub sends_plainly : {W : Type 0} (contents : W → Option (List ℕ))
-    (events : EventTable) {class : ℕ → ℕ}
-    {count : ℕ} (answer : Answer) (old new : W) → AreIdentities (plain_events events) class count
-    → SendsAs (files_by class) contents (plain_events events) answer old new
-    → SendsAs least_files contents (plain_events events) answer old new
-sends_plainly contents events {class} {count} answer old new o s =
-    let own = λ (tree : Tree) (alike : AreAlike (plain_events events) (bracketing tree)). subst
-    (λ es. AreIdentities es class count) (plain_lengthless events tree alike) o in
-    sends_as (files_by class) least_files (plain_events events) (plain_events events) refl (λ tree alike file f. owned_file tree file (own tree alike) f)
-    (λ tree alike. owned_size tree (own tree alike)) contents answer old new s
+-- ---- a call of a writer
+
+still : (b : Bool) (x y : Type 0) → b ≡ false → y → MatchBool b x y
+still true x y e h = cc
+still false x y e h = h
+
+module _ {W : Type 0} (files : FileKind) (contents : W → Option (List ℕ)) where
+  -- after an error of writing the file, the writer has failed
+  failing : (kind : FaultKind) (events : List PlainEvent) (old new : W) (refused lost : Type 0)
+      → lost → FailsAs files contents kind events old new → MatchKind kind refused lost ⊥
+  failing Io events old new refused lost f h = f
+  failing PlistTooLarge events old new refused lost f h = f
+  failing OutOfMemory events old new refused lost f h = f
+  failing kind events old new refused lost f h = absurd h
+
+module _ {W S : Type 0} {g : Ghosts W} {h : SharingGhosts S} (before after : FileWriter W S g h)
+    (event : PlainEvent) (up : failed_of before ≡ false) where
+  abbrev Does : Answer → Type 0
+  Does answer = IsWriterStep before event answer after
+
+  pub takes_refused : (fault : Fault) → (CanContinue (open_events before) event → ⊥)
+      → fault ≡ misplaced_fault (open_events before) event → after ≡ before → Does (Err fault)
+  takes_refused fault none is same =
+      still _ _ _ up (rw is (refl, (none, refl, same)))
+
+  module _ (events : List PlainEvent) (can : CanContinue (open_events before) event)
+      (are : events ≡ open_events before ++ without_length event ∷ []) where
+    -- writing a file doesn't depend on the lengths of starts
+    sent : (answer : Answer)
+        → SendsAs h.kind g.contents events answer (sink_of before) (sink_of after)
+        → SendsAs h.kind g.contents (open_events before ++ event ∷ []) answer (sink_of before)
+        (sink_of after)
+    sent answer =
+        sends_as _ _ _ _
+        (cc (are, alike_last (open_events before) event)) (λ t alike file of. of) (λ t alike. refl) _ _ _ _
+
+    pub takes_unsent : (fault : Fault) → failed_of after ≡ true
+        → SendsAs h.kind g.contents events (Err fault) (sink_of before) (sink_of after)
+        → Does (Err fault)
+    takes_unsent fault lost sends =
+        let s = sent (Err fault) sends in
+        still (failed_of before) _ _ up (
+          s.0,
+          failing h.kind g.contents fault.kind (open_events before ++ event ∷ [])
+              (sink_of before) (sink_of after) _ _ (can, lost, s.1) s.1,
+        )
+
+-- a writer is unchanged if its buffered events are
+pub same_state : {W S : Type 0} {g : Ghosts W} {h : SharingGhosts S}
+    (before : FileWriter W S g h) (pending : EventBuffer) (is : pending ≡ before.pending)
+    (between : before.has_failed ≡ false → is_whole pending ≡ false)
+    → ◌≡◌ {A = FileWriter W S g h}
+    (record {
+      writer = before.writer;
+      alloc = before.alloc;
+      pending = pending;
+      has_failed =
+          before.has_failed;
+      sharing = before.sharing;
+      between = between;
+    }) before
+same_state before pending is between =
+    let along = is_prop→PathP (λ i. before.has_failed ≡ false
+    → is_whole (is i) ≡ false) (λ i. hlevel props) _ _ in
+    λ i. record {
+      writer =
+          before.writer;
+      alloc = before.alloc;
+      pending = is i;
+      has_failed = before.has_failed;
+      sharing = before.sharing;
+      between = along i;
+    }

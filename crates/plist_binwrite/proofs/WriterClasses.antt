@@ -1,20 +1,20 @@
 -- The classes of `BinaryWriter`: one for each collection, and one for each different scalar.
 use Rattle.std.proofs.Common.{◌≡◌, ℕ, ◌+◌, ◌<◌, ◌≤◌, Bool, true, false, cond, ◌||◌, eqb, List, [], ◌∷◌, ◌++◌, length, map, refl, ap, sym, ◌∙◌, arith, append_assoc, append-nil, length-append}
-use Rattle.std.specs.List.{list_any, flat_map, sum_by, AllByRecursion, IsDistinct}
+use Rattle.std.specs.List.{list_any, flat_map, AllByRecursion, IsDistinct}
 use Rattle.std.specs.Set.{is_member, unique_keys}
 use Rattle.std.proofs.lemmas.Bool.{ne_eqb}
 use Rattle.std.proofs.lemmas.Bool.Decides.{eqb_tells}
 use Rattle.std.proofs.lemmas.List.{map-id}
 use Rattle.plist_base.specs.Bracketing.{lengthless, lengthless_items, lengthless_pairs}
-use Rattle.plist_base.specs.Events.{PlainEvent, EndCollection}
+use Rattle.plist_base.specs.Events.{PlainEvent}
 use Rattle.plist_base.specs.Trees.{Scalar, Tree, Leaf, Array, Dictionary, Trees, NoTrees, TreeAnd, Members, NoMembers, MemberAnd}
 use Rattle.plist_binwrite.specs.Classes.{AreClasses, representatives, count_by, objects_by, size_by, object_of}
 use Rattle.plist_base.specs.Scalars.{scalar_eq}
 use Rattle.plist_binwrite.specs.Sizes.{object_count, scalars_in, collections_in, leaf_scalar, collection_of, object_size, size_with, file_size}
 use Rattle.plist_buffer.specs.Occurrences.{event_count, OccursAt, positions, positions_in_items, positions_in_pairs}
-use Rattle.plist_binwrite.specs.Forms.{reference_width, scalar_form}
+use Rattle.plist_binwrite.specs.Forms.{reference_width}
 use Rattle.plist_buffer.proofs.TreePositions.{Stands, one_tree, positions_stand}
-use Rattle.plist_binwrite.proofs.Identities.{alone, identity_of, AreIdentities, owner_eq, owners_tell}
+use Rattle.plist_binwrite.proofs.ScalarClasses.{alone, identity_of, AreIdentities, owner_eq, owners_tell}
 use Rattle.plist_buffer.proofs.SameScalars.{tells_both}
 use Rattle.plist_buffer.proofs.TreeOccurrences.{occurs_whole}
 use Rattle.plist_binwrite.proofs.Totals.{total, total_one, total_sum}
@@ -65,13 +65,11 @@ mutual
   rising (Leaf x) p after r = (omega arith, r)
   rising (Array ts) p after r = (
     omega arith,
-    rising_items ts _ _ (lower _ _ after
-        (omega (arith, length-append (lengthless_items ts) (EndCollection ∷ []))) r),
+    rising_items ts _ _ (lower _ _ after (omega (arith, length-append {A = PlainEvent})) r),
   )
   rising (Dictionary ms) p after r = (
     omega arith,
-    rising_pairs ms _ _ (lower _ _ after
-        (omega (arith, length-append (lengthless_pairs ms) (EndCollection ∷ []))) r),
+    rising_pairs ms _ _ (lower _ _ after (omega (arith, length-append {A = PlainEvent})) r),
   )
 
   rising_items : (ts : Trees) (p : ℕ) (after : List One)
@@ -79,8 +77,7 @@ mutual
   rising_items NoTrees p after r = lower p _ after (omega arith) r
   rising_items (TreeAnd t ts) p after r =
       rw append_assoc (rising t p _
-      (rising_items ts _ _ (lower _ _ after
-      (omega (arith, length-append (lengthless t) (lengthless_items ts))) r)))
+      (rising_items ts _ _ (lower _ _ after (omega (arith, length-append {A = PlainEvent})) r)))
 
   rising_pairs : (ms : Members) (p : ℕ) (after : List One)
       → Rise (p + length (lengthless_pairs ms)) after → Rise p (positions_in_pairs ms p ++ after)
@@ -88,9 +85,8 @@ mutual
   rising_pairs (MemberAnd k t ms) p after r = (
     omega arith,
     rw (append_assoc (positions t (p + 1)) (positions_in_pairs ms (p + 1 + event_count t)) after)
-        (rising t (p + 1) (positions_in_pairs ms (p + 1 + event_count t) ++ after)
-        (rising_pairs ms (p + 1 + event_count t) after (lower _ _ after
-        (omega (arith, length-append (lengthless t) (lengthless_pairs ms))) r))),
+        (rising t (p + 1) _
+        (rising_pairs ms _ _ (lower _ _ after (omega (arith, length-append {A = PlainEvent})) r))),
   )
 
 positions_rise : (t : Tree) → Rise 0 (positions t 0)
@@ -168,14 +164,8 @@ module _ (tree : Tree) {class : ℕ → ℕ} {count : ℕ} (o : AreIdentities
   pub owned_size : size_by class tree ≡ file_size tree
   owned_size =
       let w = reference_width (object_count tree) in
-      let leaves : (x : Scalar) → object_size w (Leaf x) ≡ length (scalar_form x) = λ x. omega arith in
       λ i. size_with (owned_count i) ((ap (λ n. objects_by class (reference_width n) tree) owned_count
-      ∙ sym (total_sum (λ (one : One). object_size w one.1) (representatives class tree))
-      ∙ kept_total (object_size w)
-      ∙ (λ i. total_sum (λ (one : One). object_size w one.1) (collections_in tree) i
-      + total_sum (λ y. object_size w (Leaf y)) (unique_keys scalar_eq (scalars_in tree)) i)
-      ∙ (λ i. sum_by (λ (one : One). object_size w one.1) (collections_in tree)
-      + sum_by (λ x. leaves x i) (unique_keys scalar_eq (scalars_in tree)))) i)
+      ∙ simp total_sum at (kept_total (object_size w))) i)
 
 -- ---- no collection is entered twice
 

@@ -2,7 +2,7 @@ use Rattle.std.proofs.Common.{arith, refl}
 use Rattle.plist_base.specs.Utf16.{utf8_of_utf16}
 use Rattle.plist_base.specs.declared.marker.CountedKind.TheVariants as kind
 use Rattle.plist_base.proofs.Utf16Forms.{utf8_of_valid}
-use Rattle.plist_binwrite.proofs.WideObjects.{text_bound, wide_size}
+use Rattle.plist_binwrite.proofs.TextForms.{text_bound, wide_size}
 use Rattle.plist_binwrite.proofs.forms.length_of_wide.Goals as goal
 
 pub returns-clause-value : goal.returns-clause-value

@@ -1,7 +1,7 @@
 use Rattle.std.proofs.Common.{arith}
 use Rattle.std.specs.Int.{bytes_high_first}
 use Rattle.plist_base.proofs.SinkSteps.{puts_as, puts_then}
-use Rattle.plist_binwrite.proofs.NumberLists.{one_part}
+use Rattle.plist_binwrite.proofs.NumberForms.{one_part}
 use Rattle.plist_binwrite.proofs.forms.put_numbers.Goals as goal
 
 pub loop-index-preserved : goal.loop-index-preserved

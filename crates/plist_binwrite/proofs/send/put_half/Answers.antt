@@ -4,7 +4,7 @@ use Rattle.plist_buffer.proofs.ChildIndices.{are_items}
 use Rattle.plist_buffer.specs.Children.{half_of}
 use Rattle.plist_binwrite.specs.EventClasses.{events_in}
 use Rattle.plist_binwrite.specs.inner.Layout.{number_of_event}
-use Rattle.plist_binwrite.proofs.NumberLists.{references_more}
+use Rattle.plist_binwrite.proofs.NumberForms.{references_more}
 use Rattle.plist_binwrite.proofs.send.put_half.Goals as goal
 
 pub loop-child-init : goal.loop-child-init

@@ -5,7 +5,7 @@ use Rattle.plist_binwrite.specs.EventClasses.{events_in}
 use Rattle.plist_buffer.specs.EventTable.{HasItem}
 use Rattle.plist_buffer.specs.Children.{indices_left}
 use Rattle.plist_binwrite.specs.inner.Layout.{number_of_event}
-use Rattle.plist_binwrite.proofs.NumberLists.{references}
+use Rattle.plist_binwrite.proofs.NumberForms.{references}
 use Rattle.plist_binwrite.proofs.send.put_half.Given as goal
 
 abbrev pub invariant-loop-child : goal.invariant-loop-child

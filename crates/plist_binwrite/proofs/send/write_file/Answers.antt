@@ -1,10 +1,15 @@
+use Rattle.std.proofs.Common.{◌+◌, length, refl, subst}
+use Rattle.plist_base.specs.Bracketing.{AreAlike, bracketing}
+use Rattle.plist_base.specs.Trees.{Tree}
 use Rattle.plist_base.specs.Writing.{answer_of}
-use Rattle.plist_buffer.specs.EventTable.{plain_events}
-use Rattle.plist_buffer.proofs.Lengthless.{whole_bracketed}
-use Rattle.plist_binwrite.proofs.Identities.{all_used, equal_scalars}
+use Rattle.plist_buffer.specs.EventTable.{count_collections, plain_events, scalars_of}
 use Rattle.plist_buffer.proofs.CollectionNumbers.{occurs_at}
-use Rattle.plist_binwrite.proofs.WriterClasses.{owners_classes}
-use Rattle.plist_binwrite.proofs.SendingFiles.{sends_plainly}
+use Rattle.plist_buffer.proofs.Lengthless.{plain_lengthless, whole_bracketed}
+use Rattle.plist_binwrite.specs.EventClasses.{scalar_class}
+use Rattle.plist_binwrite.specs.Files.{least_files}
+use Rattle.plist_binwrite.proofs.ScalarClasses.{AreIdentities, all_used, equal_scalars}
+use Rattle.plist_binwrite.proofs.SendingFiles.{owned_file, sends_as}
+use Rattle.plist_binwrite.proofs.WriterClasses.{owned_size, owners_classes}
 use Rattle.plist_binwrite.proofs.send.write_file.Goals as goal
 
 pub write_file_by_class-requires-clause-classed : goal.write_file_by_class-requires-clause-classed
@@ -22,5 +27,12 @@ write_file_by_class-requires-clause-classed g c =
 
 pub returns : goal.returns
 returns g c =
-    sends_plainly g.W.Write.contents c.args.events.now (answer_of c.write_file_by_class.result) _ _
-    (equal_scalars c.args.events.now) c.write_file_by_class.ensures
+    let held = c.args.events.now in
+    let es = plain_events held in
+    let count = length (scalars_of held) + count_collections held in
+    let own = λ (tree : Tree) (alike : AreAlike es (bracketing tree)).
+    subst (λ es. AreIdentities es (scalar_class held) count)
+    (plain_lengthless held tree alike) (equal_scalars held) in
+    sends_as _ least_files es es refl (λ tree alike file f. owned_file tree file (own tree alike) f)
+    (λ tree alike. owned_size tree (own tree alike)) g.W.Write.contents
+    (answer_of c.write_file_by_class.result) _ _ c.write_file_by_class.ensures

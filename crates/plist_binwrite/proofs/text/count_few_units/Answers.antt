@@ -1,7 +1,7 @@
 use Rattle.std.proofs.Common.{arith}
 use Rattle.std.proofs.lemmas.List.Sums.{sum_by-drop_more}
 use Rattle.plist_binwrite.specs.inner.Units.{units_begun}
-use Rattle.plist_binwrite.proofs.CountedUnits.{few_units_begun}
+use Rattle.plist_binwrite.proofs.TextForms.{few_units_begun}
 use Rattle.plist_binwrite.proofs.text.count_few_units.Goals as goal
 
 pub overflow_add-count : goal.overflow_add-count

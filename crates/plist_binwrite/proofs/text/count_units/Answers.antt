@@ -3,7 +3,7 @@ use Rattle.std.proofs.lemmas.List.{nil_from_length}
 use Rattle.std.specs.Slice.Iter.{chunks_rest}
 use Rattle.std.specs.List.{sum_by}
 use Rattle.plist_binwrite.specs.inner.Units.{units_begun}
-use Rattle.plist_binwrite.proofs.CountedUnits.{few_units_begun, units_counted}
+use Rattle.plist_binwrite.proofs.TextForms.{few_units_begun, units_counted}
 use Rattle.std.proofs.lemmas.List.Sums.{sum_by-append}
 use Rattle.plist_binwrite.proofs.text.count_units.Goals as goal
 

@@ -1,7 +1,7 @@
 use Rattle.std.proofs.Common.{refl}
 use Rattle.plist_base.proofs.SinkSteps.{puts_as, puts_then}
 use Rattle.plist_base.specs.Utf16.{utf8_of_utf16}
-use Rattle.plist_binwrite.proofs.WideObjects.{wide_object}
+use Rattle.plist_binwrite.proofs.TextForms.{wide_object}
 use Rattle.plist_binwrite.proofs.text.put_wide.Goals as goal
 
 pub returns : goal.returns

@@ -3,7 +3,7 @@ use Rattle.std.proofs.lemmas.Result.{err_from_is_err_and}
 use Rattle.plist_base.specs.Events.{event_of}
 use Rattle.plist_base.specs.Faults.{fault_of}
 use Rattle.plist_buffer.specs.EventTable.{plain_events}
-use Rattle.plist_binwrite.proofs.Calls.{takes_refused, takes_unsent, same_state}
+use Rattle.plist_binwrite.proofs.SendingFiles.{takes_refused, takes_unsent, same_state}
 use Rattle.plist_binwrite.proofs.writer.FileWriterWriter.write.Goals as goal
 
 pub returns-in-Err-Misplaced : goal.returns-in-Err-Misplaced
