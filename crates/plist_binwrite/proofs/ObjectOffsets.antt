@@ -1,13 +1,14 @@
 -- Objects that lie back to back: their order, their offsets and their sizes.
 use Rattle.std.proofs.Common.{◌≡◌, ◌≢◌, ◌↔◌, inl, inr, ℕ, ◌+◌, ◌-◌, ◌<◌, ◌≤◌, true, false, ◌||◌, eqb, below_more, List, [], ◌∷◌, ◌++◌, ◌^◌, zero, suc, length, get_or, replicate, set, refl, ap, sym, ◌∙◌, arith, append_assoc, append-nil, length-append, subst}
 use Rattle.std.specs.List.{list_any, IsDistinct}
-use Rattle.std.proofs.lemmas.Bool.{cases_lt, or_cases, or_left, or_right, or_parts, false_from_ne_true, true≢false}
+use Rattle.std.proofs.lemmas.Bool.{cases_lt, or_left, or_right, or_parts, false_from_ne_true}
+use Rattle.std.proofs.Math.Bool.{or-false}
 use Rattle.std.proofs.lemmas.Cmp.{nat_eq_equiv}
 use Rattle.std.proofs.lemmas.Grind.{flat_map-append}
 use Rattle.std.proofs.lemmas.List.Recursion.{or_push}
 use Rattle.std.proofs.lemmas.Map.Keys.{IsDistinct-push}
 use Rattle.std.proofs.lemmas.Bool.Decides.{eqb_tells}
-use Rattle.std.proofs.lemmas.List.{get_or-replicate, get_or-set_same, get_or-set_other, length-replicate, length-set}
+use Rattle.std.proofs.lemmas.List.{get_or_past, get_or-replicate, get_or-set_same, get_or-set_other, length-replicate, length-set}
 use Rattle.plist_base.specs.Container.{magic}
 use Rattle.plist_base.specs.Object.{Object}
 use Rattle.plist_binwrite.specs.Forms.{form, IsWritable}
@@ -17,7 +18,7 @@ use Rattle.plist_binwrite.specs.declared.plan.FilePlan.{FilePlan}
 use Rattle.plist_binwrite.specs.inner.Layout.{IsFilePlan, IsLayout}
 use Rattle.plist_binwrite.specs.inner.Numbering.{total_below}
 use Rattle.std.proofs.lemmas.List.Concat.{length-flat_map}
-use Rattle.plist_binwrite.proofs.LeastWidths.{width_holds}
+use Rattle.plist_binwrite.proofs.NumberForms.{width_holds}
 use Rattle.plist_binwrite.proofs.NumberingSteps.{can_write, size_told}
 use Rattle.plist_binwrite.proofs.Totals.{total_all, total_sum}
 
@@ -53,8 +54,7 @@ module _ (w : ℕ) (objects : ℕ → Object) where
           good = l.1;
         })
         | inr d ↦
-            let f = found offsets order (front ++ body) more k (rw length-append l.2)
-            (sym (ap (λ b. b || list_any (eqb k) order) d.0) ∙ any) in
+            let f = found offsets order (front ++ body) more k (rw length-append l.2) (cc) in
             record {
               before = f.before;
               after = f.after;
@@ -95,7 +95,7 @@ module _ (w : ℕ) (objects : ℕ → Object) where
           get_or-set_other offsets k j v 0 (λ x. d.1 (sym x)) ∙ l.0,
           l.1,
           laid_snoc offsets order (at + length (form w (objects j))) k v h
-              (sym (ap (λ b. b || list_any (eqb k) order) d.0) ∙ new) good
+              (cc) good
               (omega (arith, e, length-append (form w (objects j)) (object_table w objects order))) l.2,
         )
       ]
@@ -129,10 +129,7 @@ module _ (offsets : List ℕ) (k v : ℕ) (h : k < length offsets) (positive : 0
           λ n. more ∙ or_right _ _ s.0,
         )
         | inr d ↦ (
-          λ any. still_placed q ((marked q).0 (elim (or_cases _ _ (sym more ∙ any)) [
-            | inl t ↦ t
-            | inr t ↦ absurd (true≢false (sym t ∙ d.0))
-          ])),
+          λ any. still_placed q ((marked q).0 (cc (or-false (list_any (eqb q) order)))),
           λ n. more
               ∙ or_left _ _ ((marked q).1 (λ none. n (get_or-set_other offsets k q v 0 d.1 ∙ none))),
         )
@@ -166,9 +163,7 @@ laid_one w objects order k =
 pub all_zero : (n k : ℕ) → get_or (replicate {A = ℕ} n 0) k 0 ≡ 0
 all_zero n k = elim (cases_lt k n) [
   | inl low ↦ get_or-replicate n k 0 0 low
-  | inr high ↦
-      let short : length (replicate {A = ℕ} n 0) ≤ k =
-      omega (arith, high, length-replicate {A = ℕ} n 0) in get_or-eq_default _ 0 short
+  | inr high ↦ get_or_past _ k 0 (omega (arith, high, length-replicate {A = ℕ} n 0))
 ]
 
 -- ---- the objects of a planned file

@@ -15,7 +15,7 @@ use Rattle.plist_binwrite.specs.Classes.{IsFileBy, count_by, objects_by, size_by
 use Rattle.plist_binwrite.specs.Sizes.{collections_in, size_with}
 use Rattle.plist_binwrite.specs.Forms.{form, table_form, AllFit, reference_width, least_width}
 use Rattle.plist_binwrite.specs.EventClasses.{bound_in, class_in, events_in}
-use Rattle.plist_binwrite.specs.inner.Layout.{IsFilePlan, IsLayout, PutsFile, number_of_event}
+use Rattle.plist_binwrite.specs.inner.Layout.{IsFilePlan, IsLayout, number_of_event}
 use Rattle.plist_binwrite.specs.inner.Numbering.{IsCapped, size_below, IsNumberingOfEvents}
 use Rattle.plist_binwrite.specs.declared.plan.Numbering.{Numbering}
 use Rattle.plist_buffer.specs.Occurrences.{positions}
@@ -29,7 +29,7 @@ use Rattle.plist_binwrite.proofs.Reading.{form_read}
 use Rattle.plist_binwrite.proofs.ReadingNumbers.{whole, drop_front, width_positive, last, length_closed, front_is, head_is}
 use Rattle.plist_buffer.proofs.TreeOccurrences.{occurs_whole}
 use Rattle.plist_binwrite.proofs.Unfold.{Shows, unfolds_whole, no_fault}
-use Rattle.plist_binwrite.proofs.LeastWidths.{width_holds}
+use Rattle.plist_binwrite.proofs.NumberForms.{width_holds}
 use Rattle.plist_base.specs.Outcomes.{OnlyDevice}
 use Rattle.plist_base.specs.declared.error.Error.{Error}
 use Rattle.plist_base.specs.Writing.{answer_of}
@@ -37,7 +37,7 @@ use Rattle.plist_buffer.proofs.Grammar.{complete_of_whole}
 use Rattle.std.specs.Io.KnownBytes.{Appends}
 use Rattle.plist_base.specs.declared.sink.Sink.{Sink}
 use Rattle.plist_base.specs.Prefixes.{AppendsPrefix}
-use Rattle.plist_base.specs.Sinks.{is_open, pending}
+use Rattle.plist_base.specs.Sinks.{Puts, is_open, pending}
 use Rattle.plist_base.proofs.SinkSteps.{sent_part, sent_whole}
 use Rattle.plist_binwrite.specs.SendingAs.{IsOfTree, SendsAs}
 use Rattle.plist_buffer.proofs.Lengthless.{plain_lengthless}
@@ -210,6 +210,12 @@ module _ {given : Classed} {numbering : Numbering} (n : IsNumberingOfEvents give
       record { numbered = n; width = wide; narrow = narrow; small = rw wide (fits _ size_is) }
 
 -- ---- what is put
+
+-- a file of the tree with these events is put
+abbrev pub PutsFile : FilePlan → {W : Type 0} → (W → Option (List ℕ)) → (start new : Sink W) → Type 0
+PutsFile plan contents start new = (file : List ℕ) × ((tree : Tree)
+    → AreAlike (events_in plan.given) (bracketing tree) → IsFileBy (class_in plan.given) tree file)
+    × Puts contents start file new
 
 module _ (plan : FilePlan) {W : Type 0} {contents : W → Option (List ℕ)} {start : Sink W}
     (empty : pending start ≡ []) (tree : AreTreeEvents (events_in plan.given)) where

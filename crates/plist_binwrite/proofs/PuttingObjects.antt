@@ -17,11 +17,11 @@ use Rattle.plist_binwrite.proofs.NumberingSteps.{known_number, numbers_below}
 use Rattle.plist_buffer.proofs.TreeStarts.{begins, occurs_in}
 use Rattle.plist_binwrite.specs.EventClasses.{events_in}
 use Rattle.plist_binwrite.specs.declared.plan.FilePlan.{FilePlan}
-use Rattle.plist_binwrite.specs.inner.Layout.{ArePut, HasStoredOffset, IsFilePlan, PutsFile, PutsObject, PutsObjects, number_of_event}
+use Rattle.plist_binwrite.specs.inner.Layout.{ArePut, HasStoredOffset, IsFilePlan, PutsObject, PutsObjects, number_of_event}
 use Rattle.plist_buffer.specs.EventTable.{HasItem}
 use Rattle.plist_buffer.proofs.CollectionNumbers.{occurs_at}
 use Rattle.plist_binwrite.proofs.ObjectOffsets.{all_zero, continued, laid_below, laid_more, laid_one, length-magic, next_layout, placed, still_placed}
-use Rattle.plist_binwrite.proofs.PlannedFiles.{file_made}
+use Rattle.plist_binwrite.proofs.PlannedFiles.{PutsFile, file_made}
 
 module _ {plan : FilePlan} (r : IsFilePlan plan) {W : Type 0} {contents : W → Option (List ℕ)}
     {start : Sink W} where

@@ -1,8 +1,9 @@
 -- How each form is read back as its object, whatever follows.
-use Rattle.std.proofs.Common.{◌≡◌, inl, inr, ℕ, List, [], ◌++◌, length, flat_map, ap, ◌∙◌, arith, length-append, suc, ◌*◌, ◌^◌, ◌<◌, true, false, cond, ◌∷◌, refl}
+use Rattle.std.proofs.Common.{◌≡◌, inl, inr, ℕ, List, [], ◌++◌, length, flat_map, ap, ◌∙◌, arith, length-append, ◌*◌, ◌^◌, ◌<◌, true, false, cond, ◌∷◌, refl}
 use Rattle.std.specs.Char.Escape.{encode_utf16}
 use Rattle.std.proofs.lemmas.Bool.{lt-ltb, le-ltb, cases_lt, and_parts}
 use Rattle.std.proofs.lemmas.Grind.{flat_map-append}
+use Rattle.std.proofs.lemmas.List.{length-map}
 use Rattle.std.proofs.lemmas.Str.{is_utf8-from_IsUtf8}
 use Rattle.plist_base.specs.declared.marker.CountedKind.TheVariants as kind
 use Rattle.plist_base.specs.Utf16.{units_of}
@@ -83,14 +84,6 @@ scalar_read width (trees.Real (Eight v)) rest is =
 scalar_read width (trees.String v) rest is = text_read width v rest is
 scalar_read width (trees.Uid v) rest is = uid_read width v rest is
 
-pub length-keys_of : (ps : List (ℕ × ℕ)) → length (key_numbers ps) ≡ length ps
-length-keys_of [] = refl
-length-keys_of (p ∷ ps) = ap suc (length-keys_of ps)
-
-pub length-values_of : (ps : List (ℕ × ℕ)) → length (value_numbers ps) ≡ length ps
-length-values_of [] = refl
-length-values_of (p ∷ ps) = ap suc (length-values_of ps)
-
 zip_is : (ps : List (ℕ × ℕ)) → zip (key_numbers ps) (value_numbers ps) ≡ ps
 zip_is [] = refl
 zip_is (p ∷ ps) = ap (λ l. p ∷ l) (zip_is ps)
@@ -99,7 +92,7 @@ pub dictionary_is : (ps : List (ℕ × ℕ)) → dictionary (length ps) (key_num
     ≡ Dictionary ps
 dictionary_is ps =
     rw (
-      ← length-keys_of ps,
+      ← length-map ps (λ pair. pair.0),
       take-append_seam _ _,
       drop-append_seam _ _,
       zip_is ps,
@@ -114,7 +107,7 @@ form_read w positive (Array items) rest is =
     ∙ ap Array (numbers_back w items positive is.1)
 form_read w positive (Dictionary ps) rest is =
     let many : length (key_numbers ps ++ value_numbers ps) * w ≡ length ps * (2 * w) =
-    simp (length-append, length-keys_of, length-values_of) (grind arith) in
+    simp (length-append, length-map) (grind arith) in
     rw (← flat_map-append (bytes_high_first w) (key_numbers ps) (value_numbers ps))
     (counted w kind.Dictionary (length ps) (flat_map (bytes_high_first w) (key_numbers ps ++ value_numbers ps)) rest
     (layout-dictionary w) is.0 (length-table w (key_numbers ps ++ value_numbers ps) ∙ many)

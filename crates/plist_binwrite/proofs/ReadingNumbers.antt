@@ -14,8 +14,7 @@ use Rattle.plist_base.specs.declared.marker.CountedKind.{CountedKind}
 use Rattle.plist_base.specs.declared.marker.Marker.TheVariants as mark
 use Rattle.plist_binwrite.specs.Forms.{integer_marker, unsigned_form, length_form, scalar_form, IsWritableScalar, AllFit, least_width, table_form, reference_width}
 use Rattle.std.specs.Int.{bytes_high_first}
-use Rattle.plist_binwrite.proofs.NumberForms.{length_short, length_long}
-use Rattle.plist_binwrite.proofs.LeastWidths.{at_width, length-big_endian, number_back}
+use Rattle.plist_binwrite.proofs.NumberForms.{length_short, length_long, at_width, length-big_endian, number_back}
 use Rattle.plist_binwrite.specs.Written.{table_and_trailer, trailer_of}
 
 -- ---- the front of some bytes

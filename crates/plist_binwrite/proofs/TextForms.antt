@@ -19,23 +19,15 @@ use Rattle.plist_binwrite.specs.Forms.{length_form, scalar_form}
 
 -- ---- units counted by bytes in UTF-8
 
-begins_none : (b : ℕ) → 0x80 ≤ b → b < 0xc0 → units_begun b ≡ 0
-begins_none b least most = rw (le-ltb b 0x80 least, lt-ltb b 0xc0 most) refl
-
 -- a byte after the first of a character begins none
 continues : (c : ℕ) → units_begun (128 + c % 64) ≡ 0
-continues c = begins_none (128 + c % 64) (omega arith) (omega arith)
+continues c = grind arith
 
 begins_one : (b : ℕ) → 0xc0 ≤ b → b < 0xf0 → units_begun b ≡ 1
-begins_one b least most =
-    rw (le-ltb b 0x80 (omega (arith, least)), le-ltb b 0xc0 least, lt-ltb b 0xf0 most) refl
+begins_one b least most = grind arith
 
 begins_two : (b : ℕ) → 0xf0 ≤ b → units_begun b ≡ 2
-begins_two b least = rw (
-  le-ltb b 0x80 (omega (arith, least)),
-  le-ltb b 0xc0 (omega (arith, least)),
-  le-ltb b 0xf0 least,
-) refl
+begins_two b least = grind arith
 
 -- the bytes of a character count its units
 units_of_char : (c : ℕ) → sum_by units_begun (encode_utf8 c) ≡ length (encode_utf16 c)

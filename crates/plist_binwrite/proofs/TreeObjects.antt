@@ -22,7 +22,6 @@ use Rattle.plist_binwrite.specs.inner.Layout.{collection_form, number_of_event}
 use Rattle.plist_buffer.proofs.TreeOccurrences.{occurs_items, occurs_pairs, occurs_item, occurs_next, occurs_key, occurs_value, occurs_next_pair}
 use Rattle.plist_buffer.proofs.TreeStarts.{stands_single, starts_array, starts_dictionary, begins, occurs_in}
 use Rattle.plist_buffer.proofs.ChildIndices.{few_children, keys_are_in, values_are_in}
-use Rattle.plist_binwrite.proofs.Reading.{length-keys_of, length-values_of}
 use Rattle.plist_binwrite.proofs.ReadingNumbers.{length-table}
 use Rattle.plist_binwrite.proofs.Unfold.{references, pairs, length-references, length-pairs}
 
@@ -153,22 +152,18 @@ module _ (plan : FilePlan) where
   pub array_is : {p : ℕ} {ts : Trees} → OccursAt es (Array ts) p
       → collection_form plan kind.Array p ≡ tree_form (Array ts) p
   array_is {p} {ts} s =
-      rw (
-        keys_are_in es (Array ts) p s,
-        values_are_in es (Array ts) p s,
-        length-map (item_indices ts (p + 1)) num,
-      ) refl
+      rw (keys_are_in es _ p s, values_are_in es _ p s, length-map _ num) refl
 
   pub dictionary_is : {p : ℕ} {ms : Members} → OccursAt es (Dictionary ms) p
       → collection_form plan kind.Dictionary p ≡ tree_form (Dictionary ms) p
   dictionary_is {p} {ms} s =
       rw (
-        keys_are_in es (Dictionary ms) p s,
-        values_are_in es (Dictionary ms) p s,
-        keys_are num ms (p + 1),
-        values_are num ms (p + 1),
-        length-values ms (p + 1),
-        length-pairs num ms (p + 1),
+        keys_are_in es _ p s,
+        values_are_in es _ p s,
+        keys_are num ms _,
+        values_are num ms _,
+        length-values ms _,
+        length-pairs num ms _,
       ) refl
 
 -- an object's form has its size
@@ -177,7 +172,7 @@ pub form_size : (w : ℕ) (num : ℕ → ℕ) (t : Tree) (p : ℕ)
 form_size w num (Leaf x) p = omega arith
 form_size w num (Array ts) p = simp (length-append, length-table, length-references)
 form_size w num (Dictionary ms) p =
-    simp (length-append, length-table, length-keys_of, length-values_of, length-pairs) (grind arith)
+    simp (length-append, length-table, length-map, length-pairs) (grind arith)
 
 pub wide_length : (text : List ℕ) → is_ascii_text text ≡ false
     → length (length_form kind.WideText (length (units_of text))) + length (units_of text) * 2

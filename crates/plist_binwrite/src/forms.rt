@@ -3,6 +3,7 @@
 //! The functions put their bytes into a [`Sink`], which keeps the error of a write that fails.
 //!
 //! For the plan of a file, the lengths of scalars are computed before any byte is put.
+#![tactic(auto, using(plist_base::proofs::SinkSteps::puts_then))]
 
 ghost use Rattle.std.specs.Prelude.{◌≡◌, ◌≤◌, ◌+◌, ◌∷◌, length, take, true};
 ghost use Rattle.plist_base.specs.Trees as trees;

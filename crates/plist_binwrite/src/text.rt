@@ -1,6 +1,7 @@
 //! Puts strings, in ASCII or in UTF-16.
+#![tactic(auto, using(plist_base::proofs::SinkSteps::puts_then))]
 
-ghost use Rattle.std.specs.Prelude.{◌≡◌, ◌≤◌, true, false, length};
+ghost use Rattle.std.specs.Prelude.{◌≡◌, ◌≤◌, true, length};
 ghost use Rattle.std.specs.Char.Escape.{encode_utf16};
 ghost use Rattle.plist_base.specs.Trees.{String};
 ghost use Rattle.plist_base.specs.Utf16.{units_of, utf8_of_utf16};
@@ -84,15 +85,6 @@ pub fn put_ascii<W: Write>(sink: &mut Sink<'_, W>, text: &str)
     sink.put(text.as_bytes());
 }
 
-// Puts a string that isn't ASCII, which is encoded in UTF-16.
-fn put_encoded<W: Write>(sink: &mut Sink<'_, W>, text: &str)
-    requires { is_ascii_text text.now ≡ false }
-    ensures { Puts W.contents sink.old (scalar_form (String text.now)) sink.new }
-{
-    put_length(sink, CountedKind::WideText, count_units(text) as u64);
-    put_units(sink, text);
-}
-
 /// Puts a string: in ASCII, if it is ASCII, and otherwise in UTF-16.
 pub fn put_text<W: Write>(sink: &mut Sink<'_, W>, text: &str)
     ensures { Puts W.contents sink.old (scalar_form (String text.now)) sink.new }
@@ -100,7 +92,8 @@ pub fn put_text<W: Write>(sink: &mut Sink<'_, W>, text: &str)
     if is_ascii_text(text) {
         put_ascii(sink, text);
     } else {
-        put_encoded(sink, text);
+        put_length(sink, CountedKind::WideText, count_units(text) as u64);
+        put_units(sink, text);
     }
 }
 

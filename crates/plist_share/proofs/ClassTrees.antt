@@ -1,7 +1,7 @@
 -- The classes that are found from the inside outwards: each class has one tree.
 use Rattle.std.proofs.Common.{◌≡◌, ◌≢◌, ◌⊎◌, inl, inr, ℕ, ◌+◌, ◌-◌, ◌<◌, ◌≤◌, ◌↔◌, Bool, IsTrue, true, false, List, ◌∷◌, ◌++◌, length, map, set, Option, None, Some, refl, sym, ap, ◌∙◌, subst, arith, length-append}
 use Rattle.std.proofs.lemmas.Bool.Decides.{eqb_tells, leb_tells}
-use Rattle.std.proofs.lemmas.List.{get_or-set_other, get_or-set_same}
+use Rattle.std.proofs.lemmas.List.{length-map, get_or-set_other, get_or-set_same}
 use Rattle.std.proofs.lemmas.Option.{slice_get_within, same_Some}
 use Rattle.std.specs.Prelude.{option_map, slice_get, slice_index}
 use Rattle.plist_base.specs.Trees.{Scalar, Tree, Leaf, Array, Dictionary, Trees, NoTrees, TreeAnd, Members, NoMembers, MemberAnd}
@@ -23,7 +23,7 @@ use Rattle.plist_buffer.proofs.CollectionNumbers.{IsCollectionAt, array_at, coll
 use Rattle.plist_binwrite.proofs.ClassObjects.{sound}
 use Rattle.plist_binwrite.proofs.ScalarClasses.{collection_class, leaf_any, leaf_below, leaf_used, leaves_same}
 use Rattle.plist_binwrite.proofs.TreeObjects.{keys_are, values_are}
-use Rattle.plist_binwrite.proofs.Reading.{dictionary_is, length-keys_of, length-values_of}
+use Rattle.plist_binwrite.proofs.Reading.{dictionary_is}
 use Rattle.plist_buffer.proofs.TreeOccurrences.{occurs_items, occurs_pairs, occurs_item, occurs_next, occurs_key, occurs_value, occurs_next_pair}
 use Rattle.plist_buffer.proofs.TreeStarts.{begins, occurs_in, starts_array, starts_dictionary}
 use Rattle.plist_share.specs.inner.Nodes.{AreClassesFrom, Node, node_at, node_by, IsClass, IsClassAt, Extends, SeparatesAll}
@@ -40,16 +40,8 @@ same_pairs class ms ns p q e =
     let all : key_numbers a ++ value_numbers a ≡ key_numbers b ++ value_numbers b =
     (λ i. keys_are class ms p i ++ values_are class ms p i) ∙ e
     ∙ (λ i. sym (keys_are class ns q) i ++ sym (values_are class ns q) i) in
-    let many : length a ≡ length b = omega (
-      arith,
-      ap length all,
-      length-append (key_numbers a) (value_numbers a),
-      length-append (key_numbers b) (value_numbers b),
-      length-keys_of a,
-      length-values_of a,
-      length-keys_of b,
-      length-values_of b,
-    ) in
+    let many : length a ≡ length b =
+    omega (arith, simp (length-append, length-map) at (ap length all)) in
     sym (dictionary_is a) ∙ (λ i. dictionary (many i) (all i)) ∙ dictionary_is b
 
 same_halves : (f g : ℕ → ℕ) (ms : Members) (p q : ℕ) → pairs f ms p ≡ pairs g ms q

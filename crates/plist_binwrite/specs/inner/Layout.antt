@@ -1,7 +1,6 @@
 -- A planned file, the order of its objects, and their offsets.
 use Rattle.std.specs.Prelude.{◌≡◌, ◌≢◌, ◌↔◌, ℕ, ◌^◌, ◌<◌, ◌≤◌, true, eqb, List, ◌++◌, length, slice_index, map, Option}
 use Rattle.std.specs.List.{list_any, IsDistinct}
-use Rattle.plist_base.specs.Bracketing.{bracketing, AreAlike}
 use Rattle.plist_base.specs.Sinks.{HasPut, Puts, is_open}
 use Rattle.plist_base.specs.Trees.{Tree}
 use Rattle.plist_base.specs.declared.sink.Sink.{Sink}
@@ -11,8 +10,8 @@ use Rattle.plist_buffer.specs.Occurrences.{OccursAt}
 use Rattle.plist_buffer.specs.declared.children.Half.{Half}
 use Rattle.plist_buffer.specs.declared.children.Half.TheVariants.{Keys, Values}
 use Rattle.plist_base.specs.declared.marker.CountedKind.{CountedKind}
-use Rattle.plist_binwrite.specs.Classes.{Describes, IsFileBy, object_of}
-use Rattle.plist_binwrite.specs.EventClasses.{events_in, class_in}
+use Rattle.plist_binwrite.specs.Classes.{Describes, object_of}
+use Rattle.plist_binwrite.specs.EventClasses.{events_in}
 use Rattle.plist_binwrite.specs.Forms.{form, length_form, reference_width, table_form}
 use Rattle.plist_binwrite.specs.Sizes.{size_with}
 use Rattle.plist_binwrite.specs.Written.{Laid, laid_out}
@@ -63,12 +62,6 @@ module _ (plan : FilePlan) where
       pub order : List ℕ
       pub layout : IsLayout objects order offsets
       pub put : Puts contents start (laid_out plan.width objects order) sink
-
-    -- a file of the tree with these events is put
-    abbrev pub PutsFile : (start new : Sink W) → Type 0
-    PutsFile start new = (file : List ℕ) × ((tree : Tree)
-        → AreAlike (events_in plan.given) (bracketing tree) → IsFileBy (class_in plan.given) tree file)
-        × Puts contents start file new
 
     -- a call puts the object of the tree that begins at an index
     abbrev pub PutsObject : (index : ℕ) (old new : Sink W) → Type 0

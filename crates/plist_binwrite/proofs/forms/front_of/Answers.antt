@@ -1,6 +1,6 @@
 use Rattle.std.proofs.Common.{ap, take, ◌∙◌}
 use Rattle.std.specs.Int.{bytes_high_first}
-use Rattle.plist_binwrite.proofs.LeastWidths.{front_of_shifted}
+use Rattle.plist_binwrite.proofs.NumberForms.{front_of_shifted}
 use Rattle.plist_binwrite.proofs.forms.front_of.Goals as goal
 
 pub returns : goal.returns

@@ -1,4 +1,4 @@
-use Rattle.std.proofs.Common.{◌≡◌, get_or, ap, sym, ◌∙◌, arith}
+use Rattle.std.proofs.Common.{◌≡◌, arith}
 use Rattle.plist_binwrite.specs.inner.Numbering.{stored_number}
 use Rattle.plist_binwrite.proofs.NumberingSteps.{numbers_more}
 use Rattle.plist_binwrite.proofs.plan.Numbering.number_one.Goals as goal
@@ -6,9 +6,8 @@ use Rattle.plist_binwrite.proofs.plan.Numbering.number_one.Goals as goal
 pub returns-clause-numbers : goal.returns-clause-numbers
 returns-clause-numbers c =
     let old = c.args.self.now in
-    let zero : get_or old.by_class c.class_at-class.result 0 ≡ 0 = omega arith in
     let none : stored_number c.args.given.now old c.args.index ≡ 0 =
-    ap (λ k. get_or old.by_class k 0) (sym c.class_at-class.ensures) ∙ zero in
+    rw (← c.class_at-class.ensures) (omega arith) in
     rw (c.in_ok-set.ensures.set, c.in-Some.ensures.1, c.class_at-class.ensures)
     (numbers_more c.requires.so_far c.args.index c.requires.item none c.in-Some.ensures.0
     (λ t s. rw (← c.requires.width) (c.size_of_object.ensures.size t s))
