@@ -132,9 +132,7 @@ module _ {es : List PlainEvent} (whole : Tree) (e : es ≡ lengthless whole) (cl
 
   -- there are as many numbers as classes
   count_is : count ≡ count_by class whole
-  count_is =
-      sym (count_below count) ∙ total_is (λ k. 1) (λ one. 1) (λ one s. refl)
-      ∙ total_one (representatives class whole)
+  count_is = simp (count_below, total_one) at (total_is (λ k. 1) (λ one. 1) (λ one s. refl))
 
 -- ---- a plan's numbers
 

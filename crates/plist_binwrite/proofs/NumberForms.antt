@@ -1,6 +1,6 @@
 -- Big-endian numbers, the least width of a number, and the bytes of each form of a number or a length,
 -- and of numbers that are put one after another.
-use Rattle.std.proofs.Common.{◌≡◌, inl, inr, ℕ, zero, suc, ◌+◌, ◌-◌, ◌*◌, ◌/◌, ◌%◌, ◌^◌, ◌<◌, ◌≤◌, length, take, refl, ap, sym, subst, ◌∙◌, arith, [], ◌∷◌, ◌++◌, List, get_or, map, append-nil}
+use Rattle.std.proofs.Common.{◌≡◌, inl, inr, ℕ, zero, suc, ◌+◌, ◌-◌, ◌*◌, ◌/◌, ◌%◌, ◌^◌, ◌<◌, ◌≤◌, length, take, refl, ap, sym, subst, ◌∙◌, arith, [], ◌∷◌, ◌++◌, List, get_or, map, append-nil, flat_map}
 use Rattle.std.specs.Int.{byte_at, bytes_high_first}
 use Rattle.std.specs.Int.Digits.{number_from_digits_after}
 use Rattle.std.proofs.Math.Nat.{pow-succ', dvd-mul_right, mod-mod_of_dvd, mul-div-mul_right}
@@ -13,7 +13,6 @@ use Rattle.plist_binwrite.specs.Forms.{least_width, unsigned_form, length_form, 
 use Rattle.plist_base.specs.Object.{high_half}
 use Rattle.plist_base.specs.declared.marker.CountedKind.{CountedKind}
 use Rattle.std.proofs.lemmas.List.{map-append, take_more}
-use Rattle.std.specs.List.{flat_map}
 use Rattle.std.proofs.lemmas.Grind.{flat_map-append}
 
 -- ---- the least width

@@ -1,6 +1,5 @@
 -- Putting objects, one after the other, and storing their offsets.
-use Rattle.std.proofs.Common.{◌≡◌, ◌≢◌, ◌⊎◌, inl, inr, ℕ, ◌<◌, List, [], ◌∷◌, ◌++◌, ◌^◌, length, get_or, set, ap, sym, ◌∙◌, arith, append_assoc, append-nil, Option, None, Some, true, false, refl, replicate, subst}
-use Rattle.std.specs.Option.{unwrap_or}
+use Rattle.std.proofs.Common.{◌≡◌, ◌≢◌, ◌⊎◌, inl, inr, ℕ, ◌<◌, List, [], ◌∷◌, ◌++◌, ◌^◌, length, get_or, set, ap, sym, ◌∙◌, arith, append_assoc, append-nil, Option, None, Some, true, false, refl, replicate, subst, unwrap_or}
 use Rattle.std.specs.List.{Contains, IsDistinct}
 use Rattle.std.proofs.lemmas.Bool.{cases_Bool, cases_eq, true≢false}
 use Rattle.std.proofs.lemmas.Map.Made.{Contains-tail}

@@ -1,8 +1,6 @@
 -- The classes of buffered events: that of a scalar is its index among the different scalars, and that
 -- of a collection follows from its number.
-use Rattle.std.proofs.Common.{◌≡◌, ◌⊎◌, ◌↔◌, inl, inr, ℕ, ◌<◌, true, false, List, length, Option, None, Some, refl, ap, sym, ◌∙◌, arith, ◌+◌, ◌-◌, Bool, eqb}
-use Rattle.std.specs.Prelude.{slice_get}
-use Rattle.std.specs.Option.{unwrap_or}
+use Rattle.std.proofs.Common.{◌≡◌, ◌⊎◌, ◌↔◌, inl, inr, ℕ, ◌<◌, true, false, List, length, Option, None, Some, refl, ap, sym, ◌∙◌, arith, ◌+◌, ◌-◌, Bool, eqb, slice_get, unwrap_or}
 use Rattle.std.proofs.lemmas.Option.{slice_get_within}
 use Rattle.plist_base.specs.Events.{ScalarEvent, PlainEvent}
 use Rattle.plist_base.specs.Trees.{Scalar, Tree, Leaf, Array, Dictionary}

@@ -135,25 +135,8 @@ module _ {W S : Type 0} {g : Ghosts W} {h : SharingGhosts S} (before after : Fil
 pub same_state : {W S : Type 0} {g : Ghosts W} {h : SharingGhosts S}
     (before : FileWriter W S g h) (pending : EventBuffer) (is : pending ≡ before.pending)
     (between : before.has_failed ≡ false → is_whole pending ≡ false)
-    → ◌≡◌ {A = FileWriter W S g h}
-    (record {
-      writer = before.writer;
-      alloc = before.alloc;
-      pending = pending;
-      has_failed =
-          before.has_failed;
-      sharing = before.sharing;
-      between = between;
-    }) before
+    → ◌≡◌ {A = FileWriter W S g h} (record before { pending = pending; between = between }) before
 same_state before pending is between =
     let along = is_prop→PathP (λ i. before.has_failed ≡ false
     → is_whole (is i) ≡ false) (λ i. hlevel props) _ _ in
-    λ i. record {
-      writer =
-          before.writer;
-      alloc = before.alloc;
-      pending = is i;
-      has_failed = before.has_failed;
-      sharing = before.sharing;
-      between = along i;
-    }
+    λ i. record before { pending = is i; between = along i }

@@ -1,13 +1,12 @@
 -- The units of strings in UTF-16: they are counted by the bytes of a string in UTF-8, and they are
 -- the object of a string that is given by them.
-use Rattle.std.proofs.Common.{◌≡◌, inl, inr, ℕ, ◌+◌, ◌*◌, ◌/◌, ◌%◌, ◌<◌, ◌≤◌, List, [], ◌∷◌, length, flat_map, IsUtf8, refl, ap, sym, ◌∙◌, arith, length-append, false, ◌++◌}
+use Rattle.std.proofs.Common.{◌≡◌, inl, inr, ℕ, ◌+◌, ◌*◌, ◌/◌, ◌%◌, ◌<◌, ◌≤◌, List, [], ◌∷◌, length, flat_map, IsUtf8, refl, ap, sym, ◌∙◌, arith, length-append, false, ◌++◌, sum_by}
 use Rattle.std.specs.Char.Escape.{encode_utf16}
 use Rattle.std.specs.Char.{encode_utf8}
 use Rattle.std.specs.Str.{encode_utf8_all}
 use Rattle.std.proofs.lemmas.List.Sums.{sum_by-append, sum_by-cons}
 use Rattle.std.proofs.lemmas.Bool.{cases_lt, le-ltb, lt-ltb}
 use Rattle.plist_base.specs.Utf16.{units_of, IsUtf16, utf16_form, utf8_of_utf16}
-use Rattle.std.specs.List.{sum_by}
 use Rattle.plist_binwrite.specs.inner.Units.{units_begun}
 use Rattle.plist_buffer.proofs.TextUnits.{units_are, form_length}
 use Rattle.std.proofs.lemmas.Str.{len_utf8_bounds, length-encode}

@@ -156,10 +156,7 @@ module _ (tree : Tree) {class : ℕ → ℕ} {count : ℕ} (o : AreIdentities
       ∙ owned_total weight 0 (positions tree 0) (positions_rise tree)
 
   pub owned_count : count_by class tree ≡ object_count tree
-  owned_count =
-      sym (total_one (representatives class tree)) ∙ kept_total (λ t. 1)
-      ∙ (λ i. total_one (collections_in tree) i + total_one
-      (unique_keys scalar_eq (scalars_in tree)) i)
+  owned_count = simp total_one at (kept_total (λ t. 1))
 
   pub owned_size : size_by class tree ≡ file_size tree
   owned_size =

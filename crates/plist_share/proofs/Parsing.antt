@@ -1,6 +1,5 @@
 -- An object whose items are a tree's events represents the tree.
-use Rattle.std.proofs.Common.{◌≡◌, ℕ, zero, suc, ◌+◌, Bool, true, false, nat_eq, List, [], ◌∷◌, ◌++◌, drop, length, map, Option, Some, None, Ok, refl, ap, append_assoc, arith}
-use Rattle.std.specs.Prelude.{slice_get}
+use Rattle.std.proofs.Common.{◌≡◌, ℕ, zero, suc, ◌+◌, Bool, true, false, nat_eq, List, [], ◌∷◌, ◌++◌, drop, length, map, Option, Some, None, Ok, refl, ap, append_assoc, arith, slice_get}
 use Rattle.std.specs.List.{list_any, flat_map}
 use Rattle.std.proofs.lemmas.Option.{slice_get_within}
 use Rattle.plist_base.proofs.Paths.{IsPath, path_push, path_rises}

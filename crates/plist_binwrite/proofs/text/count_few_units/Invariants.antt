@@ -1,5 +1,4 @@
-use Rattle.std.proofs.Common.{◌≡◌, ◌+◌, drop}
-use Rattle.std.specs.List.{sum_by}
+use Rattle.std.proofs.Common.{◌≡◌, ◌+◌, drop, sum_by}
 use Rattle.plist_binwrite.specs.inner.Units.{units_begun}
 use Rattle.plist_binwrite.proofs.text.count_few_units.Given as goal
 

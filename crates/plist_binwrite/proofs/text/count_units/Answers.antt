@@ -1,39 +1,31 @@
-use Rattle.std.proofs.Common.{◌∙◌, ap, arith}
+use Rattle.std.proofs.Common.{◌∙◌, ap, arith, sum_by}
 use Rattle.std.proofs.lemmas.List.{nil_from_length}
-use Rattle.std.specs.Slice.Iter.{chunks_rest}
-use Rattle.std.specs.List.{sum_by}
 use Rattle.plist_binwrite.specs.inner.Units.{units_begun}
 use Rattle.plist_binwrite.proofs.TextForms.{few_units_begun, units_counted}
 use Rattle.std.proofs.lemmas.List.Sums.{sum_by-append}
 use Rattle.plist_binwrite.proofs.text.count_units.Goals as goal
 
 pub overflow_add-count : goal.overflow_add-count
-overflow_add-count c =
-    let bytes = c.in-Some.bytes.now in
-    let rest = chunks_rest c.next.new.self in
-    omega (
-      arith,
-      c.loop-bytes.invariant.counted,
-      c.count_few_units.ensures,
-      ap (sum_by units_begun) c.in-Some.ensures.steps.1.0,
-      sum_by-append units_begun bytes rest,
-      few_units_begun c.args.text.now,
-    )
+overflow_add-count c = omega (
+  arith,
+  c.loop-bytes.invariant.counted,
+  c.count_few_units.ensures,
+  ap (sum_by units_begun) c.in-Some.ensures.steps.1.0,
+  sum_by-append units_begun,
+  few_units_begun c.args.text.now,
+)
 
 pub loop-bytes-preserved : goal.loop-bytes-preserved
-loop-bytes-preserved c =
-    let bytes = c.in-Some.bytes.now in
-    let rest = chunks_rest c.next.new.self in
-    record {
-      size = c.in-Some.ensures.steps.0 ∙ c.loop-bytes.invariant.size;
-      counted = omega (
-        arith,
-        c.loop-bytes.invariant.counted,
-        c.count_few_units.ensures,
-        ap (sum_by units_begun) c.in-Some.ensures.steps.1.0,
-        sum_by-append units_begun bytes rest,
-      );
-    }
+loop-bytes-preserved c = record {
+  size = c.in-Some.ensures.steps.0 ∙ c.loop-bytes.invariant.size;
+  counted = omega (
+    arith,
+    c.loop-bytes.invariant.counted,
+    c.count_few_units.ensures,
+    ap (sum_by units_begun) c.in-Some.ensures.steps.1.0,
+    sum_by-append units_begun,
+  );
+}
 
 pub returns : goal.returns
 returns c = record {

@@ -1,6 +1,5 @@
-use Rattle.std.proofs.Common.{◌≡◌, ◌+◌}
+use Rattle.std.proofs.Common.{◌≡◌, ◌+◌, sum_by}
 use Rattle.std.specs.Slice.Iter.{chunks_rest, chunks_size}
-use Rattle.std.specs.List.{sum_by}
 use Rattle.plist_binwrite.specs.inner.Units.{units_begun}
 use Rattle.plist_binwrite.proofs.text.count_units.Given as goal
 
