@@ -14,7 +14,7 @@ use Rattle.plist_buffer.specs.Occurrences.{event_count, OccursAt, ItemsOccurAt, 
 use Rattle.plist_buffer.proofs.TreeOccurrences.{occurs_items, occurs_pairs, occurs_item, occurs_next, occurs_key, occurs_value, occurs_next_pair, occurs_whole}
 use Rattle.plist_binwrite.proofs.NumberingSteps.{numbers_below, known_number}
 use Rattle.plist_buffer.proofs.TreeStarts.{begins, occurs_in}
-use Rattle.plist_binwrite.proofs.Unfold.{references, pairs}
+use Rattle.plist_binwrite.proofs.TreeObjects.{references, pairs}
 use Rattle.std.specs.List.{AllByRecursion}
 use Rattle.std.specs.Set.{is_member, unique_keys}
 use Rattle.std.proofs.lemmas.Bool.Decides.{eqb_tells}

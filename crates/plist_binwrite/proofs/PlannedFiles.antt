@@ -23,10 +23,9 @@ use Rattle.plist_binwrite.specs.declared.plan.FilePlan.{FilePlan}
 use Rattle.plist_binwrite.proofs.ClassObjects.{Numbered, numbered, number_apart, number_below, bound_is_count, numbered_count, numbered_size, size_by_numbers}
 use Rattle.plist_binwrite.proofs.NumberingSteps.{size_told}
 use Rattle.plist_binwrite.proofs.ObjectOffsets.{AllOnce, all_once, length-magic, found_place, object_there, total_bodies}
-use Rattle.plist_binwrite.proofs.Reading.{form_read}
-use Rattle.plist_binwrite.proofs.ReadingNumbers.{whole, drop_front, width_positive, last, length_closed, front_is, head_is}
+use Rattle.plist_binwrite.proofs.Reading.{form_read, whole, drop_front, width_positive, last, length_closed, front_is, head_is}
 use Rattle.plist_buffer.proofs.TreeOccurrences.{occurs_whole}
-use Rattle.plist_binwrite.proofs.Unfold.{Shows, unfolds_whole, no_fault}
+use Rattle.plist_binwrite.proofs.TreeObjects.{Shows, unfolds_whole, no_fault}
 use Rattle.plist_binwrite.proofs.NumberForms.{width_holds}
 use Rattle.plist_base.specs.Outcomes.{OnlyDevice}
 use Rattle.plist_base.specs.declared.error.Error.{Error}

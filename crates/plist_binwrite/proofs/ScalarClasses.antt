@@ -141,18 +141,18 @@ module _ (held : EventTable) where
   class_below (alone index) p s =
       omega (arith, collection_class own s.1 p s.2, number_below held s.1 p s.2)
 
+  -- no scalar has the class of a collection
+  apart : (x : Scalar) (index p q : ℕ) → HasClass (shared x) p → HasClass (alone index) q
+      → scalar_class held p ≡ scalar_class held q → ⊥
+  apart x index p q k l h =
+      omega (arith, leaf_below own x p k, collection_class own l.1 q l.2, h)
+
   same_class : (a b : Identity) (p q : ℕ) → HasClass a p → HasClass b q → (scalar_class held p ≡ scalar_class held q) ↔ (a ≡ b)
   same_class (shared x) (shared y) p q k l =
       let same = leaves_same own x y p q k l in
       (λ h. ap shared (same.0 h), λ h. same.1 (cc))
-  same_class (shared x) (alone j) p q k l = (
-    λ h. absurd (omega (arith, leaf_below own x p k, collection_class own l.1 q l.2, h)),
-    λ h. cc,
-  )
-  same_class (alone i) (shared y) p q k l = (
-    λ h. absurd (omega (arith, leaf_below own y q l, collection_class own k.1 p k.2, h)),
-    λ h. cc,
-  )
+  same_class (shared x) (alone j) p q k l = ((λ h. absurd (apart x j p q k l h)), λ h. cc)
+  same_class (alone i) (shared y) p q k l = ((λ h. absurd (apart y i q p l k (sym h))), λ h. cc)
   same_class (alone i) (alone j) p q k l = (
     λ h.
         let same = numbers_apart held k.1 l.1 p q k.2 l.2 (omega (

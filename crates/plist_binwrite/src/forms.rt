@@ -30,6 +30,7 @@ use std::io::Write;
 
 // Returns eight bytes that begin with the lowest `width` bytes of a number in big-endian order.
 #[inline(always)]
+#[tactic(auto, using(crate::proofs::NumberForms::front_of_shifted))]
 fn front_of(width: usize, number: u64) -> [u8; 8]
     requires { width ≤ 8 }
     ensures { take width result ≡ bytes_high_first width number }
@@ -251,6 +252,7 @@ fn length_of_unsigned(number: u64) -> u64
 }
 
 /// Returns the length in bytes of a marker with this count, which is in the marker or follows it.
+#[tactic(auto, unfolding(crate::specs::Forms::length_form))]
 pub(crate) fn length_of_count(count: u64) -> u64
     ensures value { (kind : CountedKind) → result ≡ length (length_form kind count) }
     ensures small { result ≤ 10 }

@@ -12,7 +12,7 @@ use Rattle.plist_binwrite.specs.EventClasses.{HasEachCollection, listed_class}
 use Rattle.plist_binwrite.specs.Forms.{key_numbers, value_numbers}
 use Rattle.plist_binwrite.specs.declared.classes.ClassList.{ClassList}
 use Rattle.plist_buffer.specs.EventTable.{HasItem, IsBracketed, collection_number, is_end, item_indices, key_indices, value_indices, event_at, plain_events, scalars_of}
-use Rattle.plist_binwrite.proofs.Unfold.{pairs, references}
+use Rattle.plist_binwrite.proofs.TreeObjects.{pairs, references, keys_are, values_are}
 use Rattle.plist_buffer.specs.Occurrences.{event_count, OccursAt, ItemsOccurAt, PairsOccurAt}
 use Rattle.plist_base.specs.declared.event.EventShape.{EventShape}
 use Rattle.plist_base.specs.declared.event.EventShape.TheVariants as shape
@@ -21,7 +21,6 @@ use Rattle.plist_buffer.specs.inner.Entries.{AreDistinct, is_leaf}
 use Rattle.plist_buffer.proofs.CollectionNumbers.{IsCollectionAt, array_at, collection_at, dictionary_at, number_below, numbers_apart, occurs_at}
 use Rattle.plist_binwrite.proofs.ClassObjects.{sound}
 use Rattle.plist_binwrite.proofs.ScalarClasses.{collection_class, leaf_any, leaf_below, leaf_used, leaves_same}
-use Rattle.plist_binwrite.proofs.TreeObjects.{keys_are, values_are}
 use Rattle.plist_binwrite.proofs.Reading.{dictionary_is}
 use Rattle.plist_buffer.proofs.TreeOccurrences.{occurs_items, occurs_pairs, occurs_item, occurs_next, occurs_key, occurs_value, occurs_next_pair}
 use Rattle.plist_buffer.proofs.TreeStarts.{begins, occurs_in, starts_array, starts_dictionary}
