@@ -141,11 +141,7 @@ wide_is n h =
 module _ (f : ℕ → List ℕ) (xs : List ℕ) (i : ℕ) (lt : i < length xs) where
   pub one_part : flat_map f (take i xs) ++ f (get_or xs i 0) ≡ flat_map f (take (i + 1) xs)
   one_part =
-      rw (
-        take_more xs i 0 lt,
-        flat_map-append f _ _,
-        append-nil _,
-      ) refl
+      rw (take_more xs i 0 lt, flat_map-append f _ _, append-nil _) refl
 
 -- ---- the bytes of references
 

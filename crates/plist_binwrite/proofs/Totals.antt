@@ -39,11 +39,7 @@ one_more f g x more (suc n) low here other = elim (eqb_tells n x) [
   | inl s ↦
       let at : g n ≡ more + f n = rw s.1 here in
       omega (arith, at, total_below_same g f n (λ k h. other k (λ e. omega (arith, e, h, s.1))))
-  | inr d ↦ omega (
-    arith,
-    other n d.1,
-    one_more f g x more n (omega (arith, low, d.1)) here other,
-  )
+  | inr d ↦ omega (arith, other n d.1, one_more f g x more n (omega (arith, low, d.1)) here other)
 ]
 
 module _ (w : ℕ → ℕ) (n : ℕ) where

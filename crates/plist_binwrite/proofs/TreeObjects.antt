@@ -253,13 +253,7 @@ module _ (es : List PlainEvent) (number : ℕ → ℕ) (count w : ℕ)
   )
   object_fits few p scalar (Dictionary ms) s =
       let fit = pairs_fit ms _ (occurs_pairs s) in (
-        omega (
-          arith,
-          few,
-          few_children es Values p,
-          count_pairs s,
-          length-pairs number ms (p + 1),
-        ),
+        omega (arith, few, few_children es Values p, count_pairs s, length-pairs number ms (p + 1)),
         fit.0,
         fit.1,
       )
@@ -321,14 +315,8 @@ module _ (plan : FilePlan) where
   pub dictionary_is : {p : ℕ} {ms : Members} → OccursAt es (Dictionary ms) p
       → collection_form plan kind.Dictionary p ≡ tree_form (Dictionary ms) p
   dictionary_is {p} {ms} s =
-      rw (
-        keys_are_in es _ p s,
-        values_are_in es _ p s,
-        keys_are num ms _,
-        values_are num ms _,
-        length-values ms _,
-        length-pairs num ms _,
-      ) refl
+      rw (keys_are_in es _ p s, values_are_in es _ p s, keys_are num ms _, values_are num ms _)
+      (rw (length-values ms _, length-pairs num ms _) refl)
 
 -- an object's form has its size
 pub form_size : (w : ℕ) (num : ℕ → ℕ) (t : Tree) (p : ℕ)

@@ -136,17 +136,11 @@ module _ (weight : Tree → ℕ) where
 module _ (tree : Tree) {class : ℕ → ℕ} {count : ℕ} (o : AreIdentities
     (lengthless tree) class count) where
   kept_is : representatives class tree ≡ unique_keys owned_eq (positions tree 0)
-  kept_is =
-      cc (
-        map-id (representatives class tree),
-        unique_seen (same_class class) owned_eq (λ one. one)
-            (Stands (lengthless tree)) (λ a b s r. tells_both eqb owner_eq (class a.0) (class b.0)
-            (identity_of a.1 a.0) (identity_of b.1 b.0) (eqb_tells _ _) (owners_tell _ _)
-            (o.same a.1 b.1 a.0 b.0 s r).0 (o.same a.1 b.1 a.0 b.0 s r).1)
-            (positions tree 0)
-            (positions_stand (lengthless tree) tree 0 (occurs_whole refl)),
-        map-id (positions tree 0),
-      )
+  kept_is = simp map-id at (unique_seen (same_class class) owned_eq (λ one. one)
+      (Stands (lengthless tree)) (λ a b s r. tells_both eqb owner_eq (class a.0) (class b.0)
+      (identity_of a.1 a.0) (identity_of b.1 b.0) (eqb_tells _ _) (owners_tell _ _)
+      (o.same a.1 b.1 a.0 b.0 s r).0 (o.same a.1 b.1 a.0 b.0 s r).1)
+      (positions tree 0) (positions_stand (lengthless tree) tree 0 (occurs_whole refl)))
 
   kept_total : (weight : Tree → ℕ) → total (λ (one : One). weight one.1) (representatives class tree)
       ≡ total (λ (one : One). weight one.1) (collections_in tree) + total (λ y. weight (Leaf y))
