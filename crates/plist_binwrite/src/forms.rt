@@ -5,7 +5,7 @@
 //! For the plan of a file, the lengths of scalars are computed before any byte is put.
 #![tactic(auto, using(plist_base::proofs::SinkSteps::puts_then))]
 
-ghost use Rattle.std.specs.Prelude.{◌≡◌, ◌≤◌, ◌+◌, ◌∷◌, length, take, true};
+ghost use Rattle.std.specs.Prelude.{◌≡◌, ◌≤◌, ◌+◌, ◌∷◌, length, take};
 ghost use Rattle.plist_base.specs.Trees as trees;
 ghost use Rattle.plist_binwrite.specs.Forms.{IsWritableScalar, integer_marker, unsigned_form, length_form, scalar_form, table_form};
 ghost use Rattle.plist_binwrite.specs.inner.Numbering.{IsCapped};
@@ -272,6 +272,14 @@ fn length_of_bytes(count: u64) -> u64
     count.saturating_add(length_of_count(count))
 }
 
+// Returns the length of the object of data, or 2^64 - 1 if it is greater.
+fn length_of_data(content: &[u8]) -> u64
+    ensures value { IsCapped result (length (scalar_form (trees.Data content.now))) }
+    ensures writable { IsWritableScalar (trees.Data content.now) }
+{
+    length_of_bytes(content.len() as u64)
+}
+
 // Returns the length of a string's object, or 2^64 - 1 if it is greater.
 fn length_of_text(text: &str) -> u64
     ensures value { IsCapped result (length (scalar_form (trees.String text.now))) }
@@ -310,9 +318,7 @@ fn length_of_packed(scalar: PackedScalar) -> u64
         PackedKind::Unsigned | PackedKind::Uid => length_of_unsigned(content),
         PackedKind::Negative | PackedKind::Real | PackedKind::Date => 9,
         PackedKind::ShortReal => 5,
-        PackedKind::Data(size) => {
-            length_of_bytes(content.to_be_bytes()[..usize::from(size)].len() as u64)
-        }
+        PackedKind::Data(size) => length_of_data(&content.to_be_bytes()[..usize::from(size)]),
         PackedKind::String(size) => length_of_text(scalar.text_in(&content.to_be_bytes(), size)),
     }
 }
@@ -327,6 +333,6 @@ pub(crate) fn length_of_scalar(scalar: ScalarRef<'_>) -> u64
         ScalarRef::Packed(packed) => length_of_packed(packed),
         ScalarRef::AsciiString(text) => length_of_bytes(text.len() as u64),
         ScalarRef::WideString(units) => length_of_wide(units),
-        ScalarRef::Data(bytes) => length_of_bytes(bytes.len() as u64),
+        ScalarRef::Data(bytes) => length_of_data(bytes),
     }
 }

@@ -4,7 +4,7 @@
 ghost use Rattle.std.specs.Prelude.{◌≡◌, ◌↔◌, ◌+◌, ◌-◌, ◌<◌, ◌≤◌, ◌++◌, Some, length, map, slice_get, IfOk, IsTrue, OnOk};
 ghost use Rattle.plist_base.specs.Events.{shape_of};
 ghost use Rattle.plist_buffer.specs.Children.{half_of};
-ghost use Rattle.plist_buffer.specs.EventTable.{IsBracketed, plain_events, scalars_of, table_event};
+ghost use Rattle.plist_buffer.specs.EventTable.{IsBracketed, plain_events, table_event};
 ghost use Rattle.plist_buffer.specs.declared.children.Half.TheVariants.{Keys, Values};
 ghost use Rattle.plist_buffer.specs.inner.Entries.{AreDistinct};
 ghost use Rattle.plist_binwrite.specs.EventClasses.{HasEachCollection, listed_class};
