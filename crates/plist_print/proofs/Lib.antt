@@ -1,11 +1,7 @@
 pub mod Blocks
-pub mod HexadecimalDigits
-pub mod LineParts
-pub mod PendingBytes
-pub mod PlainBytes
+pub mod LineExamples
 pub mod Printers
-pub mod Runs
 pub mod ScalarLines
 pub mod SourceItems
+pub mod Tables
 pub mod Utf16Lines
-pub mod LineExamples

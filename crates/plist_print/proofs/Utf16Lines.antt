@@ -1,6 +1,7 @@
 -- The characters of a string in UTF-16 that are printed one after another.
-use Rattle.std.proofs.Common.{◌≡◌, ℕ, ◌<◌, List, [], ◌∷◌, ◌++◌, ap, sym, ◌∙◌, append-nil, append_assoc}
+use Rattle.std.proofs.Common.{◌≡◌, ℕ, ◌<◌, List, [], ◌∷◌, ◌++◌, Option, ap, sym, ◌∙◌, append-nil, append_assoc}
 use Rattle.std.specs.Char.{encode_utf8}
+use Rattle.std.specs.declared.ops.ControlFlow.TheVariants.{Continue}
 use Rattle.std.specs.Str.{encode_utf8_all}
 use Rattle.std.proofs.lemmas.Grind.{flat_map-append}
 use Rattle.std.proofs.lemmas.Str.{encodes-IsAscii, encodes-append}
@@ -8,7 +9,10 @@ use Rattle.plist_base.specs.declared.fixed_buffer.FixedBuffer.{FixedBuffer}
 use Rattle.plist_base.specs.ByteTests.{EachByte}
 use Rattle.plist_base.proofs.ByteBlocks.{ascii_from_each}
 use Rattle.plist_print.specs.EscapedLines.{escaped_byte, escaped_chars, escaped_text}
+use Rattle.plist_print.specs.declared.printer.Printer.{Printer}
+use Rattle.plist_print.specs.Printers.{PrintsBytes}
 use Rattle.plist_print.specs.Utf16Lines.{PushesChars}
+use Rattle.plist_print.proofs.Printers.{prints_as, prints_pushed}
 
 -- the printed form of characters and more of them
 pub chars-append : (xs ys : List ℕ) → escaped_chars xs ++ escaped_chars ys ≡ escaped_chars (xs ++ ys)
@@ -48,21 +52,20 @@ pushes_then {a} {rest = rest} p q = record {
       ∙ ap (λ l. a ++ l) (chars-append p.front q.front);
 }
 
--- the printed forms of the characters before a call, those that it pushes, and the others
-pub chars_parts : (done front rest end : List ℕ) {chars all : List ℕ} → done ++ chars ≡ all
-    → chars ≡ front ++ rest
-    → ((escaped_chars done ++ escaped_chars front) ++ []) ++ (escaped_chars rest ++ end)
-    ≡ escaped_chars all ++ end
-chars_parts done front rest end whole parts =
-    ap (λ l. l ++ (escaped_chars rest ++ end)) (append-nil _ ∙ chars-append done front)
-    ∙ sym (append_assoc (escaped_chars (done ++ front)) (escaped_chars rest) end)
-    ∙ ap (λ l. l ++ end) (chars-append (done ++ front) rest
-    ∙ ap escaped_chars (append_assoc done front rest ∙ ap (λ l. done ++ l) (sym parts) ∙ whole))
+-- a printer has printed the first characters; `rest` are those that remain
+pub record PrintsChars {W : Type 0} (contents : W → Option (List ℕ)) (all : List ℕ) (old : Printer W)
+    (rest : List ℕ) (new : Printer W) : Type 0 where
+  pub done : List ℕ
+  pub left : all ≡ done ++ rest
+  pub put : PrintsBytes contents old (escaped_chars done) (Continue tt) new
 
--- a call pushes all that remained
-pub chars_whole : (done front : List ℕ) {chars rest all : List ℕ} → done ++ chars ≡ all
-    → chars ≡ front ++ rest → rest ≡ []
-    → escaped_chars done ++ escaped_chars front ≡ escaped_chars all
-chars_whole done front whole parts none =
-    chars-append done front ∙ ap escaped_chars (ap (λ l. done ++ l)
-    (sym (parts ∙ ap (λ l. front ++ l) none ∙ append-nil front)) ∙ whole)
+-- the printed forms of more characters are pushed to the buffer
+pub prints_chars : {W : Type 0} {contents : W → Option (List ℕ)} {all chars rest : List ℕ}
+    {a b : Printer W} {after : FixedBuffer} → PrintsChars contents all a chars b
+    → PushesChars (b.sink.buffer.now, chars) (after, rest) → PrintsChars contents all a rest
+    (record { sink = record b.sink { buffer = record b.sink.buffer { now = after } } })
+prints_chars {rest = rest} p q = record {
+  done = p.done ++ q.front;
+  left = p.left ∙ ap (λ l. p.done ++ l) q.left ∙ sym (append_assoc p.done q.front rest);
+  put = prints_as (chars-append p.done q.front) (prints_pushed (escaped_chars q.front) p.put q.pushed);
+}

@@ -11,7 +11,7 @@ const DIGIT_TABLE: [u8; 16] = *b"0123456789abcdef";
 
 // Returns the hexadecimal digit of a value, from the table.
 #[inline(always)]
-#[tactic(auto, using(crate::proofs::HexadecimalDigits::is_digit))]
+#[tactic(auto, using(crate::proofs::Tables::is_digit))]
 fn digit_at(value: u8) -> u8
     requires { value < 16 }
     ensures { result ≡ hexadecimal_digit value }

@@ -5,7 +5,7 @@ ghost use Rattle.std.specs.Fmt.{decimal, signed_decimal};
 ghost use Rattle.plist_base.specs.Events.{ScalarEvent};
 ghost use Rattle.plist_base.specs.FixedBuffers.{room};
 ghost use Rattle.plist_base.specs.PackedScalars.{scalar_of_packed};
-ghost use Rattle.plist_base.specs.Trees.{Boolean, Data, String};
+ghost use Rattle.plist_base.specs.Trees.{Data};
 ghost use Rattle.plist_print.specs.EscapedLines.{hexadecimal, in_notation, line_of, text_of_date, text_of_start};
 
 use crate::hexadecimal::push_hexadecimal;
@@ -56,7 +56,7 @@ fn push_number<const N: usize>(line: &mut FixedBuffer, word: [u8; N], number: u6
 #[inline(always)]
 pub fn push_start<const N: usize>(line: &mut FixedBuffer, word: [u8; N], count: Option<u64>)
     requires { N + 22 ≤ room line.old }
-    ensures { line.new ≡ line.old ++ text_of_start word.entry count ++ codes "\n" }
+    ensures { line.new ≡ line.old ++ (text_of_start word.entry count ++ codes "\n") }
 {
     line.push_array(word);
     match count {
@@ -88,19 +88,6 @@ fn push_negative(line: &mut FixedBuffer, number: i64)
     line.push(b"Integer ");
     push_signed(line, number);
     line.push(b"\n");
-}
-
-// Pushes the line of a Boolean.
-#[inline(always)]
-fn push_boolean(line: &mut FixedBuffer, value: bool)
-    requires { 64 ≤ room line.old }
-    ensures { line.new ≡ line.old ++ line_of (ScalarEvent (Boolean value)) }
-{
-    if value {
-        line.push_array(*b"Boolean true\n");
-    } else {
-        line.push_array(*b"Boolean false\n");
-    }
 }
 
 // Pushes a date: its second, and its bytes if it has a fraction.
@@ -138,15 +125,6 @@ fn push_real(line: &mut FixedBuffer, bytes: &[u8])
     line.push(b"\n");
 }
 
-/// Pushes the line of a string.
-#[inline(always)]
-pub fn push_string(line: &mut FixedBuffer, text: &str)
-    requires { 4 * length text.now + 64 ≤ room line.old }
-    ensures { line.new ≡ line.old ++ line_of (ScalarEvent (String text.now)) }
-{
-    push_text_line(line, text.as_bytes());
-}
-
 /// Pushes the line of data.
 pub fn push_data(line: &mut FixedBuffer, bytes: &[u8])
     requires { 2 * length bytes.now + 64 ≤ room line.old }
@@ -170,7 +148,8 @@ pub fn push_packed(line: &mut FixedBuffer, scalar: PackedScalar)
     let content = scalar.content();
     let bytes = content.to_be_bytes();
     match scalar.kind() {
-        PackedKind::Boolean(value) => push_boolean(line, value),
+        PackedKind::Boolean(true) => line.push_array(*b"Boolean true\n"),
+        PackedKind::Boolean(false) => line.push_array(*b"Boolean false\n"),
         PackedKind::Unsigned => push_number(line, *b"Integer ", content),
         PackedKind::Negative => push_negative(line, content.cast_signed()),
         PackedKind::Real => push_real(line, &bytes),
@@ -181,7 +160,7 @@ pub fn push_packed(line: &mut FixedBuffer, scalar: PackedScalar)
         }
         PackedKind::Uid => push_number(line, *b"Uid ", content),
         PackedKind::Data(size) => push_data(line, &bytes[..usize::from(size)]),
-        PackedKind::String(size) => push_string(line, scalar.text_in(&bytes, size)),
+        PackedKind::String(size) => push_text_line(line, scalar.text_in(&bytes, size).as_bytes()),
         PackedKind::Date => match Date::from_plist_real(bytes) {
             Ok(date) => push_date_line(line, date),
             Err(_) => unreachable!(),

@@ -37,7 +37,7 @@ const PLAIN: [bool; 256] = [
 
 // Returns whether a byte of a string is printed as it is. For a single byte, a look-up in the table
 // is faster than the comparisons.
-#[tactic(auto, using(crate::proofs::PlainBytes::is_marked))]
+#[tactic(auto, using(crate::proofs::Tables::is_marked))]
 fn is_marked_plain(byte: u8) -> bool
     ensures { result ≡ stands_for_itself byte }
 {

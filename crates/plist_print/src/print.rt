@@ -23,8 +23,8 @@ fn print_unflushed<I: EventSource, W: Write>(
         (W.contents writer.new) }
 {
     let mut buffer = FixedBuffer::new(alloc)?;
-    let mut printer = Printer::new(Sink::new(&mut buffer, writer));
-    printer.print_all(source)
+    let sink = Sink::new(&mut buffer, writer);
+    Printer { sink }.print_all(source)
 }
 
 /// Prints the remaining events of a source, each on a line of its own, and flushes the writer at

@@ -13,12 +13,11 @@ ghost use Rattle.plist_print.specs.PrintRuns.{PrintsRun};
 
 use crate::lines::{
     MAX_FIXED_LINE, MAX_PACKED_LINE, Notation, push_bytes, push_data, push_packed, push_start,
-    push_string,
 };
-use crate::plain_bytes::push_plain_line;
+use crate::plain_bytes::{push_plain_line, push_text_line};
 use crate::utf16::push_chars;
 use plist_base::{
-    Error, Event, EventSource, EventVisitor, PackedScalar, Sink, Utf16Chars, Utf16Str, Visited,
+    Error, Event, EventSource, EventVisitor, PackedScalar, Sink, Utf16Chars, Utf16Str,
 };
 use std::borrow::{CowSlice, CowStr};
 use std::io::Write;
@@ -57,25 +56,15 @@ fn put_block<W: Write>(sink: &mut Sink<'_, W>, block: &[u8], notation: Notation)
 fn put_blocks<W: Write>(sink: &mut Sink<'_, W>, bytes: &[u8], notation: Notation)
     ensures { Puts W.contents sink.old (in_notation notation bytes.now) sink.new }
 {
-    let (blocks, rest) = bytes.as_chunks::<BLOCK>();
-    for block in blocks {
+    let mut rest = bytes;
+    while let Some((block, others)) = rest.split_first_chunk::<BLOCK>() {
         if !sink.is_open() {
             return;
         }
         put_block(sink, block, notation);
+        rest = others;
     }
     put_block(sink, rest, notation);
-}
-
-// Puts a line into the sink: its word, its bytes in blocks, and its end.
-fn put_parts<W: Write>(sink: &mut Sink<'_, W>, line: &Parts<'_>)
-    ensures { Puts W.contents sink.old
-        (line.now.word.now ++ in_notation line.now.notation line.now.bytes.now ++ line.now.end.now)
-        sink.new }
-{
-    sink.put(line.word);
-    put_blocks(sink, line.bytes, line.notation);
-    sink.put(line.end);
 }
 
 /// A visitor that prints every event on a line of its own.
@@ -84,25 +73,18 @@ fn put_parts<W: Write>(sink: &mut Sink<'_, W>, line: &Parts<'_>)
 /// one is pushed, so the buffer never grows.
 #[derive(Drop)]
 pub struct Printer<'p, W> {
-    sink: Sink<'p, W>,
+    pub sink: Sink<'p, W>,
 }
 
 impl<'p, W: Write> Printer<'p, W> {
     ghost use Rattle.std.specs.declared.ops.ControlFlow.TheVariants.{Break, Continue};
-    ghost use Rattle.plist_base.specs.Sinks.{is_open};
-    ghost use Rattle.plist_print.specs.Printers.{FailsAfterLines, IsSamePrinter, PrintsBytes, PrintsLine, pending_lines, printed, printer_sink};
-
-    /// Creates a printer. The lines that are pending in the sink stay pending.
-    pub fn new(sink: Sink<'p, W>) -> Printer<'p, W>
-        ensures { result.sink ≡ sink.entry }
-    {
-        Printer { sink }
-    }
+    ghost use Rattle.plist_base.specs.Sinks.{IsSameSink, is_open, pending};
+    ghost use Rattle.plist_print.specs.Printers.{PrintsBytes, PrintsLine};
 
     // Returns `Break` if a write has failed.
     fn flow(&self) -> ControlFlow<()>
-        ensures working { result ≡ Continue tt → is_open (printer_sink self.now) ≡ true }
-        ensures stopped { result ≡ Break tt → is_open (printer_sink self.now) ≡ false }
+        ensures working { result ≡ Continue tt → is_open self.now.sink ≡ true }
+        ensures stopped { result ≡ Break tt → is_open self.now.sink ≡ false }
     {
         if self.sink.is_open() {
             ControlFlow::Continue(())
@@ -168,7 +150,7 @@ impl<'p, W: Write> Printer<'p, W> {
         flow
     }
 
-    // Prints a line in parts.
+    // Prints a line in parts: its word, its bytes in blocks, and its end.
     #[cold]
     #[inline(never)]
     fn print_parts(&mut self, line: &Parts<'_>) -> ControlFlow<()>
@@ -176,7 +158,9 @@ impl<'p, W: Write> Printer<'p, W> {
             ++ in_notation line.now.notation line.now.bytes.now ++ line.now.end.now)
             result self.new }
     {
-        put_parts(&mut self.sink, line);
+        self.sink.put(line.word);
+        put_blocks(&mut self.sink, line.bytes, line.notation);
+        self.sink.put(line.end);
         self.flow()
     }
 
@@ -204,7 +188,7 @@ impl<'p, W: Write> Printer<'p, W> {
             return self.print_long_text(text);
         }
         let flow = self.make_room(4 * text.len() + MAX_FIXED_LINE);
-        push_string(self.sink.buffer, text);
+        push_text_line(self.sink.buffer, text.as_bytes());
         flow
     }
 
@@ -216,10 +200,7 @@ impl<'p, W: Write> Printer<'p, W> {
             (escaped_chars (chars_left chars.old) ++ codes "\"\n") result self.new }
     {
         while !push_chars(self.sink.buffer, chars) {
-            match self.write_pending() {
-                ControlFlow::Continue(()) => {}
-                ControlFlow::Break(()) => return ControlFlow::Break(()),
-            }
+            self.write_pending()?;
         }
         self.sink.buffer.push(b"\"\n");
         ControlFlow::Continue(())
@@ -231,13 +212,9 @@ impl<'p, W: Write> Printer<'p, W> {
             (ScalarEvent (String (string_of_utf16 text.entry))) result self.new }
     {
         let at_once = text.as_bytes().len().min(MOST_AT_ONCE_UTF16);
-        match self.make_room(6 * at_once + MAX_FIXED_LINE) {
-            ControlFlow::Continue(()) => {
-                self.sink.buffer.push(b"String \"");
-                self.print_chars(&mut text.chars())
-            }
-            ControlFlow::Break(()) => ControlFlow::Break(()),
-        }
+        self.make_room(6 * at_once + MAX_FIXED_LINE)?;
+        self.sink.buffer.push(b"String \"");
+        self.print_chars(&mut text.chars())
     }
 
     // Prints data.
@@ -258,43 +235,19 @@ impl<'p, W: Write> Printer<'p, W> {
         flow
     }
 
-    // Writes the pending lines after the last event.
-    fn finish(&mut self) -> Result<(), Error>
-        ensures put { Puts W.contents (printer_sink self.old) [] (printer_sink self.new) }
-        ensures empty { pending_lines self.new ≡ [] }
-        ensures sent { OnOk result (is_open (printer_sink self.new) ≡ true) }
-        ensures fault { OnlyDevice result }
-    {
-        self.sink.write_pending();
-        self.sink.result()
-    }
-
-    // Writes the lines that are pending when an error occurs. Returns this error, or the error of
-    // the write if it fails.
-    fn finish_before(&mut self, error: Error) -> Error
-        ensures { FailsAfterLines W.contents (printer_sink self.old) error result
-            (printer_sink self.new) }
-    {
-        match self.finish() {
-            Ok(()) => error,
-            Err(failure) => failure,
-        }
-    }
-
-    /// Prints the remaining events of a source, and writes all lines.
+    /// Prints the remaining events of a source, and writes all lines, also those before an error of
+    /// the source. If a write fails, its error is returned, and nothing more is written.
     pub fn print_all<I: EventSource>(&mut self, source: &mut I) -> Result<(), Error>
-        requires empty { pending_lines self.old ≡ [] }
-        requires working { is_open (printer_sink self.old) ≡ true }
+        requires { pending self.old.sink ≡ [] }
         ensures ran { PrintsRun I.yields source.old result source.new
-            (printed W.contents self.old) (printed W.contents self.new) }
-        ensures same { IsSamePrinter self.old self.new }
+            (W.contents self.old.sink.writer.now) (W.contents self.new.sink.writer.now) }
+        ensures same { IsSameSink self.old.sink self.new.sink }
     {
-        match source.visit(self) {
-            Ok(Visited::Ended) => self.finish(),
-            // A write failed, so nothing more is written.
-            Ok(Visited::Stopped) => self.finish(),
-            Err(error) => Err(self.finish_before(error)),
-        }
+        let visited = source.visit(self);
+        self.sink.write_pending();
+        self.sink.result()?;
+        visited?;
+        Ok(())
     }
 }
 

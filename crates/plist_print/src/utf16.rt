@@ -24,14 +24,18 @@ fn push_escapes(line: &mut FixedBuffer, bytes: &[u8])
     }
 }
 
-// Pushes the escapes of the bytes in UTF-8 of a character that isn't ASCII.
+// Pushes the printed form of a character: of its bytes in UTF-8.
 #[inline(always)]
-fn push_wide_char(line: &mut FixedBuffer, code: u32)
-    requires code { (0x80 ≤ code) × (code < 0x11_0000) }
-    requires room { 16 ≤ room line.old }
-    ensures pushed { line.new ≡ line.old ++ escaped_text (encode_utf8 code) }
+fn push_char(line: &mut FixedBuffer, c: char)
+    requires { 16 ≤ room line.old }
+    ensures pushed { line.new ≡ line.old ++ escaped_text (encode_utf8 c) }
     ensures room { room line.old ≤ room line.new + 16 }
 {
+    let code = c as u32;
+    if code < 0x80 {
+        push_byte(line, code as u8);
+        return;
+    }
     let last = byte_after_first(code);
     if code < 0x800 {
         push_escapes(line, &[(0xc0 + code / 64) as u8, last]);
@@ -44,21 +48,6 @@ fn push_wide_char(line: &mut FixedBuffer, code: u32)
     }
     let second = byte_after_first(code / 4096);
     push_escapes(line, &[(0xf0 + code / 0x4_0000) as u8, second, third, last]);
-}
-
-// Pushes the printed form of a character.
-#[inline(always)]
-fn push_char(line: &mut FixedBuffer, c: char)
-    requires { 16 ≤ room line.old }
-    ensures pushed { line.new ≡ line.old ++ escaped_text (encode_utf8 c) }
-    ensures room { room line.old ≤ room line.new + 16 }
-{
-    let code = c as u32;
-    if code < 0x80 {
-        push_byte(line, code as u8);
-        return;
-    }
-    push_wide_char(line, code);
 }
 
 // Pushes the printed form of the next eight characters if all of them are ASCII, or else that of

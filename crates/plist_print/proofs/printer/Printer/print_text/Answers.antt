@@ -1,12 +1,6 @@
-use Rattle.std.proofs.Common.{refl}
-use Rattle.plist_base.specs.Events.{ScalarEvent}
-use Rattle.plist_base.specs.Trees.{String}
-use Rattle.plist_print.specs.EscapedLines.{line_of}
-use Rattle.plist_print.proofs.Printers.{prints_pending}
+use Rattle.plist_print.proofs.Printers.{prints_pushed}
 use Rattle.plist_print.proofs.printer.Printer.print_text.Goals as goal
 
 pub returns : goal.returns
 returns g c =
-    prints_pending g.W.Write.contents c.args.self.now c.make_room-flow.new.self _
-    (line_of (ScalarEvent (String c.args.text.now))) c.make_room-flow.result c.make_room-flow.ensures.put
-    (record { writer = refl; buffer = refl }) refl c.push_string.ensures refl
+    prints_pushed _ c.make_room-flow.ensures.put (rw c.as_bytes.ensures.value at c.push_text_line.ensures)
