@@ -45,7 +45,7 @@ pub fn push_bytes(line: &mut FixedBuffer, bytes: &[u8], notation: Notation)
 #[inline(always)]
 fn push_number<const N: usize>(line: &mut FixedBuffer, word: [u8; N], number: u64)
     requires { N + 21 ≤ room line.old }
-    ensures { line.new ≡ line.old ++ word.entry ++ decimal number ++ codes "\n" }
+    ensures { line.new ≡ line.old ++ (word.entry ++ decimal number ++ codes "\n") }
 {
     line.push_array(word);
     line.push_decimal(number);
@@ -83,7 +83,7 @@ fn push_signed(line: &mut FixedBuffer, number: i64)
 #[inline(never)]
 fn push_negative(line: &mut FixedBuffer, number: i64)
     requires { 64 ≤ room line.old }
-    ensures { line.new ≡ line.old ++ codes "Integer " ++ signed_decimal number ++ codes "\n" }
+    ensures { line.new ≡ line.old ++ (codes "Integer " ++ signed_decimal number ++ codes "\n") }
 {
     line.push(b"Integer ");
     push_signed(line, number);
@@ -107,7 +107,7 @@ fn push_date(line: &mut FixedBuffer, date: Date)
 #[inline(never)]
 fn push_date_line(line: &mut FixedBuffer, date: Date)
     requires { 64 ≤ room line.old }
-    ensures { line.new ≡ line.old ++ codes "Date " ++ text_of_date date ++ codes "\n" }
+    ensures { line.new ≡ line.old ++ (codes "Date " ++ text_of_date date ++ codes "\n") }
 {
     line.push(b"Date ");
     push_date(line, date);
@@ -118,7 +118,7 @@ fn push_date_line(line: &mut FixedBuffer, date: Date)
 #[inline(never)]
 fn push_real(line: &mut FixedBuffer, bytes: &[u8])
     requires { 2 * length bytes.now + 6 ≤ room line.old }
-    ensures { line.new ≡ line.old ++ codes "Real " ++ hexadecimal bytes.now ++ codes "\n" }
+    ensures { line.new ≡ line.old ++ (codes "Real " ++ hexadecimal bytes.now ++ codes "\n") }
 {
     line.push(b"Real ");
     push_hexadecimal(line, bytes);

@@ -47,6 +47,7 @@ fn is_marked_plain(byte: u8) -> bool
 // Tests whether bytes of a string are printed as they are.
 struct Plain;
 
+#[tactic(auto, using(crate::proofs::ScalarLines::plain_block))]
 impl ByteTest for Plain {
     ghost use Rattle.std.specs.Prelude.{◌≡◌, true};
     ghost use Rattle.plist_print.specs.EscapedLines.{stands_for_itself};

@@ -1,4 +1,4 @@
-use Rattle.std.proofs.Common.{◌≡◌, ◌++◌, ℕ, List, Some, ap, append_assoc, refl, subst, sym, take, ◌∙◌}
+use Rattle.std.proofs.Common.{◌≡◌, ◌++◌, Some, ap, refl, subst, sym, take, ◌∙◌}
 use Rattle.std.specs.Prelude.{codes}
 use Rattle.plist_base.specs.Date.{date_of_bytes}
 use Rattle.plist_base.specs.Events.{ScalarEvent}
@@ -6,12 +6,6 @@ use Rattle.plist_base.specs.Packing.{IsPackable, content_bytes, kind_of_tag, sca
 use Rattle.plist_base.specs.declared.packed_scalar.PackedKind.TheVariants as kind
 use Rattle.plist_print.specs.EscapedLines.{hexadecimal, line_of, text_of_date}
 use Rattle.plist_print.proofs.lines.push_packed.Goals as goal
-
--- a word, its text and the LF are a line
-as_line : (before word text : List ℕ)
-    → before ++ word ++ text ++ codes "\n" ≡ before ++ (word ++ text ++ codes "\n")
-as_line before word text = ap (λ l. l ++ codes "\n") (append_assoc before word text)
-    ∙ append_assoc before (word ++ text) (codes "\n")
 
 pub returns-in-ShortReal : goal.returns-in-ShortReal
 returns-in-ShortReal c =
@@ -23,8 +17,7 @@ returns-in-ShortReal c =
     let four : c.copy_from_slice.new.self ≡ take 4 (content_bytes content)
     = rw (c.copy_from_slice.ensures.after, bytes) refl in
     c.push_real-in-ShortReal.ensures
-    ∙ ap (λ l. before ++ codes "Real " ++ hexadecimal l ++ codes "\n") four
-    ∙ as_line before (codes "Real ") (hexadecimal (take 4 (content_bytes content)))
+    ∙ ap (λ l. before ++ (codes "Real " ++ hexadecimal l ++ codes "\n")) four
     ∙ ap (λ k. before ++ line_of (ScalarEvent (scalar_of_kind k content))) (sym found)
 
 pub returns-in-Ok : goal.returns-in-Ok
@@ -40,6 +33,5 @@ returns-in-Ok c =
     = sym c.in-Ok.ensures.date ∙ ap date_of_bytes bytes ∙ valid in
     let date : c.in-Ok.date ≡ content_bytes content = cc in
     c.push_date_line.ensures
-    ∙ ap (λ l. before ++ codes "Date " ++ text_of_date l ++ codes "\n") date
-    ∙ as_line before (codes "Date ") (text_of_date (content_bytes content))
+    ∙ ap (λ l. before ++ (codes "Date " ++ text_of_date l ++ codes "\n")) date
     ∙ ap (λ k. before ++ line_of (ScalarEvent (scalar_of_kind k content))) (sym found)

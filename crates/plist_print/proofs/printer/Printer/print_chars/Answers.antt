@@ -1,4 +1,5 @@
 use Rattle.std.proofs.Common.{◌++◌, [], ap, append-nil, append_assoc, arith, codes, refl, sym, ◌∙◌}
+use Rattle.std.specs.declared.ops.ControlFlow.TheVariants.{Break, Continue}
 use Rattle.plist_base.specs.Utf16Strings.{chars_left}
 use Rattle.plist_print.specs.EscapedLines.{escaped_chars}
 use Rattle.plist_print.proofs.Printers.{prints_as, prints_closed, prints_none, prints_pushed, prints_written}
@@ -19,7 +20,7 @@ loop-self-preserved g c =
       printed = record {
         done = p.done;
         left = p.left;
-        put = prints_written p.put wrote.put;
+        put = prints_written {flow = Continue tt} p.put wrote.put;
       };
       room = omega (arith, wrote.room);
     }
@@ -31,7 +32,7 @@ returns-in_err-write_pending g c =
     rw c.from_residual.ensures (prints_as (sym (append_assoc (escaped_chars p.done) _ _)
     ∙ ap (λ l. l ++ codes "\"\n") (chars-append p.done rest ∙ ap escaped_chars (sym p.left)))
     (prints_closed (escaped_chars rest ++ codes "\"\n")
-    (prints_written p.put c.in_err-write_pending.ensures.put)))
+    (prints_written {flow = Break tt} p.put c.in_err-write_pending.ensures.put)))
 
 pub returns : goal.returns
 returns g c =

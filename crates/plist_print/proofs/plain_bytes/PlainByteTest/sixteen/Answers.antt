@@ -1,6 +1,0 @@
-use Rattle.std.proofs.Common.{arith}
-use Rattle.plist_print.proofs.ScalarLines.{plain_block}
-use Rattle.plist_print.proofs.plain_bytes.PlainByteTest.sixteen.Goals as goal
-
-pub returns : goal.returns
-returns c = plain_block 16 c.args.bytes (omega arith) c.fits-bytes.0
