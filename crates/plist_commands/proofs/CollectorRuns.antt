@@ -1,30 +1,32 @@
 -- What a collector has buffered after a visit.
-use Rattle.std.proofs.Common.{◌≡◌, ℕ, Bool, true, false, List, Option, None, Some, Result, Ok, Err, ap, inl, inr, refl, sym, ◌∙◌, ◌⊎◌, true≢false}
+use Rattle.std.proofs.Common.{◌≡◌, ℕ, Bool, true, false, List, [], ◌∷◌, ◌++◌, Option, None, Some, Result, Ok, Err, map, ap, subst, inl, inr, refl, sym, ◌∙◌, ◌⊎◌, true≢false}
 use Rattle.std.specs.Prelude.{⊤}
 use Rattle.std.proofs.lemmas.Option.{IfSome_then}
-use Rattle.std.specs.declared.ops.ControlFlow.TheVariants.{Continue, Break}
-use Rattle.plist_base.specs.Bracketing.{CanContinue}
+use Rattle.std.specs.declared.ops.ControlFlow.TheVariants.{Break}
+use Rattle.plist_base.specs.Bracketing.{AreAlike, without_length}
 use Rattle.plist_base.specs.declared.error.Error.{Error}
 use Rattle.plist_base.specs.declared.visitor.Visited.{Visited}
 use Rattle.plist_base.specs.declared.visitor.Visited.TheVariants.{Ended, Stopped}
 use Rattle.plist_base.specs.Events.{PlainEvent, Item}
 use Rattle.plist_base.specs.Faults.{Fault, OutOfMemory, error_kind_of, fault_without_offset, fault_of, kind_of}
 use Rattle.plist_base.specs.Sources.{CountsIo}
-use Rattle.plist_base.specs.Visits.{Flow, PlainItem, Visits}
+use Rattle.plist_base.specs.Visits.{PlainItem, Visits, YieldsAll}
 use Rattle.plist_base.proofs.Refusals.{MatchFault-at}
-use Rattle.plist_base.proofs.Visits.{kept_all}
-use Rattle.plist_buffer.specs.EventBuffers.{TestsWhole}
+use Rattle.plist_base.proofs.Visits.{given_more, kept_all}
+use Rattle.plist_base.proofs.Lengths.{alike_last, alike_with, continue_alike}
+use Rattle.std.proofs.lemmas.List.{map-append}
+use Rattle.plist_buffer.specs.EventBuffers.{Accepts, CanTake, TestsWhole}
 use Rattle.plist.specs.ValueOfItems.{IsReadIfKnown}
 use Rattle.plist_commands.specs.Converting.{BuffersRun, CollectsItems}
 use Rattle.plist_commands.specs.declared.collector.Collector.{Collector}
 use Rattle.plist_commands.specs.declared.collector.StopReason.{StopReason}
 use Rattle.plist_commands.specs.declared.collector.StopReason.TheVariants.{Failed, Misplaced, Paused}
-use Rattle.plist_commands.specs.CollectorSteps.{AnswersVisit, HasPaused, HoldsMore, IsEmpty, MatchStop, MayPause, CollectsEvent, collected, is_complete}
+use Rattle.plist_commands.specs.CollectorSteps.{AnswersVisit, HasPaused, IsEmpty, MatchStop, CollectsEvent, collected, is_complete}
 use Rattle.plist_print.specs.Printing.{CountsReads}
-use Rattle.plist_base.proofs.VisitedItems.{Comes}
-use Rattle.plist_print.proofs.PendingBytes.{fault_counts, memory_own, own_counts}
-use Rattle.plist_commands.proofs.BufferedRuns.{HasHeld, held_faulted, held_more, held_none, held_refused, held_stopped, held_whole}
-use Rattle.plist_commands.proofs.BufferedItems.{HasTaken, came_next, goes_on, held_at_end, taken_none, tells_next, tells_none, took_event, took_fault, whole_at_end}
+use Rattle.plist_base.proofs.VisitedItems.{Comes, came_last}
+use Rattle.plist_print.proofs.SourceItems.{memory_own}
+use Rattle.plist.specs.Building.{NotBegun}
+use Rattle.plist_commands.proofs.BufferedItems.{IsBuilt, built_fault, built_more, goes_on, held_at_end, tells_next, tells_none, whole_at_end}
 
 -- `OutOfMemory` is possible for any items
 read_without_memory : (items : Option (List Item)) (error : Error)
@@ -49,17 +51,22 @@ module _ {I : Type 0} (gives : I → PlainItem → I → Type 0) (coming : I →
     → CountsIo item (failures old) (failures new) × is_open new) where
   -- the events that were yielded so far are buffered
   pub record Held (first : I) (now : I × Collector) : Type 0 where
-    pub ran : HasHeld gives first now.0 (collected now.1)
-    pub so_far : HasTaken (coming first) (coming now.0) (collected now.1)
+    pub events : List PlainEvent
+    pub through : YieldsAll gives first events now.0
+    pub held : collected now.1 ≡ map without_length events
+    pub alike : AreAlike (collected now.1) events
+    pub built : IsBuilt events
     pub tested : TestsWhole (is_complete now.1) (collected now.1)
     pub counted : failures now.0 ≡ failures first
     pub open_still : is_open now.0
 
-  pub held_first : (old : I × Collector) → is_open old.0
-      → IsEmpty old.1 → Held old.0 old
+  pub held_first : (old : I × Collector) → is_open old.0 → IsEmpty old.1 → Held old.0 old
   held_first old open_first empty = record {
-    ran = held_none gives old.0 (collected old.1) empty.0;
-    so_far = taken_none (coming old.0) (coming old.0) (collected old.1) refl empty.0;
+    events = [];
+    through = refl;
+    held = empty.0;
+    alike = ap (map without_length) empty.0;
+    built = record { built = NotBegun; nested = tt; alike = refl };
     tested = tells_none (is_complete old.1) (collected old.1) empty.1 empty.0;
     counted = refl;
     open_still = open_first;
@@ -67,18 +74,19 @@ module _ {I : Type 0} (gives : I → PlainItem → I → Type 0) (coming : I →
 
   -- one more event is buffered
   held_next : (first : I) (now new : I × Collector) (event : PlainEvent) → Held first now
-      → gives now.0 (Some (Ok event)) new.0
-      → HoldsMore (is_complete new.1) (collected now.1) event (collected new.1) → Held first new
-  held_next first now new event held given (can, grown, tests) =
+      → gives now.0 (Some (Ok event)) new.0 → Accepts now.1.pending event new.1.pending
+      → Held first new
+  held_next first now new event held given (can, (grown, tests)) =
       let (same, still) = counts now.0 (Some (Ok event)) new.0 held.open_still given in
       record {
-        ran = held_more gives first now.0 new.0 event (collected now.1) (collected new.1) held.ran
-            given grown;
-        so_far = IfSome_then (coming first)
-            (came_next (coming first) (coming now.0) (coming new.0) (collected now.1)
-            (Some (Ok event)) held.so_far (comes now.0 (Some (Ok event)) new.0 given))
-            (λ all (left, next, took, to, is).
-            (next, to, took_event all left _ took next event _ is can grown));
+        events = held.events ++ event ∷ [];
+        through = given_more gives first now.0 new.0 held.events event held.through given;
+        held = grown ∙ ap (λ l. l ++ without_length event ∷ []) held.held
+            ∙ sym (map-append without_length held.events (event ∷ []));
+        alike = ap (map without_length) grown ∙ alike_last (collected now.1) event
+            ∙ alike_with (collected now.1) held.events (event ∷ []) held.alike;
+        built = built_more held.events event held.built
+            ((continue_alike (collected now.1) held.events held.alike event).0 can);
         tested = tells_next (is_complete new.1) (collected now.1) (collected new.1) event grown tests;
         counted = same ∙ held.counted;
         open_still = still;
@@ -100,8 +108,11 @@ module _ {I : Type 0} (gives : I → PlainItem → I → Type 0) (coming : I →
   pub held_same : (first now : I) (old new : Collector) → Held first (now, old)
       → collected new ≡ collected old → is_complete new ≡ is_complete old → Held first (now, new)
   held_same first now old new held events whole = record {
-    ran = rw events held.ran;
-    so_far = rw events held.so_far;
+    events = held.events;
+    through = held.through;
+    held = events ∙ held.held;
+    alike = ap (map without_length) events ∙ held.alike;
+    built = held.built;
     tested = rw (events, whole) held.tested;
     counted = held.counted;
     open_still = held.open_still;
@@ -120,9 +131,9 @@ module _ {I : Type 0} (gives : I → PlainItem → I → Type 0) (coming : I →
       by : (stop : StopReason) (event : PlainEvent) → gives visit.left.0 (Some (Ok event)) new.0
           → MatchStop stop
           ((visit.left.1.pauses ≡ true)
-          × HoldsMore (is_complete new.1) (collected visit.left.1) event (collected new.1))
+          × Accepts visit.left.1.pending event new.1.pending)
           (TestsWhole (is_complete visit.left.1) (collected visit.left.1)
-          → CanContinue (collected visit.left.1) event → ⊥)
+          → CanTake visit.left.1.pending event → ⊥)
           (λ error. fault_of error ≡ fault_without_offset OutOfMemory)
           → MatchStop stop (◌≡◌ {A = Bool} true true) (◌≡◌ {A = Bool} true false)
           (λ error. ◌≡◌ {A = Bool} true false) → Held first new
@@ -137,20 +148,26 @@ module _ {I : Type 0} (gives : I → PlainItem → I → Type 0) (coming : I →
       → gives left.0 None new
       → Concludes gives coming failures first (Ok (is_complete left.1)) (new, left.1)
   ends_there first left new held last =
-      let came = came_next (coming first) (coming left.0) (coming new) (collected left.1) None
-      held.so_far (comes left.0 None new last) in
+      let came = came_last gives coming comes first left.0 new held.events None held.through last in
       record {
         collects = record {
           held = λ e. let whole = (rw e at held.tested).0 in (
             whole,
-            IfSome_then (coming first) came
-                (λ all (before, next, took, to, is). held_at_end all before _ took is.0 whole),
+            IfSome_then (coming first) came (λ all (rest, more, is, none). (
+              whole.0,
+              held_at_end all rest held.events is none.0 whole.0 (sym held.alike ∙ whole.1),
+              whole.1,
+            )),
           );
-          none = λ e. IfSome_then (coming first) came (λ all (before, next, took, to, is) tree of.
-              (rw e at held.tested) (whole_at_end all before _ took is.0 tree of));
+          none = λ e. IfSome_then (coming first) came (λ all (rest, more, is, none) tree of.
+              (rw e at held.tested) (
+                tree,
+                held.alike
+                    ∙ whole_at_end all rest held.events is none.0 tree of,
+              ));
           refused = tt;
         };
-        ran = held_whole gives first left.0 new (collected left.1) (is_complete left.1) held.ran last;
+        ran = (held.events, left.0, held.through, (inl last, λ _. (last, held.held)));
         counted = inl ((counts left.0 None new held.open_still last).0 ∙ held.counted);
       }
 
@@ -160,26 +177,29 @@ module _ {I : Type 0} (gives : I → PlainItem → I → Type 0) (coming : I →
       → (stop ≡ Paused → ⊥)
       → MatchStop stop
       ((left.1.pauses ≡ true)
-      × HoldsMore (is_complete new.1) (collected left.1) event (collected new.1))
-      (TestsWhole (is_complete left.1) (collected left.1)
-      → CanContinue (collected left.1) event → ⊥)
+      × Accepts left.1.pending event new.1.pending)
+      (TestsWhole (is_complete left.1) (collected left.1) → CanTake left.1.pending event → ⊥)
       (λ error. fault_of error ≡ fault_without_offset OutOfMemory)
       → MatchStop stop (answer ≡ Ok false) (answer ≡ Ok false) (λ error. answer ≡ Err error)
       → Concludes gives coming failures first answer new
   stops_there first left new event Paused answer held last not_paused taken is =
       absurd (not_paused refl)
   stops_there first left new event Misplaced answer held last not_paused cannot is =
-      let came = came_next (coming first) (coming left.0) (coming new.0) (collected left.1)
-      (Some (Ok event)) held.so_far (comes left.0 (Some (Ok event)) new.0 last) in
       rw is (record {
         collects = record {
           held = λ e. absurd (cc);
-          none = λ e. IfSome_then (coming first) came (λ all (before, next, took, to, is) tree of.
-              cannot held.tested (goes_on all before _ took next event is tree of));
+          none = λ e. IfSome_then (coming first) (came_last gives coming comes first left.0 new.0
+              held.events (Some (Ok event)) held.through last) (λ all (rest, more, is, next) tree of.
+              cannot held.tested ((continue_alike (collected left.1) held.events held.alike event).1
+              (goes_on all rest held.events is more event next tree of)));
           refused = tt;
         };
-        ran = held_refused gives first left.0 new.0 event (collected left.1) (collected new.1)
-            held.ran last;
+        ran = (
+          held.events,
+          left.0,
+          held.through,
+          (inr (event, last), λ no. absurd (true≢false (sym no))),
+        );
         counted = inl ((counts left.0 (Some (Ok event)) new.0 held.open_still last).0 ∙ held.counted);
       })
   stops_there first left new event (Failed error) answer held last not_paused memory is =
@@ -189,10 +209,16 @@ module _ {I : Type 0} (gives : I → PlainItem → I → Type 0) (coming : I →
           none = tt;
           refused = read_without_memory (coming first) error memory;
         };
-        ran = held_stopped gives first left.0 new.0 event (collected left.1) (collected new.1) error
-            held.ran last memory;
-        counted = own_counts error (failures first) (failures new.0) (memory_own error memory)
-            ((counts left.0 (Some (Ok event)) new.0 held.open_still last).0 ∙ held.counted);
+        ran = (
+          held.events ++ event ∷ [],
+          new.0,
+          given_more gives first left.0 new.0 held.events event held.through last,
+          inr (memory, refl),
+        );
+        counted = inr (
+          (memory_own error memory).0,
+          (counts left.0 (Some (Ok event)) new.0 held.open_still last).0 ∙ held.counted,
+        );
       })
 
   -- the source yielded an error
@@ -203,17 +229,13 @@ module _ {I : Type 0} (gives : I → PlainItem → I → Type 0) (coming : I →
     collects = record {
       held = tt;
       none = tt;
-      refused = IfSome_then (coming first)
-          (came_next (coming first) (coming left.0) (coming new.0) (collected left.1)
-          (Some (Err error)) held.so_far (comes left.0 (Some (Err error)) new.0 last))
-          (λ all (before, next, took, to, is).
-          took_fault all before _ took next error is);
+      refused = IfSome_then (coming first) (came_last gives coming comes first left.0 new.0
+          held.events (Some (Err error)) held.through last) (λ all (rest, more, is, next).
+          built_fault all rest held.events is more error held.built next);
     };
-    ran = held_faulted gives first left.0 new.0 (collected left.1) (collected new.1) error held.ran
-        last;
-    counted = fault_counts {A = Unit {0}} error error (failures first) (failures left.0)
-        (failures new.0) held.counted
-        (counts left.0 (Some (Err error)) new.0 held.open_still last).0 (inl (refl, tt));
+    ran = (held.events, left.0, held.through, inl last);
+    counted = inl (subst (λ n. CountsIo {A = Unit {0}} (Some (Err error)) n (failures new.0))
+        held.counted (counts left.0 (Some (Err error)) new.0 held.open_still last).0);
   }
 
   -- the visit wasn't paused
@@ -241,33 +263,24 @@ module _ {I : Type 0} (gives : I → PlainItem → I → Type 0) (coming : I →
       never (inr none) event taken paused = true≢false (sym (rw paused at none))
 
   -- the collector didn't pause after the first event
-  pub concludes_once : (old mid : I) (before taken : Collector) (first : Result Visited Error)
-      (answer : Result Bool Error) → is_open old → IsEmpty before
-      → Visits gives CollectsEvent (old, before) first (mid, taken) → HasPaused false taken first
-      → AnswersVisit first taken answer → Concludes gives coming failures old answer (mid, taken)
-  concludes_once old mid before taken first answer open_first empty visit paused is =
-      concludes old (old, before) (mid, taken) first answer
-      (held_first (old, before) open_first empty) visit (inr paused) is
+  pub concludes_once : {old : I} {before : Collector} {new : I × Collector}
+      {first : Result Visited Error} {answer : Result Bool Error} → is_open old → IsEmpty before
+      → Visits gives CollectsEvent (old, before) first new → HasPaused false new.1 first
+      → AnswersVisit first new.1 answer → Concludes gives coming failures old answer new
+  concludes_once {old} {before} {new} {first} {answer} open_first empty visit paused =
+      concludes old (old, before) new first answer (held_first (old, before) open_first empty) visit
+      (inr paused)
 
   -- the collector paused after the first event, and the visit was continued
-  pub concludes_twice : (old mid new : I) (before taken expecting last : Collector)
-      (first others : Result Visited Error) (answer : Result Bool Error) → is_open old
-      → IsEmpty before → Visits gives CollectsEvent (old, before) first (mid, taken)
-      → HasPaused true taken first → collected expecting ≡ collected taken
-      → is_complete expecting ≡ is_complete taken → expecting.pauses ≡ false
-      → Visits gives CollectsEvent (mid, expecting) others (new, last)
-      → AnswersVisit others last answer → Concludes gives coming failures old answer (new, last)
-  concludes_twice old mid new before taken expecting last first others answer open_first empty visit
-      paused events whole pauses rest is =
-      concludes old (mid, expecting) (new, last) others answer
-      (held_same old mid taken expecting (held_paused old (old, before) (mid, taken) first
-      (held_first (old, before) open_first empty) visit paused) events whole) rest (inl pauses) is
-
--- the event is buffered, and the collector may pause after it
-pub may_pause : (old mid new : Collector) (event : PlainEvent) (flow : Flow)
-    → mid.pauses ≡ old.pauses
-    → HoldsMore (is_complete mid) (collected old) event (collected mid) → MayPause mid flow new
-    → CollectsEvent old event flow new
-may_pause old mid new event (Continue more) pauses holds same = rw same (pauses, holds)
-may_pause old mid new event (Break stop) pauses holds (may, paused, same) =
-    rw (paused, same) (sym pauses ∙ may, holds)
+  pub concludes_twice : {old : I} {mid new : I × Collector} {before expecting : Collector}
+      {first others : Result Visited Error} {answer : Result Bool Error} → is_open old
+      → IsEmpty before → Visits gives CollectsEvent (old, before) first mid
+      → HasPaused true mid.1 first → collected expecting ≡ collected mid.1
+      → is_complete expecting ≡ is_complete mid.1 → expecting.pauses ≡ false
+      → Visits gives CollectsEvent (mid.0, expecting) others new → AnswersVisit others new.1 answer
+      → Concludes gives coming failures old answer new
+  concludes_twice {old} {mid} {new} {before} {expecting} {first} {others} {answer} open_first empty
+      visit paused events whole pauses rest =
+      concludes old (mid.0, expecting) new others answer
+      (held_same old mid.0 mid.1 expecting (held_paused old (old, before) mid first
+      (held_first (old, before) open_first empty) visit paused) events whole) rest (inl pauses)

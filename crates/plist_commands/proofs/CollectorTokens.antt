@@ -1,5 +1,5 @@
 -- The tokens of a collector, which are the indices of buffered events.
-use Rattle.std.proofs.Common.{◌≡◌, ℕ, ◌+◌, ◌-◌, true, List, [], ◌∷◌, ◌++◌, length, Option, None, Some, Result, Ok, Err, IfSome, OnOk, arith, ap, sym, subst, ◌∙◌}
+use Rattle.std.proofs.Common.{◌≡◌, ℕ, ◌+◌, ◌-◌, true, List, [], ◌∷◌, ◌++◌, length, Some, arith, ap, sym, subst, ◌∙◌}
 use Rattle.std.proofs.Math.ListN.{get_or-append}
 use Rattle.std.proofs.Math.Seq.{get_or-append_seam}
 use Rattle.std.proofs.lemmas.List.{length-append}
@@ -8,12 +8,9 @@ use Rattle.plist_base.specs.Bracketing.{without_length}
 use Rattle.plist_base.specs.Events.{EndCollection, IsScalarEvent, PlainEvent, ScalarEvent, StartArray, StartDictionary}
 use Rattle.plist_base.specs.Tokens.{HasNamed}
 use Rattle.plist_base.specs.VisitedItems.{WantsAll}
-use Rattle.plist_buffer.specs.EventBuffers.{Accepts, buffered_events, is_whole}
 use Rattle.plist_buffer.specs.EventTable.{event_at}
-use Rattle.plist_buffer.specs.declared.event_buffer.EventBuffer.{EventBuffer}
-use Rattle.plist_buffer.specs.declared.event_buffer.PushError.{PushError}
 use Rattle.plist_buffer.specs.inner.Entries.{is_leaf}
-use Rattle.plist_commands.specs.CollectorSteps.{CollectsEvent, HoldsMore, IsBufferedAt, collected}
+use Rattle.plist_commands.specs.CollectorSteps.{CollectsEvent, IsBufferedAt, collected}
 use Rattle.plist_commands.specs.declared.collector.Collector.{Collector}
 
 -- an event keeps its index if others are appended
@@ -35,7 +32,7 @@ buffered_since past now [] token event is same =
     subst (λ c. IsBufferedAt (collected c) token event) (sym same) is
 buffered_since past now (first ∷ taken) token event is (next, one, others) =
     buffered_since next now taken token event
-    (subst (λ events. IsBufferedAt events token event) (sym one.1.1)
+    (subst (λ events. IsBufferedAt events token event) (sym one.1.1.0)
     (still_at (collected past) _ token event is)) others
 
 -- what a token named is still buffered at its index
@@ -72,18 +69,3 @@ pub named_scalar : (events : List PlainEvent) (token : ℕ) (event : PlainEvent)
     → IsScalarEvent event × (event_at events (token - 1) ≡ event)
 named_scalar events token event (some, is) leaf = scalar_without event _
     (get_or_from_slice_get events (token - 1) _ EndCollection is) leaf
-
--- a scalar that is buffered once more is the one that the token names
-pub repeats_named : (answer : Option (Result (Unit {0}) PushError)) (old new : EventBuffer)
-    (token : ℕ) (event : PlainEvent) → IsBufferedAt (buffered_events old) token event
-    → IfSome answer (λ _. is_leaf (event_at (buffered_events old) (token - 1)) ≡ true)
-    → IfSome answer (λ a. OnOk a (Accepts old (event_at (buffered_events old) (token - 1)) new))
-    → IfSome answer (λ a. IsScalarEvent event × OnOk a
-    (HoldsMore (is_whole new) (buffered_events old) event (buffered_events new)))
-repeats_named None old new token event named leaf taken = tt
-repeats_named (Some (Ok done)) old new token event named leaf taken =
-    let (scalar, same) = named_scalar (buffered_events old) token event named leaf in
-    let accepted = subst (λ e. Accepts old e new) same taken in
-    (scalar, (accepted.0, accepted.1.0, accepted.1.1))
-repeats_named (Some (Err refused)) old new token event named leaf taken =
-    ((named_scalar (buffered_events old) token event named leaf).0, tt)

@@ -1,6 +1,5 @@
 pub mod ReaderItems
 pub mod CollectorRuns
-pub mod BufferedRuns
 pub mod BufferedItems
 pub mod Trees
 pub mod ErrorMessages

@@ -1,25 +1,17 @@
 -- What a collector does when it takes an event.
-use Rattle.std.specs.Prelude.{◌≡◌, ℕ, ◌-◌, ◌<◌, Bool, true, false, List, [], ◌∷◌, ◌++◌, Some, slice_get, Result, Ok, Err}
+use Rattle.std.specs.Prelude.{◌≡◌, ℕ, ◌-◌, ◌<◌, Bool, true, false, List, [], Some, slice_get, Result, Ok, Err}
 use Rattle.std.specs.declared.ops.ControlFlow.TheVariants.{Continue, Break}
-use Rattle.plist_base.specs.Bracketing.{CanContinue, without_length}
+use Rattle.plist_base.specs.Bracketing.{without_length}
 use Rattle.plist_base.specs.declared.error.Error.{Error}
 use Rattle.plist_base.specs.declared.visitor.Visited.{Visited}
 use Rattle.plist_base.specs.declared.visitor.Visited.TheVariants.{Ended, Stopped}
 use Rattle.plist_base.specs.Events.{PlainEvent}
 use Rattle.plist_base.specs.Faults.{OutOfMemory, fault_without_offset, fault_of}
 use Rattle.plist_base.specs.Visits.{Flow}
-use Rattle.plist_buffer.specs.EventBuffers.{TestsWhole, buffered_events, is_whole}
+use Rattle.plist_buffer.specs.EventBuffers.{Accepts, CanTake, TestsWhole, buffered_events, is_whole}
 use Rattle.plist_commands.specs.declared.collector.Collector.{Collector}
 use Rattle.plist_commands.specs.declared.collector.StopReason.{StopReason}
 use Rattle.plist_commands.specs.declared.collector.StopReason.TheVariants.{Failed, Misplaced, Paused}
-
--- the event can follow the buffered events, and is buffered after them without its length; `whole`
--- says whether the events are now those of a whole property list
-abbrev pub HoldsMore : (whole : Bool) → (before : List PlainEvent) → PlainEvent
-    → (after : List PlainEvent) → Type 0
-HoldsMore whole before event after =
-    CanContinue before event × (after ≡ before ++ without_length event ∷ [])
-    × TestsWhole whole (before ++ event ∷ [])
 
 -- the event is buffered, without its length, and the token is one more than its index
 abbrev pub IsBufferedAt : List PlainEvent → (token : ℕ) → PlainEvent → Type 0
@@ -38,12 +30,6 @@ is_complete collector = is_whole collector.pending
 abbrev pub IsEmpty : Collector → Type 0
 IsEmpty collector = (collected collector ≡ []) × (is_complete collector ≡ false)
 
--- the collector wants more events, or pauses
-abbrev pub MayPause : (old : Collector) → Flow → (new : Collector) → Type 0
-MayPause old (Continue more) new = new ≡ old
-MayPause old (Break stop) new =
-    (old.pauses ≡ true) × (new.stop ≡ Paused) × (new.pending ≡ old.pending)
-
 -- a fact for each reason for which a collector wants no more events
 abbrev pub MatchStop : StopReason → (paused misplaced : Type 0) → (failed : Error → Type 0) → Type 0
 MatchStop Paused paused misplaced failed = paused
@@ -54,10 +40,10 @@ MatchStop (Failed error) paused misplaced failed = failed error
 -- that were buffered. Or an allocation failed.
 abbrev pub CollectsEvent : (old : Collector) → PlainEvent → Flow → (new : Collector) → Type 0
 CollectsEvent old event (Continue more) new =
-    (new.pauses ≡ old.pauses) × HoldsMore (is_complete new) (collected old) event (collected new)
+    (new.pauses ≡ old.pauses) × Accepts old.pending event new.pending
 CollectsEvent old event (Break stop) new = MatchStop new.stop
-    ((old.pauses ≡ true) × HoldsMore (is_complete new) (collected old) event (collected new))
-    (TestsWhole (is_complete old) (collected old) → CanContinue (collected old) event → ⊥)
+    ((old.pauses ≡ true) × Accepts old.pending event new.pending)
+    (TestsWhole (is_complete old) (collected old) → CanTake old.pending event → ⊥)
     (λ error. fault_of error ≡ fault_without_offset OutOfMemory)
 
 -- `answer` says whether the collector paused in a visit with this result

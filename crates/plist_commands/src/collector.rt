@@ -1,15 +1,9 @@
 //! The visitor that buffers all events of a property list.
 
-ghost use Rattle.std.specs.Prelude.{◌≡◌, ◌<◌, None, false, true, IfSome, OnOk};
-ghost use Rattle.plist_base.specs.Bracketing.{CanContinue};
-ghost use Rattle.plist_base.specs.ByteTests.{EachByte};
-ghost use Rattle.plist_base.specs.Events.{IsScalarEvent, PlainEvent, ScalarEvent, event_of};
+ghost use Rattle.std.specs.Prelude.{◌≡◌, false, OnOk};
+ghost use Rattle.plist_base.specs.Events.{PlainEvent, ScalarEvent};
 ghost use Rattle.plist_base.specs.Trees.{String};
-ghost use Rattle.plist_base.specs.Utf16Strings.{string_of_utf16};
-ghost use Rattle.plist_buffer.specs.EventBuffers.{TestsWhole, buffered_events, is_whole};
-ghost use Rattle.plist_buffer.specs.StoredScalars.{event_of_small};
-ghost use Rattle.plist_commands.specs.Converting.{IfOkIs};
-ghost use Rattle.plist_commands.specs.CollectorSteps.{HoldsMore, IsBufferedAt};
+ghost use Rattle.plist_buffer.specs.EventBuffers.{Accepts};
 
 use plist_base::{Error, Event, EventVisitor, PackedScalar, Utf16Str, Visited};
 use plist_buffer::event_buffer::{EventBuffer, PushError};
@@ -17,97 +11,6 @@ use std::alloc::{AllocError, Global};
 use std::borrow::{CowSlice, CowStr};
 use std::mem;
 use std::ops::ControlFlow;
-
-// Buffers the event and returns `true`, or returns `false` if it can't follow the buffered events,
-// which are then unchanged.
-#[inline(always)]
-fn take(alloc: Global, pending: &mut EventBuffer, event: Event<'_>) -> Result<bool, AllocError>
-    ensures taken { IfOkIs result true (HoldsMore (is_whole pending.new)
-        (buffered_events pending.old)
-        (event_of event.entry) (buffered_events pending.new)) }
-    ensures refused { TestsWhole (is_whole pending.old) (buffered_events pending.old)
-        → IfOkIs result false (CanContinue (buffered_events pending.old) (event_of event.entry)
-        → ⊥) }
-{
-    if pending.is_whole() {
-        return Ok(false);
-    }
-    match pending.try_push(alloc, event) {
-        Ok(()) => Ok(true),
-        Err(PushError::Misplaced { .. }) => Ok(false),
-        Err(PushError::OutOfMemory) => Err(AllocError),
-    }
-}
-
-// Buffers a string in UTF-16, or returns `None` and changes nothing if the string is to be passed
-// to `take`.
-fn take_utf16(
-    alloc: Global,
-    pending: &mut EventBuffer,
-    text: Utf16Str<'_>,
-) -> Option<Result<(), PushError>>
-    ensures taken { IfSome result (λ answer. OnOk answer (HoldsMore (is_whole pending.new)
-        (buffered_events pending.old)
-        (ScalarEvent (String (string_of_utf16 text.entry))) (buffered_events pending.new))) }
-    ensures declined { result ≡ None → pending.new ≡ pending.old }
-{
-    if pending.is_whole() {
-        return None;
-    }
-    pending.try_push_utf16(alloc, text)
-}
-
-// Buffers a scalar, or returns `None` and changes nothing if it can't follow the buffered events.
-#[inline(always)]
-fn take_packed(pending: &mut EventBuffer, scalar: PackedScalar) -> Option<Result<(), PushError>>
-    ensures taken { IfSome result (λ answer. OnOk answer (HoldsMore (is_whole pending.new)
-        (buffered_events pending.old) (event_of_small scalar) (buffered_events pending.new))) }
-    ensures declined { result ≡ None → pending.new ≡ pending.old }
-    ensures refused { TestsWhole (is_whole pending.old) (buffered_events pending.old)
-        → result ≡ None → CanContinue (buffered_events pending.old) (event_of_small scalar) → ⊥ }
-{
-    if pending.is_whole() {
-        return None;
-    }
-    pending.try_push_packed(scalar)
-}
-
-// Buffers a string in ASCII, given its bytes, or returns `None` and changes nothing if the string
-// is to be passed to `take`.
-#[inline(always)]
-fn take_ascii(
-    alloc: Global,
-    pending: &mut EventBuffer,
-    bytes: &[u8],
-) -> Option<Result<(), PushError>>
-    ensures ascii { IfSome result (λ _. EachByte (λ byte. byte < 128) bytes.now) }
-    ensures taken { IfSome result (λ answer. OnOk answer (HoldsMore (is_whole pending.new)
-        (buffered_events pending.old)
-        (ScalarEvent (String bytes.now)) (buffered_events pending.new))) }
-    ensures declined { result ≡ None → pending.new ≡ pending.old }
-{
-    if pending.is_whole() {
-        return None;
-    }
-    pending.try_push_ascii(alloc, bytes)
-}
-
-// Buffers a scalar once more, given its token, or returns `None` and changes nothing if it can't
-// follow the buffered events, or if it is to be buffered in another way.
-#[inline(always)]
-fn take_again(pending: &mut EventBuffer, token: u32) -> Option<Result<(), PushError>>
-    ensures unnamed { token ≡ 0 → result ≡ None }
-    ensures taken { (event : PlainEvent) → IsBufferedAt (buffered_events pending.old) token event
-        → IfSome result (λ answer. IsScalarEvent event × OnOk answer
-        (HoldsMore (is_whole pending.new) (buffered_events pending.old) event
-        (buffered_events pending.new))) }
-    ensures declined { result ≡ None → pending.new ≡ pending.old }
-{
-    if token == 0 || pending.is_whole() {
-        return None;
-    }
-    pending.try_repeat(token as usize - 1)
-}
 
 /// Why a collector wants no more events.
 #[derive(Drop)]
@@ -135,7 +38,8 @@ pub(crate) struct Collector {
 impl Collector {
     ghost use Rattle.std.specs.Prelude.{[]};
     ghost use Rattle.plist_base.specs.Trees.{Data};
-    ghost use Rattle.plist_commands.specs.CollectorSteps.{AnswersVisit, CollectsEvent, HasPaused, MayPause, collected, is_complete};
+    ghost use Rattle.plist_buffer.specs.declared.event_buffer.EventBuffer.{EventBuffer};
+    ghost use Rattle.plist_commands.specs.CollectorSteps.{AnswersVisit, CollectsEvent, HasPaused, collected, is_complete};
 
     /// Creates a collector that has taken no event.
     pub(crate) fn new(alloc: Global) -> Collector
@@ -161,15 +65,19 @@ impl Collector {
         ControlFlow::Break(())
     }
 
-    // Continues the visit, unless the collector pauses after each event.
+    // Goes on after the call that buffered an event. If an allocation failed in it, or if the
+    // collector pauses after each event, the visit ends.
     #[inline(always)]
-    fn go_on(&mut self) -> ControlFlow<()>
-        ensures { MayPause self.old result self.new }
+    fn after(&mut self, taken: Result<(), PushError>) -> ControlFlow<()>
+        ensures { (before : EventBuffer) (event : PlainEvent)
+            → OnOk taken (Accepts before event self.old.pending)
+            → CollectsEvent (record self.old { pending = before }) event result self.new }
     {
-        if self.pauses {
-            return self.end(StopReason::Paused);
+        match taken {
+            Ok(()) if self.pauses => self.end(StopReason::Paused),
+            Ok(()) => ControlFlow::Continue(()),
+            Err(_) => self.end(StopReason::Failed(Error::from(AllocError))),
         }
-        ControlFlow::Continue(())
     }
 
     // Takes data that is borrowed. In this function the compiler knows that it is. Otherwise the
@@ -240,10 +148,12 @@ impl EventVisitor for Collector {
 
     #[inline(always)]
     fn event(&mut self, event: Event<'_>) -> ControlFlow<()> {
-        match take(self.alloc, &mut self.pending, event) {
-            Ok(true) => self.go_on(),
-            Ok(false) => self.end(StopReason::Misplaced),
-            Err(error) => self.end(StopReason::Failed(Error::from(error))),
+        if self.pending.is_whole() {
+            return self.end(StopReason::Misplaced);
+        }
+        match self.pending.try_push(self.alloc, event) {
+            Err(PushError::Misplaced { .. }) => self.end(StopReason::Misplaced),
+            taken => self.after(taken),
         }
     }
 
@@ -265,28 +175,30 @@ impl EventVisitor for Collector {
 
     #[inline(always)]
     fn packed(&mut self, scalar: PackedScalar) -> ControlFlow<()> {
-        match take_packed(&mut self.pending, scalar) {
-            Some(Ok(())) => self.go_on(),
-            Some(Err(_)) => self.end(StopReason::Failed(Error::from(AllocError))),
+        if self.pending.is_whole() {
+            return self.end(StopReason::Misplaced);
+        }
+        match self.pending.try_push_packed(scalar) {
+            Some(taken) => self.after(taken),
             None => self.end(StopReason::Misplaced),
         }
     }
 
     #[inline(always)]
     fn ascii_string(&mut self, bytes: &[u8]) -> Option<ControlFlow<()>> {
-        match take_ascii(self.alloc, &mut self.pending, bytes) {
-            Some(Ok(())) => Some(self.go_on()),
-            Some(Err(_)) => Some(self.end(StopReason::Failed(Error::from(AllocError)))),
-            None => None,
+        if self.pending.is_whole() {
+            return None;
         }
+        let taken = self.pending.try_push_ascii(self.alloc, bytes)?;
+        Some(self.after(taken))
     }
 
     fn utf16_string(&mut self, text: Utf16Str<'_>) -> Option<ControlFlow<()>> {
-        match take_utf16(self.alloc, &mut self.pending, text) {
-            Some(Ok(())) => Some(self.go_on()),
-            Some(Err(_)) => Some(self.end(StopReason::Failed(Error::from(AllocError)))),
-            None => None,
+        if self.pending.is_whole() {
+            return None;
         }
+        let taken = self.pending.try_push_utf16(self.alloc, text)?;
+        Some(self.after(taken))
     }
 
     // The token of a scalar is one more than the index of its event among the buffered ones.
@@ -300,10 +212,10 @@ impl EventVisitor for Collector {
 
     #[inline(always)]
     fn again(&mut self, token: u32) -> Option<ControlFlow<()>> {
-        match take_again(&mut self.pending, token) {
-            Some(Ok(())) => Some(self.go_on()),
-            Some(Err(_)) => Some(self.end(StopReason::Failed(Error::from(AllocError)))),
-            None => None,
+        if token == 0 || self.pending.is_whole() {
+            return None;
         }
+        let taken = self.pending.try_repeat(token as usize - 1)?;
+        Some(self.after(taken))
     }
 }

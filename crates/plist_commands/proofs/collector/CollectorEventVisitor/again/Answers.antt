@@ -1,19 +1,14 @@
-use Rattle.std.proofs.Common.{◌≡◌, Ok, Some, refl, rules}
-use Rattle.plist_commands.proofs.CollectorRuns.{may_pause}
-use Rattle.plist_commands.proofs.CollectorTokens.{still_buffered}
+use Rattle.std.proofs.Common.{OnOk, subst}
+use Rattle.plist_buffer.specs.EventBuffers.{Accepts, buffered_events}
+use Rattle.plist_commands.proofs.CollectorTokens.{named_scalar, still_buffered}
 use Rattle.plist_commands.proofs.collector.CollectorEventVisitor.again.Goals as goal
 
-pub returns-in-Some-Ok-clause-taken : goal.returns-in-Some-Ok-clause-taken
-returns-in-Some-Ok-clause-taken c = λ event has.
-    let is : c.take_again.result ≡ Some (Ok tt) = search rules in
-    let taken = rw is at (c.take_again.ensures.taken event
-    (still_buffered c.args.token event c.args.self.now has)) in (
-      taken.0,
-      may_pause c.args.self.now _ c.go_on.new.self event c.go_on.result refl taken.1 c.go_on.ensures,
+pub returns-clause-taken : goal.returns-clause-taken
+returns-clause-taken c = λ event has.
+    let old = c.args.self.now.pending in
+    let (scalar, same) = named_scalar (buffered_events old) c.args.token event
+    (still_buffered c.args.token event c.args.self.now has) c.in_ok-taken.ensures.scalar in (
+      scalar,
+      c.after.ensures old event (subst (λ e. OnOk c.in_ok-taken.taken (Accepts old e c.try_repeat.new.self))
+          same c.in_ok-taken.ensures.taken),
     )
-
-pub returns-in-Some-Err-clause-taken : goal.returns-in-Some-Err-clause-taken
-returns-in-Some-Err-clause-taken c = λ event has.
-    let taken = rw c.in-Some-Err.is at (c.take_again.ensures.taken event
-    (still_buffered c.args.token event c.args.self.now has)) in
-    (taken.0, search rules)
