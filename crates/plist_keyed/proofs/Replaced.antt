@@ -58,37 +58,6 @@ module _ (follow : ℕ → Result Tree ArchiveFault) where
       ap (join (outcome e)) (collected-append a b)
       ∙ sym (join-assoc (outcome e) (collected a) (collected b))
 
-  -- ---- lengths
-
-  one-more : (first : Result Tree ArchiveFault) (others : Result Trees ArchiveFault) (n : ℕ)
-      → IfOk others (λ us. number_of_trees us ≡ n)
-      → IfOk (and_then first (λ u. and_then others (λ us. Ok (TreeAnd u us))))
-      (λ us. number_of_trees us ≡ 1 + n)
-  one-more (Ok u) (Ok us) n h = ap (λ m. 1 + m) h
-  one-more (Ok u) (Err fault) n h = tt
-  one-more (Err fault) others n h = tt
-
-  as-many-items : (ts : Trees)
-      → IfOk (replaced_items follow ts) (λ us. number_of_trees us ≡ number_of_trees ts)
-  as-many-items NoTrees = refl
-  as-many-items (TreeAnd t ts) =
-      one-more (replaced follow t) (replaced_items follow ts) _ (as-many-items ts)
-
-  one-more-pair : (key : List ℕ) (first : Result Tree ArchiveFault)
-      (others : Result Members ArchiveFault) (n : ℕ)
-      → IfOk others (λ ns. number_of_members ns ≡ n)
-      → IfOk (and_then first (λ u. and_then others (λ ns. Ok (MemberAnd key u ns))))
-      (λ ns. number_of_members ns ≡ 1 + n)
-  one-more-pair key (Ok u) (Ok ns) n h = ap (λ m. 1 + m) h
-  one-more-pair key (Ok u) (Err fault) n h = tt
-  one-more-pair key (Err fault) others n h = tt
-
-  as-many-pairs : (ms : Members)
-      → IfOk (replaced_pairs follow ms) (λ ns. number_of_members ns ≡ number_of_members ms)
-  as-many-pairs NoMembers = refl
-  as-many-pairs (MemberAnd k t ms) =
-      one-more-pair k (replaced follow t) (replaced_pairs follow ms) _ (as-many-pairs ms)
-
   -- ---- collections
 
   of-array : (n : ℕ) (r : Result Trees ArchiveFault) → IfOk r (λ us. number_of_trees us ≡ n)
@@ -109,23 +78,30 @@ module _ (follow : ℕ → Result Tree ArchiveFault) where
       (sym h)
   of-dictionary n (Err fault) h = refl
 
-  of-items : (first : Result Tree ArchiveFault) (others : Result Trees ArchiveFault)
-      → join (events_in bracketing first) (events_in bracketing_of_items others)
+  -- one more item is replaced, and the items are as many as before
+  of-items : (first : Result Tree ArchiveFault) (others : Result Trees ArchiveFault) (n : ℕ)
+      → IfOk others (λ us. number_of_trees us ≡ n)
+      → (join (events_in bracketing first) (events_in bracketing_of_items others)
       ≡ events_in bracketing_of_items
-      (and_then first (λ u. and_then others (λ us. Ok (TreeAnd u us))))
-  of-items (Ok u) (Ok us) = refl
-  of-items (Ok u) (Err fault) = refl
-  of-items (Err fault) others = refl
+      (and_then first (λ u. and_then others (λ us. Ok (TreeAnd u us)))))
+      × IfOk (and_then first (λ u. and_then others (λ us. Ok (TreeAnd u us))))
+      (λ us. number_of_trees us ≡ 1 + n)
+  of-items (Ok u) (Ok us) n h = (refl, ap (λ m. 1 + m) h)
+  of-items (Ok u) (Err fault) n h = (refl, tt)
+  of-items (Err fault) others n h = (refl, tt)
 
   of-pairs : (key : List ℕ) (first : Result Tree ArchiveFault)
-      (others : Result Members ArchiveFault)
-      → join (Ok (ScalarEvent (trees.String key) ∷ []))
+      (others : Result Members ArchiveFault) (n : ℕ)
+      → IfOk others (λ ns. number_of_members ns ≡ n)
+      → (join (Ok (ScalarEvent (trees.String key) ∷ []))
       (join (events_in bracketing first) (events_in bracketing_of_pairs others))
       ≡ events_in bracketing_of_pairs
-      (and_then first (λ u. and_then others (λ ns. Ok (MemberAnd key u ns))))
-  of-pairs key (Ok u) (Ok ns) = refl
-  of-pairs key (Ok u) (Err fault) = refl
-  of-pairs key (Err fault) others = refl
+      (and_then first (λ u. and_then others (λ ns. Ok (MemberAnd key u ns)))))
+      × IfOk (and_then first (λ u. and_then others (λ ns. Ok (MemberAnd key u ns))))
+      (λ ns. number_of_members ns ≡ 1 + n)
+  of-pairs key (Ok u) (Ok ns) n h = (refl, ap (λ m. 1 + m) h)
+  of-pairs key (Ok u) (Err fault) n h = (refl, tt)
+  of-pairs key (Err fault) others n h = (refl, tt)
 
   -- ---- the whole tree
 
@@ -135,28 +111,32 @@ module _ (follow : ℕ → Result Tree ArchiveFault) where
     tree-collects (Leaf (trees.Uid uid)) = join-none (events_in bracketing (follow uid))
     tree-collects (Leaf x) = refl
     tree-collects (Array ts) =
-        rw (collected-append (bracketing_of_items ts) (EndCollection ∷ []), items-collect ts)
-        (of-array (number_of_trees ts) (replaced_items follow ts) (as-many-items ts))
+        let (same, many) = items-collect ts in
+        rw (collected-append (bracketing_of_items ts) (EndCollection ∷ []), same)
+        (of-array (number_of_trees ts) (replaced_items follow ts) many)
     tree-collects (Dictionary ms) =
-        rw (collected-append (bracketing_of_pairs ms) (EndCollection ∷ []), pairs-collect ms)
-        (of-dictionary (number_of_members ms) (replaced_pairs follow ms) (as-many-pairs ms))
+        let (same, many) = pairs-collect ms in
+        rw (collected-append (bracketing_of_pairs ms) (EndCollection ∷ []), same)
+        (of-dictionary (number_of_members ms) (replaced_pairs follow ms) many)
 
-    items-collect : (ts : Trees) → collected (bracketing_of_items ts)
-        ≡ events_in bracketing_of_items (replaced_items follow ts)
-    items-collect NoTrees = refl
+    items-collect : (ts : Trees) → (collected (bracketing_of_items ts)
+        ≡ events_in bracketing_of_items (replaced_items follow ts))
+        × IfOk (replaced_items follow ts) (λ us. number_of_trees us ≡ number_of_trees ts)
+    items-collect NoTrees = (refl, refl)
     items-collect (TreeAnd t ts) =
-        rw (
-          collected-append (bracketing t) (bracketing_of_items ts),
-          tree-collects t,
-          items-collect ts,
-        ) (of-items (replaced follow t) (replaced_items follow ts))
+        let (same, many) = items-collect ts in
+        let of = of-items (replaced follow t) (replaced_items follow ts) _ many in (
+          rw (collected-append (bracketing t) (bracketing_of_items ts), tree-collects t, same) of.0,
+          of.1,
+        )
 
-    pairs-collect : (ms : Members) → collected (bracketing_of_pairs ms)
-        ≡ events_in bracketing_of_pairs (replaced_pairs follow ms)
-    pairs-collect NoMembers = refl
+    pairs-collect : (ms : Members) → (collected (bracketing_of_pairs ms)
+        ≡ events_in bracketing_of_pairs (replaced_pairs follow ms))
+        × IfOk (replaced_pairs follow ms) (λ ns. number_of_members ns ≡ number_of_members ms)
+    pairs-collect NoMembers = (refl, refl)
     pairs-collect (MemberAnd k t ms) =
-        rw (
-          collected-append (bracketing t) (bracketing_of_pairs ms),
-          tree-collects t,
-          pairs-collect ms,
-        ) (of-pairs k (replaced follow t) (replaced_pairs follow ms))
+        let (same, many) = pairs-collect ms in
+        let of = of-pairs k (replaced follow t) (replaced_pairs follow ms) _ many in (
+          rw (collected-append (bracketing t) (bracketing_of_pairs ms), tree-collects t, same) of.0,
+          of.1,
+        )

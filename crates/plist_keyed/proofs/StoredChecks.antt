@@ -1,5 +1,5 @@
 -- The walk that finds the first fault, as the code stores its state.
-use Rattle.std.proofs.Common.{◌≡◌, ℕ, ◌<◌, Bool, true, false, nat_eq, inl, inr, List, [], ◌∷◌, ◌++◌, reverse, ◌||◌, Option, Some, None, Ok, Err, refl, ap, sym, ◌∙◌, subst, true≢false, cond, is_some, map}
+use Rattle.std.proofs.Common.{◌≡◌, ℕ, ◌<◌, Bool, true, false, nat_eq, inl, inr, List, [], ◌∷◌, ◌++◌, reverse, ◌||◌, Option, Some, None, Result, Ok, Err, refl, ap, sym, ◌∙◌, subst, true≢false, cond, is_some, map}
 use Rattle.std.specs.Prelude.{slice_get, if◌then◌else◌, option_map}
 use Rattle.std.specs.List.{list_any}
 use Rattle.std.specs.Option.{option_and_then, option_map_or}
@@ -9,13 +9,17 @@ use Rattle.indexmap.specs.IndexSet.{insert_key}
 use Rattle.indexmap.proofs.CallerLemmas.{insert_entry-new}
 use Rattle.std.proofs.lemmas.List.{reverse-append, map-append}
 use Rattle.std.proofs.lemmas.List.Folds.{list_any-append}
+use Rattle.std.proofs.lemmas.Map.Made.{is_some-lookup}
+use Rattle.plist_base.specs.declared.error.Error.{Error}
+use Rattle.plist_base.specs.declared.event.Event.{Event}
+use Rattle.plist.proofs.GivenEvents.{event_comes}
 use Rattle.std.proofs.lemmas.Option.{none-some, same_Some, slice_get-map}
 use Rattle.plist_base.specs.Bracketing.{bracketing}
-use Rattle.plist_base.specs.Events.{PlainEvent, ScalarEvent}
+use Rattle.plist_base.specs.Events.{PlainEvent, ScalarEvent, event_of}
 use Rattle.plist_base.specs.Trees.{Tree, Uid}
 use Rattle.plist.specs.declared.stream.events.Events.{Events}
 use Rattle.plist.specs.declared.value.Value.{Value}
-use Rattle.plist.specs.Events.{remaining_events}
+use Rattle.plist.specs.Events.{GivesEvent, remaining_events}
 use Rattle.plist.specs.ValueTrees.{tree_of}
 use Rattle.plist_keyed.specs.declared.error.KeyedError.{KeyedError}
 use Rattle.plist_keyed.specs.declared.error.KeyedError.TheVariants as keyed
@@ -47,30 +51,17 @@ pub added : (keys new : List ℕ) (uid : ℕ) → new ≡ insert_key nat_eq keys
     → list_any (nat_eq uid) keys ≡ false → new ≡ keys ++ uid ∷ []
 added keys new uid is absent = is ∙ ap (λ b. if b then keys else keys ++ uid ∷ []) absent
 
--- a map has an entry for a key if and only if the key is among its keys
-found-key : (entries : List (ℕ × ℕ)) (uid : ℕ)
-    → is_some (lookup (nat_eq uid) entries) ≡ list_any (nat_eq uid) (keys_of entries)
-found-key [] uid = refl
-found-key (e ∷ entries) uid = by (nat_eq uid e.0) (found-key entries uid)
-  where
-    by : (b : Bool)
-        → is_some (lookup (nat_eq uid) entries) ≡ list_any (nat_eq uid) (keys_of entries)
-        → is_some (cond b (Some e.1) (lookup (nat_eq uid) entries))
-        ≡ b || list_any (nat_eq uid) (keys_of entries)
-    by true h = refl
-    by false h = h
-
 -- a Uid that is a key of the map is settled
 pub member : {S : Type 0} (ends : IndexMap ℕ ℕ S) (uid : ℕ)
     → is_some (get nat_eq ends uid) ≡ true → IsIn uid (settled_in ends)
 member ends uid has =
-    any_reversed (nat_eq uid) (keys_of ends.entries) ∙ sym (found-key ends.entries uid) ∙ has
+    any_reversed (nat_eq uid) (keys_of ends.entries) ∙ sym (is_some-lookup (nat_eq uid) ends.entries) ∙ has
 
 pub no-member : {S : Type 0} (ends : IndexMap ℕ ℕ S) (uid : ℕ)
     → is_some (get nat_eq ends uid) ≡ false → IsIn uid (settled_in ends) → ⊥
 no-member ends uid has h =
     true≢false (sym h ∙ any_reversed (nat_eq uid) (keys_of ends.entries)
-    ∙ sym (found-key ends.entries uid) ∙ has)
+    ∙ sym (is_some-lookup (nat_eq uid) ends.entries) ∙ has)
 
 not-in : {S : Type 0} (ends : IndexMap ℕ ℕ S) (uid : ℕ) → ends.entries ≡ []
     → IsIn uid (settled_in ends) → ⊥
@@ -96,22 +87,6 @@ pub seen_at : (objects : List Value) (uid : ℕ) (answer found : Option Value)
     → slice_get (map tree_of objects) uid ≡ option_map tree_of found
 seen_at objects uid answer found is same =
     slice_get-map tree_of objects uid ∙ ap (option_map tree_of) (sym is ∙ same)
-
--- ---- following a Uid
-
-pub found-missing : (objects : List Tree) (path : List ℕ) (uid : ℕ)
-    → slice_get objects uid ≡ None → found_in objects path uid ≡ Err (UidOutOfRange uid)
-found-missing objects path uid at = rw at refl
-
-pub found-open : (objects : List Tree) (path : List ℕ) (uid : ℕ) (object : Tree)
-    → slice_get objects uid ≡ Some object → list_any (nat_eq uid) path ≡ true
-    → found_in objects path uid ≡ Err (RecursiveUid uid)
-found-open objects path uid object at on = rw (at, on) refl
-
-pub found-closed : (objects : List Tree) (path : List ℕ) (uid : ℕ) (object : Tree)
-    → slice_get objects uid ≡ Some object → list_any (nat_eq uid) path ≡ false
-    → found_in objects path uid ≡ Ok object
-found-closed objects path uid object at off = rw (at, off) refl
 
 -- ---- the steps of the walk
 
@@ -256,12 +231,14 @@ pub popped : (start : ℕ) (walk : ArchiveWalk) (path : List ℕ) (below : List 
 popped start walk path below left is o =
     subst (λ levels. Checks start walk levels path) (ap levels_of is ∙ levels-snoc below left) o
 
-pub popped-distance : (walk : ArchiveWalk) (path : List ℕ) (below : List Events) (left : Events)
-    → walk.levels.items ≡ below ++ left ∷ []
-    → distance_in walk (levels_of walk.levels.items) path
-    ≡ distance_in walk (remaining_events left ∷ levels_of below) path
-popped-distance walk path below left is =
-    ap (λ levels. distance_in walk levels path) (ap levels_of is ∙ levels-snoc below left)
+-- the innermost level yields an event
+pub event_taken : (walk : ArchiveWalk) (below : List Events) (left rest : Events)
+    (item : Result Event Error) (event : Event) → walk.levels.items ≡ below ++ left ∷ []
+    → GivesEvent left (Some item) rest → item ≡ Ok event
+    → levels_of walk.levels.items ≡ (event_of event ∷ remaining_events rest) ∷ levels_of below
+event_taken walk below left rest item event is gives ok =
+    ap levels_of is ∙ levels-snoc below left ∙ ap (λ es. es ∷ levels_of below)
+    (event_comes (subst (λ i. GivesEvent left (Some i) rest) ok gives))
 
 -- the first Uid is refused
 pub first-refused : (walk : ArchiveWalk) (path : List ℕ) (start : ℕ) (error : KeyedError) → path ≡ []

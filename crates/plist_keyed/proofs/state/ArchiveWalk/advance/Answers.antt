@@ -1,9 +1,11 @@
-use Rattle.std.proofs.Common.{◌∙◌, arith, sym}
+use Rattle.std.proofs.Common.{◌≡◌, ◌∷◌, ◌∙◌, arith, sym}
 use Rattle.std.proofs.lemmas.Grind.{common_steps}
 use Rattle.plist_base.specs.Events.{event_of}
 use Rattle.plist.proofs.GivenEvents.{none_comes}
+use Rattle.plist.specs.Events.{remaining_events}
 use Rattle.plist_keyed.proofs.WalkSteps.{emptied, event_left, memory_left, on-err, shorter}
 use Rattle.plist_keyed.proofs.state.ArchiveWalk.advance.Goals as goal
+use Rattle.plist_keyed.proofs.state.ArchiveWalk.advance.Goals.{In-Ok}
 
 pub loop-left-preserved-in_default-next : goal.loop-left-preserved-in_default-next
 loop-left-preserved-in_default-next c =
@@ -24,48 +26,41 @@ returns-in-Err-clause-shorter c =
     let gives = memory_left c.in-Some.left c.next.new.self c.in-Some-next.item c.in-Err.error
     c.in-Some-next.ensures.steps c.in-Err.is in grind (arith, common_steps, gives)
 
-pub returns-in_default-uid_of-clause-walk : goal.returns-in_default-uid_of-clause-walk
-returns-in_default-uid_of-clause-walk c =
-    let event = event_left c.in-Some.left c.next.new.self c.in-Some-next.item c.in-Ok.event
-    c.in-Some-next.ensures.steps c.in-Ok.is in grind (arith, common_steps, event)
+-- the event that the innermost object's iterator yielded
+taken : (c : In-Ok) → remaining_events c.in-Some.left
+    ≡ event_of c.in-Ok.event ∷ remaining_events c.next.new.self
+taken c = event_left c.in-Some.left c.next.new.self c.in-Some-next.item c.in-Ok.event
+    c.in-Some-next.ensures.steps c.in-Ok.is
 
-pub returns-in_default-uid_of-clause-yields : goal.returns-in_default-uid_of-clause-yields
-returns-in_default-uid_of-clause-yields c =
-    let event = event_left c.in-Some.left c.next.new.self c.in-Some-next.item c.in-Ok.event
-    c.in-Some-next.ensures.steps c.in-Ok.is in grind (arith, common_steps, event)
+pub returns-in_default-uid_of : goal.returns-in_default-uid_of
+returns-in_default-uid_of c =
+    let event = taken (goal.at.returns-in_default-uid_of c).In-Ok in record {
+      walk = grind (arith, common_steps, event);
+      yields = grind (arith, common_steps, event);
+      shorter = grind (arith, common_steps, event);
+    }
 
-pub returns-in_default-uid_of-clause-shorter : goal.returns-in_default-uid_of-clause-shorter
-returns-in_default-uid_of-clause-shorter c =
-    let event = event_left c.in-Some.left c.next.new.self c.in-Some-next.item c.in-Ok.event
-    c.in-Some-next.ensures.steps c.in-Ok.is in grind (arith, common_steps, event)
-
-pub enter-requires-clause-walk : goal.enter-requires-clause-walk
-enter-requires-clause-walk c =
-    let event = event_left c.in-Some.left c.next.new.self c.in-Some-next.item c.in-Ok.event
-    c.in-Some-next.ensures.steps c.in-Ok.is in grind (arith, common_steps, event)
-
-pub enter-requires-clause-settled : goal.enter-requires-clause-settled
-enter-requires-clause-settled c =
-    let event = event_left c.in-Some.left c.next.new.self c.in-Some-next.item c.in-Ok.event
-    c.in-Some-next.ensures.steps c.in-Ok.is in grind (arith, common_steps, event)
+pub enter-requires : goal.enter-requires
+enter-requires c =
+    let event = taken (goal.at.enter-requires c).In-Ok in record {
+      walk = grind (arith, common_steps, event);
+      settled = grind (arith, common_steps, event);
+    }
 
 pub returns-then-is_err-clause-shorter : goal.returns-then-is_err-clause-shorter
 returns-then-is_err-clause-shorter c =
-    let event = event_left c.in-Some.left c.next.new.self c.in-Some-next.item c.in-Ok.event
-    c.in-Some-next.ensures.steps c.in-Ok.is in
     let same = on-err c.enter.result (sym c.is_err.ensures.value ∙ c.if-is_err.true)
     c.enter.ensures.unchanged in
     rw (same, ← c.loop-left.invariant.left) (shorter c.loop-left.self c.pop.new.self.items
     c.in-Some.left c.next.new.self c.push_reserved.new.self.items (event_of c.in-Ok.event)
-    c.in-Some-uid_of.uid c.in-Some.ensures.items c.push_reserved.ensures.items event
+    c.in-Some-uid_of.uid c.in-Some.ensures.items c.push_reserved.ensures.items
+    (taken (goal.at.returns-then-is_err-clause-shorter c).In-Ok)
     (sym c.uid_of.ensures ∙ c.in-Some-uid_of.is) c.loop-left.invariant.walk)
 
 pub loop-left-smaller : goal.loop-left-smaller
 loop-left-smaller c =
-    let event = event_left c.in-Some.left c.next.new.self c.in-Some-next.item c.in-Ok.event
-    c.in-Some-next.ensures.steps c.in-Ok.is in grind (arith, common_steps, event)
+    grind (arith, common_steps, taken (goal.at.loop-left-smaller c).In-Ok)
 
 pub loop-left-preserved : goal.loop-left-preserved
 loop-left-preserved c =
-    let event = event_left c.in-Some.left c.next.new.self c.in-Some-next.item c.in-Ok.event
-    c.in-Some-next.ensures.steps c.in-Ok.is in grind (arith, common_steps, event)
+    grind (arith, common_steps, taken (goal.at.loop-left-preserved c).In-Ok)

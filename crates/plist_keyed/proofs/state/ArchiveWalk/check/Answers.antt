@@ -1,14 +1,13 @@
-use Rattle.std.proofs.Common.{◌∙◌, ◌∷◌, ◌<◌, ap, map, refl, reverse, subst, sym, Some}
+use Rattle.std.proofs.Common.{◌∙◌, ◌<◌, map, refl, reverse, subst, sym}
 use Rattle.std.specs.Borrow.{Bor}
 use Rattle.std.proofs.lemmas.Result.{err_from_is_err_and}
 use Rattle.plist_base.specs.Events.{event_of}
-use Rattle.plist.proofs.GivenEvents.{event_comes, none_comes}
-use Rattle.plist.specs.Events.{GivesEvent}
+use Rattle.plist.proofs.GivenEvents.{none_comes}
 use Rattle.plist.specs.ValueTrees.{tree_of}
-use Rattle.plist_keyed.specs.declared.state.ArchiveWalk.{ArchiveWalk}
 use Rattle.plist_keyed.specs.Archives.{IsFaultOf, resolved_tree}
-use Rattle.plist_keyed.proofs.StoredChecks.{Checks, begins, distance_in, first-refused, follows, later-refused, levels_of, popped, popped-distance, settles, skips}
+use Rattle.plist_keyed.proofs.StoredChecks.{Checks, begins, distance_in, event_taken, first-refused, follows, later-refused, levels_of, popped, settles, skips}
 use Rattle.plist_keyed.proofs.state.ArchiveWalk.check.Goals as goal
+use Rattle.plist_keyed.proofs.state.ArchiveWalk.check.Goals.{In-StartArray-3}
 
 pub returns-in_err-follow-clause-refused : goal.returns-in_err-follow-clause-refused
 returns-in_err-follow-clause-refused c =
@@ -43,11 +42,9 @@ loop-left-preserved-in_default-uid_of c =
     let walk = c.loop-left.self in
     let below = c.pop.new.self.items in
     let path = reverse c.loop-left.path.keys in
-    let gives = subst (λ r. GivesEvent c.in-Some.left (Some r) c.next.new.self) c.in-Ok.is
-    c.in-Some-next.ensures.steps in
-    let head = subst (λ es. Checks c.args.uid walk (es ∷ levels_of below) path) (event_comes gives)
-    (popped c.args.uid walk path below c.in-Some.left c.in-Some.ensures.items
-    c.loop-left.invariant.checks) in
+    let taken = event_taken walk below c.in-Some.left c.next.new.self c.in-Some-next.item
+    c.in-Ok.event c.in-Some.ensures.items c.in-Some-next.ensures.steps c.in-Ok.is in
+    let head = rw taken at c.loop-left.invariant.checks in
     record {
       checks = skips walk path c.args.uid (event_of c.in-Ok.event) below
           c.push_reserved.new.self.items c.next.new.self c.push_reserved.ensures.items head
@@ -56,7 +53,7 @@ loop-left-preserved-in_default-uid_of c =
     }
 
 -- the state in which a Uid is followed
-followed : (c : goal.In-StartArray-3)
+followed : (c : In-StartArray-3)
     → Checks c.args.uid c.follow-in-Some.new.self
     (levels_of c.follow-in-Some.new.self.levels.items) (reverse c.follow-in-Some.new.path.keys)
     × (distance_in c.follow-in-Some.new.self (levels_of c.follow-in-Some.new.self.levels.items)
@@ -67,25 +64,16 @@ followed c =
     let walk = c.loop-left.self in
     let below = c.pop.new.self.items in
     let path = reverse c.loop-left.path.keys in
-    let now : ArchiveWalk = record {
-      alloc = walk.alloc;
-      objects = walk.objects;
-      levels = c.push_reserved.new.self;
-      ends = walk.ends;
-    } in
-    let gives = subst (λ r. GivesEvent c.in-Some.left (Some r) c.next.new.self) c.in-Ok.is
-    c.in-Some-next.ensures.steps in
-    let head = subst (λ es. Checks c.args.uid walk (es ∷ levels_of below) path) (event_comes gives)
-    (popped c.args.uid walk path below c.in-Some.left c.in-Some.ensures.items
-    c.loop-left.invariant.checks) in
-    let distance = popped-distance walk path below c.in-Some.left c.in-Some.ensures.items
-    ∙ ap (λ es. distance_in walk (es ∷ levels_of below) path) (event_comes gives) in
+    let now = record walk { levels = c.push_reserved.new.self } in
+    let taken = event_taken walk below c.in-Some.left c.next.new.self c.in-Some-next.item
+    c.in-Ok.event c.in-Some.ensures.items c.in-Some-next.ensures.steps c.in-Ok.is in
+    let head = rw taken at c.loop-left.invariant.checks in
     let (checks, nearer) = follows now c.follow-in-Some.new.self c.loop-left.path.keys
     c.follow-in-Some.new.path.keys c.args.uid (event_of c.in-Ok.event) below c.next.new.self
     c.in-Some-uid_of.found c.push_reserved.ensures.items head c.in_ok-follow-2.ensures.objects
     c.in_ok-follow-2.ensures.ends (sym c.uid_of.ensures ∙ c.in-Some-uid_of.is)
     c.in_ok-follow-2.ensures.followed in
-    (checks, rw distance nearer)
+    (checks, rw taken nearer)
 
 pub loop-left-smaller : goal.loop-left-smaller
 loop-left-smaller c = (followed c).1
@@ -104,11 +92,9 @@ returns-in_err-follow-2-clause-refused c =
     let error = c.in_err-follow-2.field-0.0 in
     let f = err_from_is_err_and c.from_residual-in_err-follow-2.result
     c.from_residual-in_err-follow-2.ensures.1 in
-    let gives = subst (λ r. GivesEvent c.in-Some.left (Some r) c.next.new.self) c.in-Ok.is
-    c.in-Some-next.ensures.steps in
-    let head = subst (λ es. Checks c.args.uid walk (es ∷ levels_of below) path) (event_comes gives)
-    (popped c.args.uid walk path below c.in-Some.left c.in-Some.ensures.items
-    c.loop-left.invariant.checks) in
+    let taken = event_taken walk below c.in-Some.left c.next.new.self c.in-Some-next.item
+    c.in-Ok.event c.in-Some.ensures.items c.in-Some-next.ensures.steps c.in-Ok.is in
+    let head = rw taken at c.loop-left.invariant.checks in
     let refused = later-refused walk c.loop-left.path.keys c.args.uid (event_of c.in-Ok.event) below
     c.next.new.self c.in-Some-uid_of.found error head
     (sym c.uid_of.ensures ∙ c.in-Some-uid_of.is) c.in_err-follow-2.ensures.refused in

@@ -1,8 +1,7 @@
 use Rattle.std.proofs.Common.{◌∙◌, ap, inl, inr, refl, sym, None, Some}
 use Rattle.std.specs.Option.{option_copied}
 use Rattle.plist.specs.ValueTrees.{tree_of}
-use Rattle.plist_keyed.specs.inner.Walks.{objects_in}
-use Rattle.plist_keyed.proofs.StoredChecks.{added, found-closed, found-missing, found-open, member, no-member, seen_at}
+use Rattle.plist_keyed.proofs.StoredChecks.{added, member, no-member, seen_at}
 use Rattle.plist_keyed.proofs.state.ArchiveWalk.follow.Goals as goal
 
 pub returns-then-contains_key-clause-followed : goal.returns-then-contains_key-clause-followed
@@ -14,16 +13,12 @@ returns-then-contains_key-clause-followed c = inl (
 
 pub returns-in_default-clause-refused : goal.returns-in_default-clause-refused
 returns-in_default-clause-refused c =
-    found-missing (objects_in c.args.self.now) c.args.path.now.keys c.args.uid
-    (seen_at _ c.args.uid _ None c.look_up.ensures (ap option_copied c.in_default.is))
+    rw (seen_at _ c.args.uid _ None c.look_up.ensures (ap option_copied c.in_default.is)) refl
 
 pub returns-then-contains-clause-refused : goal.returns-then-contains-clause-refused
 returns-then-contains-clause-refused c =
-    found-open (objects_in c.args.self.now) c.args.path.now.keys c.args.uid
-    (tree_of c.in-Some.object.now)
-    (seen_at _ c.args.uid _ (Some c.in-Some.object.now) c.look_up.ensures
-    (ap option_copied c.in-Some.is))
-    (sym c.contains.ensures ∙ c.if-contains.true)
+    rw (seen_at _ c.args.uid _ (Some c.in-Some.object.now) c.look_up.ensures
+    (ap option_copied c.in-Some.is), sym c.contains.ensures ∙ c.if-contains.true) refl
 
 pub returns-clause-followed : goal.returns-clause-followed
 returns-clause-followed c =
@@ -33,9 +28,8 @@ returns-clause-followed c =
       level = c.events.result;
       is_new = no-member c.args.self.now.ends c.args.uid
           (sym c.contains_key.ensures ∙ c.if-contains_key.false);
-      found = found-closed (objects_in c.args.self.now) c.args.path.now.keys c.args.uid _
-          (seen_at _ c.args.uid _ (Some c.in-Some.object.now) c.look_up.ensures
-          (ap option_copied c.in-Some.is)) off;
+      found = rw (seen_at _ c.args.uid _ (Some c.in-Some.object.now) c.look_up.ensures
+          (ap option_copied c.in-Some.is), off) refl;
       events = c.events.ensures.items;
       levels = c.in_ok-push.ensures.items;
       is_last = added c.args.path.now.keys c.insert.new.self.keys c.args.uid
