@@ -72,8 +72,7 @@ module _ (objects : List Tree) where
         | inl e ↦ new (subst (λ n. IsIn n uids) e.1 q)
         | inr e ↦ read-apart (uid ∷ uids) below path r u (rw e.0 at p) (later-in u uid uids q)
       ]
-  read-apart uids [] (uid ∷ path) r u p q = absurd r
-  read-apart uids (rest ∷ below) [] r u p q = absurd r
+  read-apart uids levels path r u p q = absurd r
 
   -- a Uid that isn't settled yet isn't open, either, if it is settled before the open ones
   read-closed : (uids : List ℕ) (levels : List (List PlainEvent)) (path : List ℕ) (uid : ℕ)
@@ -87,8 +86,7 @@ module _ (objects : List Tree) where
   read-path uids (rest ∷ below) (uid ∷ path) ((object, before, at, is, named, new), r) =
       path_push uid (read-path (uid ∷ uids) below path r) (slice_get_within objects uid object at)
       (read-closed uids below path uid r)
-  read-path uids [] (uid ∷ path) r = absurd r
-  read-path uids (rest ∷ below) [] r = absurd r
+  read-path uids levels path r = absurd r
 
   settled-path : (end : ℕ → ℕ) (uids : List ℕ) → AreSettled objects end uids
       → IsPath (length objects) uids
@@ -108,8 +106,7 @@ module _ (objects : List Tree) where
       let k = read-count (uid ∷ uids) below path
       (path_push uid o within (false_from_ne_true _ new)) r in
       omega (arith, k)
-  read-count uids [] (uid ∷ path) o r = absurd r
-  read-count uids (rest ∷ below) [] o r = absurd r
+  read-count uids levels path o r = absurd r
 
   -- the open Uids may name one more Uid, which isn't open
   read-more : (n : ℕ) (uids more : List ℕ) → ((u : ℕ) → IsIn u uids → IsIn u more)
@@ -140,8 +137,7 @@ module _ (objects : List Tree) where
             ])
             below path (λ p. off (later-in n uid path p)) r,
       )
-  read-more n uids more sub back [] (uid ∷ path) off r = absurd r
-  read-more n uids more sub back (rest ∷ below) [] off r = absurd r
+  read-more n uids more sub back levels path off r = absurd r
 
   -- an event that was taken precedes the remaining ones
   read-named : (uids : List ℕ) (e : PlainEvent) (rest : List PlainEvent)

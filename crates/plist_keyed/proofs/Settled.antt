@@ -12,7 +12,7 @@ use Rattle.plist_base.specs.Events.{PlainEvent, ScalarEvent}
 use Rattle.plist_base.specs.Trees.{Tree, Leaf, Uid}
 use Rattle.plist_base.proofs.Paths.{IsPath, path_none, path_push, path_rises}
 use Rattle.plist_keyed.specs.Archives.{ArchiveFault, and_then, object_found, replaced, resolved, resolved_tree}
-use Rattle.plist_keyed.specs.inner.Walks.{AreSettled, IsIn, NameOnly, events_at, replaced_events, uid_of_event}
+use Rattle.plist_keyed.specs.inner.Walks.{AreSettled, IsIn, IsSettledAfter, NameOnly, events_at, replaced_events, uid_of_event}
 use Rattle.plist.specs.Accessors.{uid_in}
 use Rattle.plist_keyed.proofs.Replaced.{collected, events_in, outcome, tree-collects}
 
@@ -143,44 +143,43 @@ module _ (objects : List Tree) where
       by (Ok t) p = cc
       by (Err fault) p = absurd (cc)
 
-  -- the tree of a settled Uid has the same events, whatever objects are open
+  -- the trees of these Uids have the same events, whatever other objects are open
+  abbrev HaveEvents : (uids : List ℕ) → Type 0
+  HaveEvents uids =
+      (uid : ℕ) → IsIn uid uids → (path : List ℕ) → IsPath (length objects) path
+      → AreApart path uids
+      → events_in bracketing (resolved_in path uid) ≡ Ok (events_at objects uid)
+
   module _ (end : ℕ → ℕ) where
-    opens : (uid : ℕ) (uids path : List ℕ) (object : Tree) → slice_get objects uid ≡ Some object
-        → NameOnly (bracketing object) uids → (IsIn uid uids → ⊥)
-        → ((other : ℕ) → IsIn other uids → (others : List ℕ) → IsPath (length objects) others
-        → AreApart others uids
-        → events_in bracketing (resolved_in others other) ≡ Ok (events_at objects other))
-        → IsPath (length objects) path → (IsIn uid path → ⊥) → AreApart path uids
+    opens : (uid : ℕ) (uids path : List ℕ) (r : IsSettledAfter objects end uids uid)
+        → HaveEvents uids → IsPath (length objects) path → AreApart path (uid ∷ uids)
         → events_in bracketing (resolved_in path uid)
-        ≡ Ok (replaced_events objects (bracketing object))
-    opens uid uids path object at named new same o off apart =
-        let closed = false_from_ne_true _ off in
-        let within = slice_get_within objects uid object at in
-        let found : found_in path uid ≡ Ok object = rw (at, closed) refl in
-        opened_in path uid object o found
-        ∙ named-collects (resolved_in (uid ∷ path)) (bracketing object) uids named
-        (λ other p. same other p (uid ∷ path) (path_push uid o within closed) (λ u q r.
+        ≡ Ok (replaced_events objects (bracketing r.object))
+    opens uid uids path r same o apart =
+        let closed = false_from_ne_true _ (λ p. apart uid p (first-in uid uids)) in
+        let within = slice_get_within objects uid r.object r.found in
+        opened_in path uid r.object o (rw (r.found, closed) refl)
+        ∙ named-collects (resolved_in (uid ∷ path)) (bracketing r.object) uids r.leads
+        (λ other p. same other p (uid ∷ path) (path_push uid o within closed) (λ u q k.
         elim (eqb_tells u uid) [
-          | inl e ↦ new (subst (λ n. IsIn n uids) e.1 r)
-          | inr e ↦ apart u (rw e.0 at q) r
+          | inl e ↦ r.is_new (subst (λ n. IsIn n uids) e.1 k)
+          | inr e ↦ apart u (rw e.0 at q) (later-in u uid uids k)
         ]))
 
-    pub settled-same : (uids : List ℕ) → AreSettled objects end uids → (uid : ℕ) → IsIn uid uids
-        → (path : List ℕ) → IsPath (length objects) path → AreApart path uids
-        → events_in bracketing (resolved_in path uid) ≡ Ok (events_at objects uid)
+    top-events : (uid : ℕ) (uids : List ℕ) (r : IsSettledAfter objects end uids uid)
+        → HaveEvents uids → replaced_events objects (bracketing r.object) ≡ events_at objects uid
+    top-events uid uids r same =
+        at-top uid _ (opens uid uids [] r same (path_none _) (λ u p q. absurd (cc)))
+
+    pub settled-same : (uids : List ℕ) → AreSettled objects end uids → HaveEvents uids
     settled-same [] s uid member path o apart = absurd (cc)
     settled-same (first ∷ uids) (r, s) uid member path o apart =
         let same = settled-same uids s in
-        let below : AreApart path uids = (λ u p q. apart u p (later-in u first uids q)) in
         elim (eqb_tells uid first) [
-          | inl e ↦
-              let off : IsIn first path → ⊥ = (λ p. apart first p (first-in first uids)) in
-              let top = opens first uids [] r.object r.found r.leads r.is_new same (path_none _)
-              (λ p. absurd (cc))
-              (λ u p q. absurd (cc)) in
-              rw e.1 (opens first uids path r.object r.found r.leads r.is_new same o off below
-              ∙ ap Ok (at-top first _ top))
-          | inr e ↦ same uid (rw e.0 at member) path o below
+          | inl e ↦ rw e.1
+              (opens first uids path r same o apart ∙ ap Ok (top-events first uids r same))
+          | inr e ↦ same uid (rw e.0 at member) path o
+              (λ u p q. apart u p (later-in u first uids q))
         ]
 
     -- what is known of the object at the end of a settled Uid's chain
@@ -218,12 +217,8 @@ module _ (objects : List Tree) where
     settled-end [] s uid member = absurd (cc)
     settled-end (first ∷ uids) (r, s) uid member =
         elim (eqb_tells uid first) [
-          | inl e ↦
-              let top = opens first uids [] r.object r.found r.leads r.is_new
-              (settled-same uids s) (path_none _)
-              (λ p. absurd (cc)) (λ u p q. absurd (cc)) in
-              subst (IsEndOf (first ∷ uids)) (sym e.1)
-              (by (settled-end uids s) (uid_in r.object) refl (sym (at-top first _ top)))
+          | inl e ↦ subst (IsEndOf (first ∷ uids)) (sym e.1) (by (settled-end uids s)
+              (uid_in r.object) refl (sym (top-events first uids r (settled-same uids s))))
           | inr e ↦ more-ends uids uid first (settled-end uids s uid (rw e.0 at member))
         ]
       where

@@ -1,9 +1,10 @@
 -- The walk that finds the first fault, as the code stores its state.
-use Rattle.std.proofs.Common.{◌≡◌, ℕ, ◌<◌, Bool, true, false, nat_eq, inl, inr, List, [], ◌∷◌, ◌++◌, reverse, ◌||◌, Option, Some, None, Result, Ok, Err, refl, ap, sym, ◌∙◌, subst, true≢false, cond, is_some, map}
+use Rattle.std.proofs.Common.{◌≡◌, ℕ, ◌<◌, Bool, true, false, nat_eq, inl, inr, List, [], ◌∷◌, ◌++◌, reverse, Option, Some, None, Result, Ok, Err, refl, ap, sym, ◌∙◌, subst, true≢false, is_some, map}
+use Rattle.std.proofs.Math.Bool.{or-false, or_comm}
 use Rattle.std.specs.Prelude.{slice_get, if◌then◌else◌, option_map}
 use Rattle.std.specs.List.{list_any}
 use Rattle.std.specs.Option.{option_and_then, option_map_or}
-use Rattle.std.specs.Map.{keys_of, lookup}
+use Rattle.std.specs.Map.{keys_of}
 use Rattle.indexmap.specs.IndexMap.{IndexMap, get, insert_entry}
 use Rattle.indexmap.specs.IndexSet.{insert_key}
 use Rattle.indexmap.proofs.CallerLemmas.{insert_entry-new}
@@ -24,24 +25,18 @@ use Rattle.plist.specs.ValueTrees.{tree_of}
 use Rattle.plist_keyed.specs.declared.error.KeyedError.{KeyedError}
 use Rattle.plist_keyed.specs.declared.error.KeyedError.TheVariants as keyed
 use Rattle.plist_keyed.specs.declared.state.ArchiveWalk.{ArchiveWalk}
-use Rattle.plist_keyed.specs.Archives.{IsFaultOf, UidOutOfRange, RecursiveUid, resolved_tree}
+use Rattle.plist_keyed.specs.Archives.{ArchiveFault, IsFaultOf, resolved_tree}
 use Rattle.plist_keyed.specs.inner.Walks.{FollowsUid, IsIn, end_in, objects_in, settled_in, uid_of_event}
 use Rattle.plist.specs.Accessors.{uid_in}
-use Rattle.plist_keyed.proofs.Replaced.{events_in, join, join-nil, join-none, outcome}
-use Rattle.plist_keyed.proofs.Settled.{first-in, found_in, found-parts, from-top, later-in, resolved_in}
-use Rattle.plist_keyed.proofs.Checks.{IsCheck, distance, leaves, opens, opens-nearer, outcome_of, passes, passes-nearer, read-passed, refuses, takes}
-
-or_comm : (a b : Bool) → a || (b || false) ≡ b || a
-or_comm true true = refl
-or_comm true false = refl
-or_comm false true = refl
-or_comm false false = refl
+use Rattle.plist_keyed.proofs.Replaced.{events_in, join, join-nil, join-none}
+use Rattle.plist_keyed.proofs.Settled.{first-in, found_in, found-parts, from-top, later-in, refused_in}
+use Rattle.plist_keyed.proofs.Checks.{IsCheck, distance, leaves, opens, opens-nearer, passes, passes-nearer, read-passed, refuses, takes}
 
 pub any_reversed : (p : ℕ → Bool) (xs : List ℕ) → list_any p (reverse xs) ≡ list_any p xs
 any_reversed p [] = refl
 any_reversed p (x ∷ xs) =
     rw (reverse-append (x ∷ []) xs, list_any-append p (reverse xs) (x ∷ []), any_reversed p xs)
-    (or_comm (list_any p xs) (p x))
+    (rw (or-false (p x)) (or_comm (list_any p xs) (p x)))
 
 pub reverse-snoc : {A : Type 0} → (xs : List A) (x : A) → reverse (xs ++ x ∷ []) ≡ x ∷ reverse xs
 reverse-snoc xs x = reverse-append xs (x ∷ [])
@@ -187,23 +182,14 @@ follows walk after path longer start e below rest n items o objects ends is
           r.object check parts.0,
     )
 
--- a Uid is refused
-refused-by : (walk : ArchiveWalk) (path : List ℕ) (start : ℕ) (e : PlainEvent)
-    (levels : List (List PlainEvent)) (done : List PlainEvent) (n : ℕ) (error : KeyedError)
-    → events_in bracketing (resolved_tree (objects_in walk) start)
-    ≡ join (Ok done) (join (outcome (resolved_in (objects_in walk) (reverse path)) e)
-    (outcome_of (objects_in walk) levels (reverse path)))
-    → uid_of_event e ≡ Some n
-    → IsFaultOf (found_in (objects_in walk) path n) error
-    → IsFaultOf (resolved_tree (objects_in walk) start) error
-refused-by walk path start e levels done n (keyed.UidOutOfRange uid) given is found =
-    refuses (objects_in walk) start (λ u. u) [] e levels (reverse path) done n _ given is
-    (rw (any_reversed (nat_eq n) path) found)
-refused-by walk path start e levels done n (keyed.RecursiveUid uid) given is found =
-    refuses (objects_in walk) start (λ u. u) [] e levels (reverse path) done n _ given is
-    (rw (any_reversed (nat_eq n) path) found)
-refused-by walk path start e levels done n keyed.OutOfMemory given is h = tt
-refused-by walk path start e levels done n keyed.NotAnArchive given is h = absurd h
+-- the error is the fault of a Uid that was followed, which is that of the first one
+fault_of_first : (found all : Result Tree ArchiveFault)
+    → ((fault : ArchiveFault) → found ≡ Err fault → all ≡ Err fault) → (error : KeyedError)
+    → IsFaultOf found error → IsFaultOf all error
+fault_of_first found all refuse (keyed.UidOutOfRange uid) h = refuse _ h
+fault_of_first found all refuse (keyed.RecursiveUid uid) h = refuse _ h
+fault_of_first found all refuse keyed.OutOfMemory h = tt
+fault_of_first found all refuse keyed.NotAnArchive h = absurd h
 
 -- the innermost Uid, whose object has no events left, is settled
 pub settles : (walk after : ArchiveWalk) (path shorter : List ℕ) (start uid : ℕ) (left : Events)
@@ -244,10 +230,10 @@ event_taken walk below left rest item event is gives ok =
 pub first-refused : (walk : ArchiveWalk) (path : List ℕ) (start : ℕ) (error : KeyedError) → path ≡ []
     → IsFaultOf (found_in (objects_in walk) path start) error
     → IsFaultOf (resolved_tree (objects_in walk) start) error
-first-refused walk path start error none h =
-    refused-by walk path start (ScalarEvent (Uid start)) [] [] start error (rw none
-    (sym (join-nil _ ∙ join-none _ ∙ ap (events_in bracketing) (from-top (objects_in walk) start))))
-    refl h
+first-refused walk path start error none =
+    fault_of_first (found_in (objects_in walk) path start) _ (λ fault found.
+    sym (from-top (objects_in walk) start)
+    ∙ refused_in (objects_in walk) [] start fault (rw none at found)) error
 
 -- a later Uid is refused
 pub later-refused : (walk : ArchiveWalk) (path : List ℕ) (start : ℕ) (e : PlainEvent)
@@ -256,8 +242,11 @@ pub later-refused : (walk : ArchiveWalk) (path : List ℕ) (start : ℕ) (e : Pl
     → uid_of_event e ≡ Some n
     → IsFaultOf (found_in (objects_in walk) path n) error
     → IsFaultOf (resolved_tree (objects_in walk) start) error
-later-refused walk path start e below rest n error o is h =
+later-refused walk path start e below rest n error o is =
     let trees = objects_in walk in
-    refused-by walk path start e (remaining_events rest ∷ levels_of below) o.done n error
-    (o.given ∙ ap (join (Ok o.done)) (takes trees start (end_in walk.ends) (settled_in walk.ends) e
-    (remaining_events rest) (levels_of below) (reverse path))) is h
+    let end = end_in walk.ends in
+    let uids = settled_in walk.ends in
+    fault_of_first (found_in trees path n) _ (λ fault found. refuses trees start end uids e
+    (remaining_events rest ∷ levels_of below) (reverse path) o.done n fault
+    (o.given ∙ ap (join (Ok o.done)) (takes trees start end uids e (remaining_events rest)
+    (levels_of below) (reverse path))) is (rw (any_reversed (nat_eq n) path) found)) error

@@ -1,5 +1,5 @@
 -- The events that remain of the walk that yields them, after each kind of step.
-use Rattle.std.proofs.Common.{◌≡◌, ℕ, ◌<◌, List, [], ◌∷◌, ◌++◌, length, map, reverse, Some, None, Result, Ok, Err, OnErr, true, true≢false, refl, ap, sym, ◌∙◌, append-nil, arith, subst}
+use Rattle.std.proofs.Common.{◌≡◌, ℕ, ◌<◌, List, [], ◌∷◌, ◌++◌, length, map, reverse, Option, Some, None, Result, Ok, Err, OnErr, true, true≢false, refl, ap, sym, ◌∙◌, append-nil, arith, subst}
 use Rattle.std.specs.Prelude.{slice_get}
 use Rattle.std.specs.List.{flat_map}
 use Rattle.std.specs.Result.{is_err}
@@ -28,14 +28,11 @@ use Rattle.plist_keyed.proofs.Settled.{IsEndOf, from-top, named-append, settled-
 use Rattle.plist_keyed.proofs.StoredChecks.{reverse-snoc}
 
 module _ (objects : List Tree) where
-  pub plain-first : (e : PlainEvent) (es : List PlainEvent) → uid_of_event e ≡ None
-      → replaced_events objects (e ∷ es) ≡ e ∷ replaced_events objects es
-  plain-first e es is =
-      ap (λ f. option_map_or (events_at objects) f (e ∷ []) ++ replaced_events objects es) is
-
-  pub uid-first : (e : PlainEvent) (uid : ℕ) (es : List PlainEvent) → uid_of_event e ≡ Some uid
-      → replaced_events objects (e ∷ es) ≡ events_at objects uid ++ replaced_events objects es
-  uid-first e uid es is =
+  -- the first event, or the events of the Uid that it is, precede the others
+  replaced-first : (e : PlainEvent) (es : List PlainEvent) (found : Option ℕ)
+      → uid_of_event e ≡ found → replaced_events objects (e ∷ es)
+      ≡ option_map_or (events_at objects) found (e ∷ []) ++ replaced_events objects es
+  replaced-first e es found is =
       ap (λ f. option_map_or (events_at objects) f (e ∷ []) ++ replaced_events objects es) is
 
   -- the first event of a tree that isn't a Uid
@@ -60,7 +57,7 @@ module _ (objects : List Tree) where
   end-some end uids uid (object, at, named, plain, is) =
       let (e, es, first, other) = tree-first object plain in
       let all : events_at objects uid ≡ e ∷ replaced_events objects es =
-      is ∙ ap (replaced_events objects) first ∙ plain-first e es other in
+      is ∙ ap (replaced_events objects) first ∙ replaced-first e es None other in
       rw all (omega arith)
 
 -- an index that has a tree has an object
@@ -191,7 +188,7 @@ shorter walk below left rest items e uid had has taken is o =
     let some = end-some trees (end_in walk.ends) (settled_in walk.ends) uid
     (end-of walk uid o (named.0 uid is)) in
     let all : events_left walk ≡ events_at trees uid ++ replaced_events trees more =
-    ap (replaced_events trees) within ∙ uid-first trees e uid more is in
+    ap (replaced_events trees) within ∙ replaced-first trees e more (Some uid) is in
     rw (all, length-append (events_at trees uid) (replaced_events trees more))
     (omega (arith, some))
 
