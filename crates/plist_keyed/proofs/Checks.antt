@@ -1,8 +1,8 @@
 -- The walk that finds the first fault, over lists of events and of Uids: what remains of it, and what
 -- is true before each step.
-use Rattle.std.proofs.Common.{◌≡◌, ℕ, zero, suc, ◌+◌, ◌-◌, ◌*◌, ◌<◌, ◌≤◌, false, nat_eq, inl, inr, List, [], ◌∷◌, ◌++◌, length, drop, Option, Some, None, Result, Ok, Err, refl, ap, sym, ◌∙◌, append_assoc, append-nil, arith, subst}
+use Rattle.std.proofs.Common.{◌≡◌, ℕ, zero, suc, ◌+◌, ◌-◌, ◌*◌, ◌<◌, ◌≤◌, false, true≢false, nat_eq, inl, inr, List, [], ◌∷◌, ◌++◌, length, drop, Option, Some, None, Result, Ok, Err, refl, ap, sym, ◌∙◌, append_assoc, append-nil, arith, subst}
 use Rattle.std.specs.Prelude.{slice_get, ◌⊎◌, ⊤}
-use Rattle.std.specs.List.{list_any}
+use Rattle.std.specs.List.{IsDistinct, list_any}
 use Rattle.std.specs.Option.{option_and_then, option_map_or}
 use Rattle.std.proofs.lemmas.Bool.{false_from_ne_true}
 use Rattle.std.proofs.lemmas.Bool.Decides.{eqb_tells}
@@ -10,7 +10,7 @@ use Rattle.std.proofs.lemmas.Option.{same_Some, slice_get_within}
 use Rattle.plist_base.specs.Bracketing.{bracketing}
 use Rattle.plist_base.specs.Events.{PlainEvent}
 use Rattle.plist_base.specs.Trees.{Tree}
-use Rattle.plist_base.proofs.Paths.{IsPath, path_fuel, path_none, path_push}
+use Rattle.plist_base.proofs.Paths.{IsPath, any_none, path_fuel, path_none, path_push}
 use Rattle.plist_keyed.specs.Archives.{ArchiveFault, resolved_tree}
 use Rattle.plist_keyed.specs.inner.Walks.{AreSettled, IsIn, NameOnly, events_at, uid_of_event}
 use Rattle.plist.specs.Accessors.{uid_in}
@@ -43,13 +43,13 @@ module _ (objects : List Tree) where
   -- ---- what is true
 
   -- the events of each open object that don't remain name only Uids that are settled, or will be
-  -- settled before that object's Uid, which isn't one of them
+  -- settled before that object's Uid
   abbrev pub AreRead : (uids : List ℕ) → (levels : List (List PlainEvent)) → (path : List ℕ)
       → Type 0
   AreRead uids [] [] = ⊤
   AreRead uids (rest ∷ below) (uid ∷ path) =
       ((object : Tree) × (before : List PlainEvent) × (slice_get objects uid ≡ Some object)
-      × (bracketing object ≡ before ++ rest) × NameOnly before uids × (IsIn uid uids → ⊥))
+      × (bracketing object ≡ before ++ rest) × NameOnly before uids)
       × AreRead (uid ∷ uids) below path
   AreRead uids levels path = ⊥
 
@@ -57,6 +57,8 @@ module _ (objects : List Tree) where
       (path : List ℕ) : Type 0 where
     pub settled : AreSettled objects end uids
     pub read : AreRead uids levels path
+    pub open_now : IsPath (length objects) path
+    pub apart : AreApart path uids
     pub reached : IsIn start uids ⊎ IsIn start path
     pub done : List PlainEvent
     pub given : events_in bracketing (resolved_tree objects start)
@@ -64,29 +66,21 @@ module _ (objects : List Tree) where
 
   -- ---- the open Uids
 
-  read-apart : (uids : List ℕ) (levels : List (List PlainEvent)) (path : List ℕ)
-      → AreRead uids levels path → AreApart path uids
-  read-apart uids [] [] r u p q = absurd (cc)
-  read-apart uids (rest ∷ below) (uid ∷ path) ((object, before, at, is, named, new), r) u p q =
-      elim (eqb_tells u uid) [
-        | inl e ↦ new (subst (λ n. IsIn n uids) e.1 q)
-        | inr e ↦ read-apart (uid ∷ uids) below path r u (rw e.0 at p) (later-in u uid uids q)
-      ]
-  read-apart uids levels path r u p q = absurd r
+  -- the innermost open Uid is settled
+  path-pop : (uid : ℕ) (path : List ℕ) → IsPath (length objects) (uid ∷ path)
+      → IsPath (length objects) path × (list_any (nat_eq uid) path ≡ false)
+  unfolding IsDistinct
+  path-pop uid path o = (
+    record { distinct = o.distinct.1; below = λ n p. o.below n (later-in n uid path p) },
+    any_none uid path o.distinct.0,
+  )
 
-  -- a Uid that isn't settled yet isn't open, either, if it is settled before the open ones
-  read-closed : (uids : List ℕ) (levels : List (List PlainEvent)) (path : List ℕ) (uid : ℕ)
-      → AreRead (uid ∷ uids) levels path → list_any (nat_eq uid) path ≡ false
-  read-closed uids levels path uid r =
-      false_from_ne_true _ (λ p. read-apart (uid ∷ uids) levels path r uid p (first-in uid uids))
-
-  pub read-path : (uids : List ℕ) (levels : List (List PlainEvent)) (path : List ℕ)
-      → AreRead uids levels path → IsPath (length objects) path
-  read-path uids [] [] r = path_none _
-  read-path uids (rest ∷ below) (uid ∷ path) ((object, before, at, is, named, new), r) =
-      path_push uid (read-path (uid ∷ uids) below path r) (slice_get_within objects uid object at)
-      (read-closed uids below path uid r)
-  read-path uids levels path r = absurd r
+  apart-moves : (uid : ℕ) (path uids : List ℕ) → list_any (nat_eq uid) path ≡ false
+      → AreApart (uid ∷ path) uids → AreApart path (uid ∷ uids)
+  apart-moves uid path uids off apart u p q = elim (eqb_tells u uid) [
+    | inl e ↦ true≢false (sym (subst (λ m. IsIn m path) e.1 p) ∙ off)
+    | inr e ↦ apart u (later-in u uid path p) (rw e.0 at q)
+  ]
 
   settled-path : (end : ℕ → ℕ) (uids : List ℕ) → AreSettled objects end uids
       → IsPath (length objects) uids
@@ -96,81 +90,54 @@ module _ (objects : List Tree) where
       (false_from_ne_true _ r.is_new)
 
   -- no more Uids are settled or open than there are objects
-  read-count : (uids : List ℕ) (levels : List (List PlainEvent)) (path : List ℕ)
-      → IsPath (length objects) uids → AreRead uids levels path
-      → length path + length uids ≤ length objects
-  read-count uids [] [] o r =
+  all-count : (uids path : List ℕ) → IsPath (length objects) uids → IsPath (length objects) path
+      → AreApart path uids → length path + length uids ≤ length objects
+  all-count uids [] o p apart =
       let k : length uids ≤ length objects = path_fuel o in omega (arith, k)
-  read-count uids (rest ∷ below) (uid ∷ path) o ((object, before, at, is, named, new), r) =
-      let within = slice_get_within objects uid object at in
-      let k = read-count (uid ∷ uids) below path
-      (path_push uid o within (false_from_ne_true _ new)) r in
-      omega (arith, k)
-  read-count uids levels path o r = absurd r
+  all-count uids (uid ∷ path) o p apart =
+      let (q, off) = path-pop uid path p in
+      let k = all-count (uid ∷ uids) path (path_push uid o (p.below uid (first-in uid path))
+      (false_from_ne_true _ (apart uid (first-in uid path)))) q (apart-moves uid path uids off apart)
+      in omega (arith, k)
 
-  -- the open Uids may name one more Uid, which isn't open
-  read-more : (n : ℕ) (uids more : List ℕ) → ((u : ℕ) → IsIn u uids → IsIn u more)
-      → ((u : ℕ) → (u ≡ n → ⊥) → IsIn u more → IsIn u uids)
-      → (levels : List (List PlainEvent)) (path : List ℕ) → (IsIn n path → ⊥)
-      → AreRead uids levels path → AreRead more levels path
-  read-more n uids more sub back [] [] off r = tt
-  read-more n uids more sub back (rest ∷ below) (uid ∷ path) off
-      ((object, before, at, is, named, new), r) =
-      let other : uid ≡ n → ⊥ =
-      (λ e. off (subst (λ m. IsIn m (uid ∷ path)) e (first-in uid path))) in (
-        (
-          object,
-          before,
-          at,
-          is,
-          named-more before uids more sub named,
-          λ q. new (back uid other q),
-        ),
-        read-more n (uid ∷ uids) (uid ∷ more)
-            (λ u p. elim (eqb_tells u uid) [
-              | inl e ↦ subst (λ m. IsIn m (uid ∷ more)) (sym e.1) (first-in uid more)
-              | inr e ↦ later-in u uid more (sub u (rw e.0 at p))
-            ])
-            (λ u ne p. elim (eqb_tells u uid) [
-              | inl e ↦ subst (λ m. IsIn m (uid ∷ uids)) (sym e.1) (first-in uid uids)
-              | inr e ↦ later-in u uid uids (back u ne (rw e.0 at p))
-            ])
-            below path (λ p. off (later-in n uid path p)) r,
-      )
-  read-more n uids more sub back levels path off r = absurd r
+  -- the open Uids may name more Uids
+  read-more : (uids more : List ℕ) → ((u : ℕ) → IsIn u uids → IsIn u more)
+      → (levels : List (List PlainEvent)) (path : List ℕ) → AreRead uids levels path
+      → AreRead more levels path
+  read-more uids more sub [] [] r = tt
+  read-more uids more sub (rest ∷ below) (uid ∷ path) ((object, before, at, is, named), r) = (
+    (object, before, at, is, named-more before uids more sub named),
+    read-more (uid ∷ uids) (uid ∷ more) (λ u p. elim (eqb_tells u uid) [
+      | inl e ↦ subst (λ m. IsIn m (uid ∷ more)) (sym e.1) (first-in uid more)
+      | inr e ↦ later-in u uid more (sub u (rw e.0 at p))
+    ]) below path r,
+  )
+  read-more uids more sub levels path r = absurd r
 
   -- an event that was taken precedes the remaining ones
   read-named : (uids : List ℕ) (e : PlainEvent) (rest : List PlainEvent)
       (below : List (List PlainEvent)) (path : List ℕ) → NameOnly (e ∷ []) uids
       → AreRead uids ((e ∷ rest) ∷ below) path → AreRead uids (rest ∷ below) path
-  read-named uids e rest below (uid ∷ path) names ((object, before, at, is, named, new), r) = (
+  read-named uids e rest below (uid ∷ path) names ((object, before, at, is, named), r) = (
     (
       object,
       before ++ e ∷ [],
       at,
       is ∙ sym (append_assoc before (e ∷ []) rest),
       named-append before (e ∷ []) uids named names,
-      new,
     ),
     r,
   )
   read-named uids e rest below [] names r = absurd r
 
-  -- a Uid that was taken, and is neither settled nor open, will be settled before the open ones
+  -- a Uid that was taken will be settled before the open ones
   pub read-passed : (uids : List ℕ) (e : PlainEvent) (n : ℕ) (rest : List PlainEvent)
       (below : List (List PlainEvent)) (path : List ℕ) → uid_of_event e ≡ Some n
-      → (IsIn n path → ⊥) → AreRead uids ((e ∷ rest) ∷ below) path
-      → AreRead (n ∷ uids) (rest ∷ below) path
-  read-passed uids e n rest below (uid ∷ path) is off r =
-      let wider = read-more n uids (n ∷ uids) (λ u p. later-in u n uids p)
-      (λ u ne p. elim (eqb_tells u n) [
-        | inl e ↦ absurd (ne e.1)
-        | inr e ↦ rw e.0 at p
-      ]) ((e ∷ rest) ∷ below) (uid ∷ path) off r in
-      read-named (n ∷ uids) e rest below (uid ∷ path)
+      → AreRead uids ((e ∷ rest) ∷ below) path → AreRead (n ∷ uids) (rest ∷ below) path
+  read-passed uids e n rest below path is r =
+      read-named (n ∷ uids) e rest below path
       ((λ u p. subst (λ m. IsIn m (n ∷ uids)) (same_Some n u (sym is ∙ p)) (first-in n uids)), tt)
-      wider
-  read-passed uids e n rest below [] is off r = absurd r
+      (read-more uids (n ∷ uids) (λ u p. later-in u n uids p) ((e ∷ rest) ∷ below) path r)
 
   -- ---- the ends of chains
 
@@ -226,12 +193,12 @@ module _ (objects : List Tree) where
         let es = option_map_or (events_at objects) (uid_of_event e) (e ∷ []) in
         let is : outcome (resolved_in objects path) e ≡ Ok es =
         named-outcome objects (resolved_in objects path) e uids names.0 (λ u p.
-        settled-same objects end uids o.settled u p path
-        (read-path uids ((e ∷ rest) ∷ below) path o.read)
-        (read-apart uids ((e ∷ rest) ∷ below) path o.read)) in
+        settled-same objects end uids o.settled u p path o.open_now o.apart) in
         record {
           settled = o.settled;
           read = read-named uids e rest below path names o.read;
+          open_now = o.open_now;
+          apart = o.apart;
           reached = o.reached;
           done = o.done ++ es;
           given = o.given ∙ ap (join (Ok o.done)) (takes e rest below path
@@ -263,24 +230,28 @@ module _ (objects : List Tree) where
     -- an object is opened
     pub opens : (e : PlainEvent) (levels : List (List PlainEvent)) (path : List ℕ)
         (done : List PlainEvent) (n : ℕ) (object : Tree) → AreSettled objects end uids
-        → AreRead (n ∷ uids) levels path → (IsIn n uids → ⊥)
+        → AreRead (n ∷ uids) levels path → IsPath (length objects) path → AreApart path uids
+        → (IsIn n uids → ⊥)
         → events_in bracketing (resolved_tree objects start)
         ≡ join (Ok done) (join (outcome (resolved_in objects path) e) (outcome_of levels path))
         → uid_of_event e ≡ Some n → found_in objects path n ≡ Ok object
         → (IsIn start uids ⊎ IsIn start (n ∷ path))
         → IsCheck start end uids (bracketing object ∷ levels) (n ∷ path)
-    opens e levels path done n object s r new given is found reached = record {
-      settled = s;
-      read = (
-        (object, [], (found-parts (slice_get objects n) _ n object found).0, refl, tt, new),
-        r,
-      );
-      reached = reached;
-      done = done;
-      given = given ∙ ap (λ a. join (Ok done) (join a (outcome_of levels path)))
-          (of-uid e path n is
-          ∙ opened_in objects path n object (read-path (n ∷ uids) levels path r) found);
-    }
+    opens e levels path done n object s r opened apart new given is found reached =
+        let (at, off) = found-parts (slice_get objects n) _ n object found in
+        record {
+          settled = s;
+          read = ((object, [], at, refl, tt), r);
+          open_now = path_push n opened (slice_get_within objects n object at) off;
+          apart = λ u p q. elim (eqb_tells u n) [
+            | inl e ↦ new (subst (λ m. IsIn m uids) e.1 q)
+            | inr e ↦ apart u (rw e.0 at p) q
+          ];
+          reached = reached;
+          done = done;
+          given = given ∙ ap (λ a. join (Ok done) (join a (outcome_of levels path)))
+              (of-uid e path n is ∙ opened_in objects path n object opened found);
+        }
 
     -- the innermost object is left
     pub leaves : (other : ℕ → ℕ) (uid : ℕ) (below : List (List PlainEvent)) (path : List ℕ)
@@ -289,7 +260,8 @@ module _ (objects : List Tree) where
         → IsCheck start end uids ([] ∷ below) (uid ∷ path)
         → IsCheck start other (uid ∷ uids) below path
     leaves other uid below path ends kept o =
-        let ((object, before, at, all, named, new), r) = o.read in
+        let ((object, before, at, all, named), r) = o.read in
+        let (opened, off) = path-pop uid path o.open_now in
         let whole_named : NameOnly (bracketing object) uids =
         subst (λ es. NameOnly es uids) (sym (all ∙ append-nil before)) named in
         let own : other uid ≡ option_map_or other (uid_in object) uid =
@@ -300,13 +272,15 @@ module _ (objects : List Tree) where
             record {
               object = object;
               found = at;
-              is_new = new;
+              is_new = o.apart uid (first-in uid path);
               leads = whole_named;
               same_end = own;
             },
             settled-kept end other uids kept o.settled,
           );
           read = r;
+          open_now = opened;
+          apart = apart-moves uid path uids off o.apart;
           reached = elim o.reached [
             | inl p ↦ inl (later-in start uid uids p)
             | inr p ↦ elim (eqb_tells start uid) [
@@ -355,8 +329,7 @@ module _ (objects : List Tree) where
         < distance uids ((e ∷ rest) ∷ below) path
     opens-nearer e rest below path n object o at =
         let k = length objects - (suc (length path) + length uids) in
-        let fits = read-count uids (bracketing object ∷ rest ∷ below) (n ∷ path)
-        (settled-path end uids o.settled) o.read in
+        let fits = all-count uids (n ∷ path) (settled-path end uids o.settled) o.open_now o.apart in
         let one : length objects - (length path + length uids) ≡ suc k = omega (arith, fits) in
         let bound = within-whole objects n object at in
         rw one (omega (arith, bound))

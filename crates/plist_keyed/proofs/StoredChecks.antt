@@ -22,6 +22,7 @@ use Rattle.plist.specs.declared.stream.events.Events.{Events}
 use Rattle.plist.specs.declared.value.Value.{Value}
 use Rattle.plist.specs.Events.{GivesEvent, remaining_events}
 use Rattle.plist.specs.ValueTrees.{tree_of}
+use Rattle.plist_base.proofs.Paths.{path_none}
 use Rattle.plist_keyed.specs.declared.error.KeyedError.{KeyedError}
 use Rattle.plist_keyed.specs.declared.error.KeyedError.TheVariants as keyed
 use Rattle.plist_keyed.specs.declared.state.ArchiveWalk.{ArchiveWalk}
@@ -114,7 +115,7 @@ begins before after path longer start none levels ends objects same
     let trees = objects_in before in
     rw (objects, same, ends, r.is_last, none, r.levels, levels, r.events)
     (opens trees start (λ u. u) [] (ScalarEvent (Uid start)) [] [] [] start r.object tt tt
-    (λ p. absurd (cc))
+    (path_none _) (λ u p q. absurd (cc)) (λ p. absurd (cc))
     (sym (join-nil _ ∙ join-none _ ∙ ap (events_in bracketing) (from-top trees start))) refl
     (rw none at r.found) (inr (first-in start [])))
 
@@ -157,11 +158,10 @@ follows walk after path longer start e below rest n items o objects ends is
     let found_too : found_in trees (reverse path) n ≡ Ok r.object =
     rw (any_reversed (nat_eq n) path) r.found in
     let parts = found-parts (slice_get trees n) _ n r.object found_too in
-    let off : IsIn n (reverse path) → ⊥ = (λ p. true≢false (sym p ∙ parts.1)) in
     let check : IsCheck trees start end uids (bracketing r.object ∷ others) (n ∷ reverse path) =
     opens trees start end uids e others (reverse path) o.done n r.object o.settled
-    (read-passed trees uids e n (remaining_events rest) (levels_of below) (reverse path) is off
-    o.read) r.is_new (o.given ∙ ap (join (Ok o.done)) (takes trees start end uids e
+    (read-passed trees uids e n (remaining_events rest) (levels_of below) (reverse path) is
+    o.read) o.open_now o.apart r.is_new (o.given ∙ ap (join (Ok o.done)) (takes trees start end uids e
     (remaining_events rest) (levels_of below) (reverse path))) is found_too (elim o.reached [
       | inl p ↦ inl p
       | inr p ↦ inr (later-in start n (reverse path) p)

@@ -7,7 +7,6 @@ use Rattle.plist.specs.ValueTrees.{tree_of}
 use Rattle.plist_keyed.specs.Archives.{IsFaultOf, resolved_tree}
 use Rattle.plist_keyed.proofs.StoredChecks.{Checks, begins, distance_in, event_taken, first-refused, follows, later-refused, levels_of, popped, settles, skips}
 use Rattle.plist_keyed.proofs.state.ArchiveWalk.check.Goals as goal
-use Rattle.plist_keyed.proofs.state.ArchiveWalk.check.Goals.{In-StartArray-3}
 
 pub returns-in_err-follow-clause-refused : goal.returns-in_err-follow-clause-refused
 returns-in_err-follow-clause-refused c =
@@ -53,7 +52,7 @@ loop-left-preserved-in_default-uid_of c =
     }
 
 -- the state in which a Uid is followed
-followed : (c : In-StartArray-3)
+followed : (c : goal.In-StartArray-3)
     → Checks c.args.uid c.follow-in-Some.new.self
     (levels_of c.follow-in-Some.new.self.levels.items) (reverse c.follow-in-Some.new.path.keys)
     × (distance_in c.follow-in-Some.new.self (levels_of c.follow-in-Some.new.self.levels.items)
