@@ -1,6 +1,7 @@
 -- The events that remain of the walk that yields them, after each kind of step.
 use Rattle.std.proofs.Common.{◌≡◌, ℕ, ◌<◌, List, [], ◌∷◌, ◌++◌, length, map, reverse, Option, Some, None, Result, Ok, Err, OnErr, true, true≢false, refl, ap, sym, ◌∙◌, append-nil, arith, subst}
 use Rattle.std.specs.Prelude.{slice_get}
+use Rattle.std.specs.Iterator.{MakesProgress, at_most}
 use Rattle.std.specs.List.{flat_map}
 use Rattle.std.specs.Result.{is_err}
 use Rattle.std.specs.Option.{option_map_or}
@@ -191,6 +192,13 @@ shorter walk below left rest items e uid had has taken is o =
     ap (replaced_events trees) within ∙ replaced-first trees e more (Some uid) is in
     rw (all, length-append (events_at trees uid) (replaced_events trees more))
     (omega (arith, some))
+
+-- a walk yields an item, and less remains
+pub progresses : {A : Type 0} (old new : ArchiveWalk) (item : A) → IsWalk new
+    → length (events_left new) < length (events_left old)
+    → MakesProgress IsWalk (λ walk. at_most (length (events_left walk))) old (Some item) new
+progresses old new item walk less =
+    record { on = λ _. (walk, tt, less); keeps = walk; rests = λ _. tt }
 
 pub on-err : {X E : Type 0} {P : Type 0} → (r : Result X E) → is_err r ≡ true → OnErr r P → P
 on-err (Ok x) e h = absurd (true≢false (sym e))

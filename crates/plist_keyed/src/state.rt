@@ -1,6 +1,6 @@
 //! The state of the two walks over the objects of an archive.
 
-ghost use Rattle.std.specs.Prelude.{◌≡◌, ◌<◌, [], length, slice_get, Some};
+ghost use Rattle.std.specs.Prelude.{◌≡◌, ◌<◌, length, slice_get, Some};
 ghost use Rattle.std.specs.Option.{option_and_then, option_copied};
 ghost use Rattle.plist_base.specs.Events.{event_of};
 ghost use Rattle.plist.specs.ValueTrees.{tree_of};
@@ -48,19 +48,6 @@ pub(crate) struct ArchiveWalk<'a> {
 
 impl<'a> ArchiveWalk<'a> {
     ghost use Rattle.plist_keyed.specs.inner.Walks.{objects_in};
-
-    pub(crate) fn new(alloc: Global, objects: &'a [Value]) -> ArchiveWalk<'a>
-        ensures objects { result.objects ≡ objects.entry }
-        ensures levels { result.levels.items ≡ [] }
-        ensures ends { result.ends.entries ≡ [] }
-    {
-        ArchiveWalk {
-            alloc,
-            objects,
-            levels: Vec::new(alloc),
-            ends: IndexMap::new(alloc),
-        }
-    }
 
     // Returns the object of a Uid, if the archive has one.
     pub(crate) fn look_up(&self, uid: u64) -> Option<&'a Value>

@@ -1,6 +1,6 @@
 //! The walk over an archive that yields the events of a Uid's tree.
 
-ghost use Rattle.std.specs.Prelude.{◌≡◌, ◌+◌, ◌<◌, ◌++◌, IfErr, IfOk, length, map, None, Ok, OnErr, OnOk, OnSome};
+ghost use Rattle.std.specs.Prelude.{◌≡◌, ◌+◌, ◌++◌, IfErr, IfOk, length, map, None, Ok, OnErr, OnOk};
 ghost use Rattle.plist_base.specs.Bracketing.{bracketing};
 ghost use Rattle.plist_base.specs.Trees.{Tree};
 ghost use Rattle.plist_keyed.specs.declared.error.KeyedError.TheVariants.{OutOfMemory as NoMemory};
@@ -11,12 +11,13 @@ ghost use Rattle.plist.specs.ValueTrees.{tree_of};
 
 use crate::KeyedError;
 use crate::state::{ArchiveWalk, uid_of};
+use indexmap::IndexMap;
 use plist::stream::Event;
 use plist::{Error, ErrorKind, Value};
 use std::alloc::Global;
 
 impl<'a> ArchiveWalk<'a> {
-    ghost use Rattle.plist_keyed.specs.inner.Walks.{GivesItemOfUid, IsWalk, events_left, events_in_levels, objects_in};
+    ghost use Rattle.plist_keyed.specs.inner.Walks.{IsWalk, events_left, events_in_levels, objects_in};
 
     // Enters the object at the end of a settled Uid's chain.
     fn enter(&mut self, uid: u64) -> Result<(), KeyedError>
@@ -36,16 +37,23 @@ impl<'a> ArchiveWalk<'a> {
         self.levels.push(object.events(self.alloc))?;
         Ok(())
     }
+}
 
-    // Returns the next event. An event that is a Uid is replaced by the events of the object at the
-    // end of its chain, which isn't a Uid.
-    fn advance(&mut self) -> Option<Result<Event<'a>, Error>>
-        requires { IsWalk self.old }
-        ensures walk { IsWalk self.new }
-        ensures yields { GivesItemOfUid self.old result self.new }
-        ensures shorter { OnSome result (length (events_left self.new)
-            < length (events_left self.old)) }
-    {
+impl<'a> Iterator for ArchiveWalk<'a> {
+    type Item = Result<Event<'a>, Error>;
+
+    ghost use Rattle.std.specs.Iterator.{at_most};
+    ghost use Rattle.plist_keyed.specs.inner.Walks.{GivesItemOfUid, IsWalk, events_left};
+
+    ghost can_next = { IsWalk };
+
+    ghost next_gives = { GivesItemOfUid };
+
+    ghost remaining = { λ walk. at_most (length (events_left walk)) };
+
+    // An event that is a Uid is replaced by the events of the object at the end of its chain, which
+    // isn't a Uid.
+    fn next(&mut self) -> Option<Result<Event<'a>, Error>> {
         while let Some(mut left) = self.levels.pop() {
             let Some(item) = left.next() else {
                 continue;
@@ -66,23 +74,6 @@ impl<'a> ArchiveWalk<'a> {
     }
 }
 
-impl<'a> Iterator for ArchiveWalk<'a> {
-    type Item = Result<Event<'a>, Error>;
-
-    ghost use Rattle.std.specs.Iterator.{at_most};
-    ghost use Rattle.plist_keyed.specs.inner.Walks.{GivesItemOfUid, IsWalk, events_left};
-
-    ghost can_next = { IsWalk };
-
-    ghost next_gives = { GivesItemOfUid };
-
-    ghost remaining = { λ walk. at_most (length (events_left walk)) };
-
-    fn next(&mut self) -> Option<Result<Event<'a>, Error>> {
-        self.advance()
-    }
-}
-
 /// Returns the value of the object that a Uid names, in which every Uid is replaced by its own
 /// tree.
 ///
@@ -96,7 +87,12 @@ pub(crate) fn value_at(alloc: Global, objects: &[Value], uid: u64) -> Result<Val
         ≡ Ok (tree_of v)) }
     ensures refused { IfErr result (IsFaultOf (resolved_tree (map tree_of objects.now) uid)) }
 {
-    let mut walk = ArchiveWalk::new(alloc, objects);
+    let mut walk = ArchiveWalk {
+        alloc,
+        objects,
+        levels: Vec::new(alloc),
+        ends: IndexMap::new(alloc),
+    };
     walk.check(uid)?;
     walk.enter(uid)?;
     match Value::from_events(alloc, walk) {

@@ -35,5 +35,5 @@ returns-in-Ok-clause-value c =
     let all = settled-top (objects_in walk) (end_in walk.ends) (settled_in walk.ends) c.args.uid
     c.in_ok-check.ensures.settled c.in_ok-check.ensures.reached in
     subst (λ (objects : Bor _). resolved_tree (map tree_of objects.now) c.args.uid ≡ Ok tree)
-    (c.in_ok-check.ensures.objects ∙ c.new-walk.ensures.objects)
+    c.in_ok-check.ensures.objects
     (tree-read walk.objects.now c.args.uid tree c.from_events.ensures.itself all read)

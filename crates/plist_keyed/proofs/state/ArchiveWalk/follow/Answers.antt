@@ -17,8 +17,11 @@ returns-in_default-clause-refused c =
 
 pub returns-then-contains-clause-refused : goal.returns-then-contains-clause-refused
 returns-then-contains-clause-refused c =
-    rw (seen_at _ c.args.uid _ (Some c.in-Some.object.now) c.look_up.ensures
-    (ap option_copied c.in-Some.is), sym c.contains.ensures ∙ c.if-contains.true) refl
+    rw (
+      seen_at _ c.args.uid _ (Some c.in-Some.object.now) c.look_up.ensures
+          (ap option_copied c.in-Some.is),
+      sym c.contains.ensures ∙ c.if-contains.true,
+    ) refl
 
 pub returns-clause-followed : goal.returns-clause-followed
 returns-clause-followed c =
@@ -28,8 +31,11 @@ returns-clause-followed c =
       level = c.events.result;
       is_new = no-member c.args.self.now.ends c.args.uid
           (sym c.contains_key.ensures ∙ c.if-contains_key.false);
-      found = rw (seen_at _ c.args.uid _ (Some c.in-Some.object.now) c.look_up.ensures
-          (ap option_copied c.in-Some.is), off) refl;
+      found = rw (
+        seen_at _ c.args.uid _ (Some c.in-Some.object.now) c.look_up.ensures
+            (ap option_copied c.in-Some.is),
+        off,
+      ) refl;
       events = c.events.ensures.items;
       levels = c.in_ok-push.ensures.items;
       is_last = added c.args.path.now.keys c.insert.new.self.keys c.args.uid

@@ -1,7 +1,7 @@
 use Rattle.std.proofs.Common.{◌≡◌, ◌+◌, length}
 use Rattle.plist_keyed.specs.inner.Walks.{IsWalk, events_left, events_in_levels}
 use Rattle.plist_keyed.proofs.WalkSteps.{steps_to_enter}
-use Rattle.plist_keyed.proofs.state.ArchiveWalk.advance.Given as goal
+use Rattle.plist_keyed.proofs.walk.ArchiveWalkIterator.next.Given as goal
 
 abbrev pub invariant-loop-left : goal.invariant-loop-left
 invariant-loop-left l = record {

@@ -3,28 +3,25 @@ use Rattle.std.proofs.lemmas.Grind.{common_steps}
 use Rattle.plist_base.specs.Events.{event_of}
 use Rattle.plist.proofs.GivenEvents.{none_comes}
 use Rattle.plist.specs.Events.{remaining_events}
-use Rattle.plist_keyed.proofs.WalkSteps.{emptied, event_left, memory_left, on-err, shorter}
-use Rattle.plist_keyed.proofs.state.ArchiveWalk.advance.Goals as goal
-use Rattle.plist_keyed.proofs.state.ArchiveWalk.advance.Goals.{In-Ok}
+use Rattle.plist_keyed.proofs.WalkSteps.{emptied, event_left, memory_left, on-err, progresses, shorter}
+use Rattle.plist_keyed.proofs.walk.ArchiveWalkIterator.next.Goals as goal
+use Rattle.plist_keyed.proofs.walk.ArchiveWalkIterator.next.Goals.{In-Ok}
 
 pub loop-left-preserved-in_default-next : goal.loop-left-preserved-in_default-next
 loop-left-preserved-in_default-next c =
     let none = none_comes c.in_default-next.ensures.steps in grind (arith, common_steps, none)
 
-pub returns-in-Err-clause-walk : goal.returns-in-Err-clause-walk
-returns-in-Err-clause-walk c =
+pub returns-in-Err-clause-goes : goal.returns-in-Err-clause-goes
+returns-in-Err-clause-goes c =
     let gives = memory_left c.in-Some.left c.next.new.self c.in-Some-next.item c.in-Err.error
-    c.in-Some-next.ensures.steps c.in-Err.is in (
+    c.in-Some-next.ensures.steps c.in-Err.is in
+    progresses _ _ _ (
       c.loop-left.invariant.walk.0,
-      emptied c.loop-left.self c.pop.new.self.items c.in-Some.left c.next.new.self
-          c.push_reserved.new.self.items c.in-Some.ensures.items c.push_reserved.ensures.items
-          gives.2 c.loop-left.invariant.walk.1,
+      emptied c.loop-left.self c.pop.new.self.items
+          c.in-Some.left c.next.new.self c.push_reserved.new.self.items c.in-Some.ensures.items
+          c.push_reserved.ensures.items gives.2 c.loop-left.invariant.walk.1,
     )
-
-pub returns-in-Err-clause-shorter : goal.returns-in-Err-clause-shorter
-returns-in-Err-clause-shorter c =
-    let gives = memory_left c.in-Some.left c.next.new.self c.in-Some-next.item c.in-Err.error
-    c.in-Some-next.ensures.steps c.in-Err.is in grind (arith, common_steps, gives)
+    (grind (arith, common_steps, gives))
 
 -- the event that the innermost object's iterator yielded
 taken : (c : In-Ok) → remaining_events c.in-Some.left
@@ -35,9 +32,9 @@ taken c = event_left c.in-Some.left c.next.new.self c.in-Some-next.item c.in-Ok.
 pub returns-in_default-uid_of : goal.returns-in_default-uid_of
 returns-in_default-uid_of c =
     let event = taken (goal.at.returns-in_default-uid_of c).In-Ok in record {
-      walk = grind (arith, common_steps, event);
-      yields = grind (arith, common_steps, event);
-      shorter = grind (arith, common_steps, event);
+      steps = grind (arith, common_steps, event);
+      goes = progresses _ _ _ (grind (arith, common_steps, event))
+          (grind (arith, common_steps, event));
     }
 
 pub enter-requires : goal.enter-requires
@@ -47,15 +44,16 @@ enter-requires c =
       settled = grind (arith, common_steps, event);
     }
 
-pub returns-then-is_err-clause-shorter : goal.returns-then-is_err-clause-shorter
-returns-then-is_err-clause-shorter c =
+pub returns-then-is_err-clause-goes : goal.returns-then-is_err-clause-goes
+returns-then-is_err-clause-goes c =
     let same = on-err c.enter.result (sym c.is_err.ensures.value ∙ c.if-is_err.true)
     c.enter.ensures.unchanged in
-    rw (same, ← c.loop-left.invariant.left) (shorter c.loop-left.self c.pop.new.self.items
-    c.in-Some.left c.next.new.self c.push_reserved.new.self.items (event_of c.in-Ok.event)
-    c.in-Some-uid_of.uid c.in-Some.ensures.items c.push_reserved.ensures.items
-    (taken (goal.at.returns-then-is_err-clause-shorter c).In-Ok)
-    (sym c.uid_of.ensures ∙ c.in-Some-uid_of.is) c.loop-left.invariant.walk)
+    progresses _ _ _ c.enter.ensures.walk (rw (same, ← c.loop-left.invariant.left)
+    (shorter c.loop-left.self c.pop.new.self.items c.in-Some.left c.next.new.self
+    c.push_reserved.new.self.items (event_of c.in-Ok.event) c.in-Some-uid_of.uid
+    c.in-Some.ensures.items c.push_reserved.ensures.items
+    (taken (goal.at.returns-then-is_err-clause-goes c).In-Ok)
+    (sym c.uid_of.ensures ∙ c.in-Some-uid_of.is) c.loop-left.invariant.walk))
 
 pub loop-left-smaller : goal.loop-left-smaller
 loop-left-smaller c =
