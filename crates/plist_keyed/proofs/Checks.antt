@@ -292,14 +292,6 @@ module _ (objects : List Tree) where
           given = o.given ∙ ap (join (Ok o.done)) (join-nil (outcome_of below path));
         }
 
-    -- no object is open
-    pub ends-settled : (path : List ℕ) → IsCheck start end uids [] path → IsIn start uids
-    ends-settled [] o = elim o.reached [
-      | inl p ↦ p
-      | inr p ↦ absurd (cc)
-    ]
-    ends-settled (uid ∷ path) o = absurd o.read
-
     -- ---- distances
 
     pub passes-nearer : (e : PlainEvent) (rest : List PlainEvent)

@@ -1,5 +1,5 @@
 -- The events that remain of the walk that yields them, after each kind of step.
-use Rattle.std.proofs.Common.{◌≡◌, ℕ, ◌<◌, List, [], ◌∷◌, ◌++◌, length, map, reverse, Option, Some, None, Result, Ok, Err, OnErr, true, true≢false, refl, ap, sym, ◌∙◌, append-nil, arith, subst}
+use Rattle.std.proofs.Common.{◌≡◌, ℕ, ◌<◌, List, [], ◌∷◌, ◌++◌, length, map, reverse, Option, Some, None, Result, Ok, Err, OnErr, true, true≢false, ap, sym, ◌∙◌, append-nil, arith, subst}
 use Rattle.std.specs.Prelude.{slice_get}
 use Rattle.std.specs.Iterator.{MakesProgress, at_most}
 use Rattle.std.specs.List.{flat_map}
@@ -9,18 +9,14 @@ use Rattle.std.proofs.lemmas.List.{length-append, length-map}
 use Rattle.std.proofs.lemmas.List.Concat.{flat_map-append}
 use Rattle.std.proofs.lemmas.Option.{same_Some, slice_get_within}
 use Rattle.plist_base.specs.Bracketing.{bracketing}
-use Rattle.plist_base.specs.declared.error.Error.{Error}
-use Rattle.plist_base.specs.declared.event.Event.{Event}
-use Rattle.plist_base.specs.Events.{PlainEvent, StartArray, StartDictionary, EndCollection, ScalarEvent, event_of}
-use Rattle.plist_base.specs.Faults.{OutOfMemory, fault_of, fault_without_offset}
+use Rattle.plist_base.specs.Events.{PlainEvent, ScalarEvent}
 use Rattle.plist_base.specs.Trees.{Tree, Leaf, Array, Dictionary}
 use Rattle.plist.specs.declared.stream.events.Events.{Events}
 use Rattle.plist.specs.declared.value.Value.{Value}
-use Rattle.plist.specs.Events.{BeginsWithStart, GivesEvent, remaining_events}
-use Rattle.plist.proofs.GivenEvents.{event_comes, memory_comes}
+use Rattle.plist.specs.Events.{remaining_events}
 use Rattle.plist.specs.ValueTrees.{tree_of}
 use Rattle.plist_keyed.specs.declared.state.ArchiveWalk.{ArchiveWalk}
-use Rattle.plist_keyed.specs.inner.Walks.{AreAllSettled, AreSettled, IsIn, IsWalk, NameOnly, end_in, events_at, events_left, events_in_levels, objects_in, replaced_events, settled_in, uid_of_event}
+use Rattle.plist_keyed.specs.inner.Walks.{AreSettled, IsIn, IsWalk, NameOnly, end_in, events_at, events_left, events_in_levels, objects_in, replaced_events, settled_in, uid_of_event}
 use Rattle.plist.specs.Accessors.{uid_in}
 use Rattle.plist_base.proofs.Paths.{path_none}
 use Rattle.plist_keyed.specs.Archives.{resolved_tree}
@@ -36,30 +32,16 @@ module _ (objects : List Tree) where
   replaced-first e es found is =
       ap (λ f. option_map_or (events_at objects) f (e ∷ []) ++ replaced_events objects es) is
 
-  -- the first event of a tree that isn't a Uid
-  pub tree-first : (t : Tree) → uid_in t ≡ None
-      → (e : PlainEvent) × (es : List PlainEvent) × (bracketing t ≡ e ∷ es)
-      × (uid_of_event e ≡ None)
-  tree-first (Leaf x) plain = (ScalarEvent x, [], refl, plain)
-  tree-first (Array ts) plain = (_, _, refl, refl)
-  tree-first (Dictionary ms) plain = (_, _, refl, refl)
-
-  pub start-some : (es : List PlainEvent) → BeginsWithStart es
-      → 0 < length (replaced_events objects es)
-  start-some (StartArray n ∷ es) h = omega arith
-  start-some (StartDictionary n ∷ es) h = omega arith
-  start-some [] h = absurd h
-  start-some (EndCollection ∷ es) h = absurd h
-  start-some (ScalarEvent x ∷ es) h = absurd h
+  -- a tree that isn't a Uid has events
+  tree-some : (t : Tree) → uid_in t ≡ None → 0 < length (replaced_events objects (bracketing t))
+  tree-some (Leaf x) plain = rw (replaced-first (ScalarEvent x) [] None plain) (omega arith)
+  tree-some (Array ts) plain = omega arith
+  tree-some (Dictionary ms) plain = omega arith
 
   -- a settled Uid has events
-  pub end-some : (end : ℕ → ℕ) (uids : List ℕ) (uid : ℕ) → IsEndOf objects end uids uid
+  end-some : (end : ℕ → ℕ) (uids : List ℕ) (uid : ℕ) → IsEndOf objects end uids uid
       → 0 < length (events_at objects uid)
-  end-some end uids uid (object, at, named, plain, is) =
-      let (e, es, first, other) = tree-first object plain in
-      let all : events_at objects uid ≡ e ∷ replaced_events objects es =
-      is ∙ ap (replaced_events objects) first ∙ replaced-first e es None other in
-      rw all (omega arith)
+  end-some end uids uid (object, at, named, plain, is) = rw is (tree-some object plain)
 
 -- an index that has a tree has an object
 pub seen-within : (objects : List Value) (n : ℕ) (t : Tree)
@@ -121,9 +103,6 @@ settled-top objects end uids uid s has =
     ∙ settled-same objects end uids s uid has [] (path_none _) (λ u p q. absurd (cc))
 
 -- before the walk enters an object, nothing remains
-pub first-walk : (walk : ArchiveWalk) → AreAllSettled walk → walk.levels.items ≡ [] → IsWalk walk
-first-walk walk s none = (s, rw none tt)
-
 pub left-at-first : (walk : ArchiveWalk) (uid : ℕ) → walk.levels.items ≡ []
     → events_at (objects_in walk) uid ++ events_left walk ≡ events_at (objects_in walk) uid
 left-at-first walk uid none =
@@ -132,20 +111,6 @@ left-at-first walk uid none =
     ∙ append-nil (events_at (objects_in walk) uid)
 
 -- ---- one step
-
--- an iterator over a value's events yields an event, or `OutOfMemory`
-pub event_left : (before after : Events) (item : Result Event Error) (event : Event)
-    → GivesEvent before (Some item) after → item ≡ Ok event
-    → remaining_events before ≡ event_of event ∷ remaining_events after
-event_left before after item event gives is =
-    event_comes (subst (λ i. GivesEvent before (Some i) after) is gives)
-
-pub memory_left : (before after : Events) (item : Result Event Error) (error : Error)
-    → GivesEvent before (Some item) after → item ≡ Err error
-    → (fault_of error ≡ fault_without_offset OutOfMemory)
-    × BeginsWithStart (remaining_events before) × (remaining_events after ≡ [])
-memory_left before after item error gives is =
-    memory_comes (subst (λ i. GivesEvent before (Some i) after) is gives)
 
 named-rest : (before after : List PlainEvent) (uids : List ℕ) → NameOnly (before ++ after) uids
     → NameOnly after uids

@@ -7,13 +7,13 @@ use Rattle.plist_base.specs.Events.{event_of}
 use Rattle.plist.proofs.PredictedItems.{predicted}
 use Rattle.plist_keyed.specs.Archives.{resolved_tree}
 use Rattle.plist_keyed.specs.inner.Walks.{IsWalk, end_in, events_at, events_left, objects_in, settled_in}
-use Rattle.plist_keyed.proofs.WalkSteps.{first-walk, left-at-first, settled-top}
+use Rattle.plist_keyed.proofs.WalkSteps.{left-at-first, settled-top}
 use Rattle.plist_keyed.proofs.WalkValues.{tree-read}
 use Rattle.plist_keyed.proofs.walk.value_at.Goals as goal
 
 pub enter-requires-clause-walk : goal.enter-requires-clause-walk
 enter-requires-clause-walk c =
-    first-walk c.check.new.self c.in_ok-check.ensures.settled c.in_ok-check.ensures.levels
+    (c.in_ok-check.ensures.settled, rw c.in_ok-check.ensures.levels tt)
 
 pub from_events-requires : goal.from_events-requires
 from_events-requires c = record {

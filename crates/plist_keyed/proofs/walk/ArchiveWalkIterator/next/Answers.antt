@@ -1,9 +1,9 @@
-use Rattle.std.proofs.Common.{◌≡◌, ◌∷◌, ◌∙◌, arith, sym}
+use Rattle.std.proofs.Common.{◌≡◌, ◌∷◌, ◌∙◌, Some, arith, subst, sym}
 use Rattle.std.proofs.lemmas.Grind.{common_steps}
 use Rattle.plist_base.specs.Events.{event_of}
-use Rattle.plist.proofs.GivenEvents.{none_comes}
-use Rattle.plist.specs.Events.{remaining_events}
-use Rattle.plist_keyed.proofs.WalkSteps.{emptied, event_left, memory_left, on-err, progresses, shorter}
+use Rattle.plist.proofs.GivenEvents.{event_comes, memory_comes, none_comes}
+use Rattle.plist.specs.Events.{GivesEvent, remaining_events}
+use Rattle.plist_keyed.proofs.WalkSteps.{emptied, on-err, progresses, shorter}
 use Rattle.plist_keyed.proofs.walk.ArchiveWalkIterator.next.Goals as goal
 use Rattle.plist_keyed.proofs.walk.ArchiveWalkIterator.next.Goals.{In-Ok}
 
@@ -13,8 +13,8 @@ loop-left-preserved-in_default-next c =
 
 pub returns-in-Err-clause-goes : goal.returns-in-Err-clause-goes
 returns-in-Err-clause-goes c =
-    let gives = memory_left c.in-Some.left c.next.new.self c.in-Some-next.item c.in-Err.error
-    c.in-Some-next.ensures.steps c.in-Err.is in
+    let gives = memory_comes (subst (λ i. GivesEvent c.in-Some.left (Some i) c.next.new.self)
+    c.in-Err.is c.in-Some-next.ensures.steps) in
     progresses _ _ _ (
       c.loop-left.invariant.walk.0,
       emptied c.loop-left.self c.pop.new.self.items
@@ -26,8 +26,8 @@ returns-in-Err-clause-goes c =
 -- the event that the innermost object's iterator yielded
 taken : (c : In-Ok) → remaining_events c.in-Some.left
     ≡ event_of c.in-Ok.event ∷ remaining_events c.next.new.self
-taken c = event_left c.in-Some.left c.next.new.self c.in-Some-next.item c.in-Ok.event
-    c.in-Some-next.ensures.steps c.in-Ok.is
+taken c = event_comes (subst (λ i. GivesEvent c.in-Some.left (Some i) c.next.new.self) c.in-Ok.is
+    c.in-Some-next.ensures.steps)
 
 pub returns-in_default-uid_of : goal.returns-in_default-uid_of
 returns-in_default-uid_of c =
