@@ -310,9 +310,6 @@ module _ (objects : List Tree) where
         let e : x ≡ t = cc in rw e (omega (arith, whole-some ts))
     within-whole (x ∷ ts) (suc n) t at = omega (arith, within-whole ts n t at)
 
-    nearer : (k w a b c : ℕ) → suc b < w → k * w + (b + c) < suc k * w + (a + c)
-    nearer k w a b c h = omega arith
-
     pub opens-nearer : (e : PlainEvent) (rest : List PlainEvent)
         (below : List (List PlainEvent)) (path : List ℕ) (n : ℕ) (object : Tree)
         → IsCheck start end uids (bracketing object ∷ rest ∷ below) (n ∷ path)

@@ -133,16 +133,6 @@ module _ (objects : List Tree) where
 
   -- ---- settled Uids
 
-  at-top : (uid : ℕ) (es : List PlainEvent)
-      → events_in bracketing (resolved_in [] uid) ≡ Ok es → es ≡ events_at objects uid
-  at-top uid es h = by (resolved_tree objects uid)
-      (ap (events_in bracketing) (sym (from-top uid)) ∙ h)
-    where
-      by : (r : Result Tree ArchiveFault) → events_in bracketing r ≡ Ok es
-          → es ≡ option_map_or bracketing (result_ok r) []
-      by (Ok t) p = cc
-      by (Err fault) p = absurd (cc)
-
   -- the trees of these Uids have the same events, whatever other objects are open
   abbrev HaveEvents : (uids : List ℕ) → Type 0
   HaveEvents uids =
@@ -169,7 +159,13 @@ module _ (objects : List Tree) where
     top-events : (uid : ℕ) (uids : List ℕ) (r : IsSettledAfter objects end uids uid)
         → HaveEvents uids → replaced_events objects (bracketing r.object) ≡ events_at objects uid
     top-events uid uids r same =
-        at-top uid _ (opens uid uids [] r same (path_none _) (λ u p q. absurd (cc)))
+        by (resolved_tree objects uid) (ap (events_in bracketing) (sym (from-top uid))
+        ∙ opens uid uids [] r same (path_none _) (λ u p q. absurd (cc)))
+      where
+        by : {es : List PlainEvent} (t : Result Tree ArchiveFault) → events_in bracketing t ≡ Ok es
+            → es ≡ option_map_or bracketing (result_ok t) []
+        by (Ok t) p = cc
+        by (Err fault) p = absurd (cc)
 
     pub settled-same : (uids : List ℕ) → AreSettled objects end uids → HaveEvents uids
     settled-same [] s uid member path o apart = absurd (cc)
