@@ -58,10 +58,7 @@ last_buffered before after event token is count =
 scalar_without : (event at : PlainEvent) → at ≡ without_length event → is_leaf at ≡ true
     → IsScalarEvent event × (at ≡ event)
 scalar_without (ScalarEvent scalar) at is leaf = (tt, is)
-scalar_without (StartArray hint) at is leaf = let never = ap is_leaf (sym is) ∙ leaf in absurd (cc)
-scalar_without (StartDictionary hint) at is leaf =
-    let never = ap is_leaf (sym is) ∙ leaf in absurd (cc)
-scalar_without EndCollection at is leaf = let never = ap is_leaf (sym is) ∙ leaf in absurd (cc)
+scalar_without event at is leaf = let never = ap is_leaf (sym is) ∙ leaf in absurd (cc)
 
 -- if the event at the index of a token is a scalar, it is the one that the token names
 pub named_scalar : (events : List PlainEvent) (token : ℕ) (event : PlainEvent)

@@ -8,11 +8,15 @@ use Rattle.std.proofs.lemmas.Str.{encodes-IsAscii, encodes-append}
 use Rattle.plist_base.specs.declared.fixed_buffer.FixedBuffer.{FixedBuffer}
 use Rattle.plist_base.specs.ByteTests.{EachByte}
 use Rattle.plist_base.proofs.ByteBlocks.{ascii_from_each}
+use Rattle.plist_decode.proofs.Utf16Writing.{encoded_four, encoded_three, encoded_two}
 use Rattle.plist_print.specs.EscapedLines.{escaped_byte, escaped_chars, escaped_text}
 use Rattle.plist_print.specs.declared.printer.Printer.{Printer}
 use Rattle.plist_print.specs.Printers.{PrintsBytes}
 use Rattle.plist_print.specs.Utf16Lines.{PushesChars}
 use Rattle.plist_print.proofs.Printers.{prints_as, prints_pushed}
+
+-- for the bytes of a character that isn't ASCII
+pub ruleset encoded = (encoded_two, encoded_three, encoded_four)
 
 -- the printed form of characters and more of them
 pub chars-append : (xs ys : List ℕ) → escaped_chars xs ++ escaped_chars ys ≡ escaped_chars (xs ++ ys)
@@ -39,6 +43,9 @@ pushes_block {a} block parts ascii pushed = record {
   pushed = pushed ∙ ap (λ l. a ++ escaped_text l)
       (sym (encodes-IsAscii block (ascii_from_each block ascii)));
 }
+
+-- for the next characters
+pub ruleset pushes_next = (pushes_one, pushes_block)
 
 -- characters are pushed, and then others
 pub pushes_then : {a b c : FixedBuffer} {all chars rest : List ℕ}

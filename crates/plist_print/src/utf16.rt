@@ -26,7 +26,7 @@ fn push_escapes(line: &mut FixedBuffer, bytes: &[u8])
 
 // Pushes the printed form of a character: of its bytes in UTF-8.
 #[inline(always)]
-#[tactic(auto, using(plist_decode::proofs::Utf16Writing::encoded_two, plist_decode::proofs::Utf16Writing::encoded_three, plist_decode::proofs::Utf16Writing::encoded_four))]
+#[tactic(auto, using(crate::proofs::Utf16Lines::encoded))]
 fn push_char(line: &mut FixedBuffer, c: char)
     requires { 16 ≤ room line.old }
     ensures pushed { line.new ≡ line.old ++ escaped_text (encode_utf8 c) }
@@ -54,7 +54,7 @@ fn push_char(line: &mut FixedBuffer, c: char)
 // Pushes the printed form of the next eight characters if all of them are ASCII, or else that of
 // the next one. Returns whether there was one.
 #[inline(always)]
-#[tactic(auto, using(crate::proofs::Utf16Lines::pushes_block, crate::proofs::Utf16Lines::pushes_one))]
+#[tactic(auto, using(crate::proofs::Utf16Lines::pushes_next))]
 fn push_next(line: &mut FixedBuffer, chars: &mut Utf16Chars<'_>) -> bool
     requires { 32 ≤ room line.old }
     ensures pushed { PushesChars (line.old, chars_left chars.old) (line.new, chars_left chars.new) }
