@@ -1,5 +1,5 @@
 use Rattle.std.proofs.Common.{refl}
-use Rattle.plist_reader.proofs.AsciiTurns.{ascii_turn}
+use Rattle.plist_reader.proofs.Turns.{ascii_turn}
 use Rattle.plist_reader.proofs.reader.Reader.hand_over.Goals as goal
 
 pub returns-in-Ascii-clause-turn : goal.returns-in-Ascii-clause-turn

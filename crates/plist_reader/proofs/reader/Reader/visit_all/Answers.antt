@@ -4,7 +4,7 @@ use Rattle.plist_base.proofs.Visits.{hands_more}
 use Rattle.plist_base.specs.Visits.{HandsOverAll, YieldsPlain}
 use Rattle.plist_reader.specs.Reader.{Gives}
 use Rattle.plist_reader.specs.declared.reader.State.{State}
-use Rattle.plist_reader.proofs.BinaryTurns.{binary_visit, visits_then}
+use Rattle.plist_reader.proofs.Turns.{binary_visit, visits_then}
 use Rattle.plist_reader.proofs.reader.Reader.visit_all.Goals as goal
 
 pub returns-in-Binary : goal.returns-in-Binary
