@@ -8,7 +8,6 @@ use Rattle.plist_reader.specs.declared.bytes.BufferedSource.{BufferedSource}
 use Rattle.plist_base.specs.Events.{Item, event_of}
 use Rattle.std.specs.Prelude.{IfErr, ⊤}
 use Rattle.plist_base.specs.declared.limited_items.LimitedItems.{LimitedItems}
-use Rattle.plist_base.specs.declared.limits.Limit.{Limit}
 use Rattle.plist_base.specs.declared.limits.Limits.{Limits}
 use Rattle.plist_base.specs.declared.limits.LimitCounter.{LimitCounter}
 use Rattle.plist_base.specs.Allowances.{PassesNext as PassesAllowed, iterator_of}
@@ -18,7 +17,7 @@ use Rattle.plist_base.specs.Sequential.{from_place, sequential_place}
 use Rattle.plist_base.specs.Sources.{CountsIo}
 use Rattle.plist_base.specs.FirstItems.{MatchItem, StopsIf}
 use Rattle.plist_base.proofs.FirstItems.{first_allowed_if_known, first_weaker_if_known, none_allowed}
-use Rattle.plist_base.proofs.Refusals.{MatchFault-weaker}
+use Rattle.plist_base.proofs.Refusals.{MatchFault-at, MatchFault-weaker}
 use Rattle.plist_binread.proofs.LimitedSteps.{limits_remain}
 use Rattle.plist_binread.proofs.ReaderLimits.{is_limit}
 use Rattle.plist_decode.specs.FaultOffsets.{HasOffset, MatchGiven}
@@ -61,12 +60,6 @@ ascii-ends E (Some (Err error)) h k = by (kind_of (error_kind_of error)) h k
 
 -- ---- which faults there are, and their offsets
 
-same-count : (a b : ℕ) → Some b ≡ Some a → b ≡ a
-same-count a b e = cc
-
-some-place : (offset : Option ℕ) (place : ℕ) → offset ≡ Some place → HasOffset offset
-some-place offset place is = rw is tt
-
 ascii-faults : (limited : Bool) (place : ℕ) (item : Given) → HasKind item
     → IfSome item (λ answer. IfErr answer (λ error. let taken = offset_of error ≡ Some place in
     MatchFault (fault_of error).kind taken (offset_of error ≡ None) taken))
@@ -81,18 +74,18 @@ ascii-faults limited place (Some (Err error)) k h =
         → (((kind ≡ XmlUnsupported) ⊎ IsFaultOfBytes kind) × HasOffset offset)
         ⊎ MatchGiven kind (HasOffset offset) (offset ≡ None) (HasOffset offset)
         ((limited ≡ true) × (offset ≡ None))
-    by Io offset k p = inr (some-place offset place p)
+    by Io offset k p = inr (rw p tt)
     by OutOfMemory offset k p = inr p
-    by kind offset k p = inl (inr k, some-place offset place p)
+    by kind offset k p = inl (inr k, rw p tt)
 
 -- if both counts exist, a fact about optional counts is one about them
 pub counted-failures : (a b : ℕ) (item : Given) → let same = Some b ≡ Some a in
     MatchItem item same (λ _. same) (RisesIfCounted (Some a) (Some b)) same (λ _. same)
     → CountsIo item a b
-counted-failures a b None h = same-count a b h
-counted-failures a b (Some (Ok event)) h = same-count a b h
+counted-failures a b None h = cc
+counted-failures a b (Some (Ok event)) h = cc
 counted-failures a b (Some (Err error)) h =
-    MatchFault-weaker (kind_of (error_kind_of error)) (λ r. r) (same-count a b) (same-count a b) h
+    MatchFault-weaker (kind_of (error_kind_of error)) (λ r. r) (λ e. cc) (λ e. cc) h
 
 -- ---- the items that remain before the first call
 
@@ -117,40 +110,6 @@ PassesNext old asked item new ended =
 abbrev come : Bool → LimitCounter → List Item → List Item
 come ended limiter items = cond ended [] (limited_by limiter items)
 
-limit-other : (kind : FaultKind) (limit : Limit) (X Y Z : Type 0) → kind ≡ LimitReached limit → Z
-    → MatchFault kind X Y Z
-limit-other kind limit X Y Z is z = rw is z
-
-module _ (now : Bool) (old new : LimitCounter) where
-  passes-count : (asked item : Given) (a b : ℕ) → CountsIo asked a b
-      → PassesNext old asked item new now → CountsIo item a b
-  passes-count None item a b h p = rw p.0 h
-  passes-count (Some (Ok asked)) None a b h p = absurd p
-  passes-count (Some (Ok asked)) (Some (Ok passed)) a b h p = h
-  passes-count (Some (Ok asked)) (Some (Err error)) a b h p =
-      limit-other (fault_of error).kind p.0.0.0 _ _ _ (ap (λ (f : Fault). f.kind) p.0.0.1) h
-  passes-count (Some (Err fault)) None a b h p = absurd p
-  passes-count (Some (Err fault)) (Some given) a b h p = rw p.0 h
-
-  passes-faults : (asked item : Given) → IsReaderItem true asked → PassesNext old asked item new now
-      → IsReaderItem true item
-  passes-faults None item h p = rw p.0 tt
-  passes-faults (Some (Ok asked)) None h p = absurd p
-  passes-faults (Some (Ok asked)) (Some (Ok passed)) h p = tt
-  passes-faults (Some (Ok asked)) (Some (Err error)) h p =
-      subst (IsReaderFault true) (sym p.0.0.1) (inr (refl, refl))
-  passes-faults (Some (Err fault)) None h p = absurd p
-  passes-faults (Some (Err fault)) (Some given) h p = rw p.0 h
-
-  passes-ends : (asked item : Given) → PassesNext old asked item new now
-      → EndsAfter item (now ≡ true)
-  passes-ends None item p = rw p.0 p.2
-  passes-ends (Some (Ok asked)) None p = absurd p
-  passes-ends (Some (Ok asked)) (Some (Ok passed)) p = tt
-  passes-ends (Some (Ok asked)) (Some (Err error)) p = inr p.1
-  passes-ends (Some (Err fault)) None p = absurd p
-  passes-ends (Some (Err fault)) (Some given) p = rw p.0 (inr p.1)
-
 -- without limits, each event is admitted, and no fault is that of a limit
 no-limit : (fault : Fault) (P : Type 0) → IsReaderFault false fault → IfLimitReached fault.kind P
 no-limit fault P h = by fault.kind h
@@ -168,40 +127,49 @@ all-admitted None h = tt
 all-admitted (Some (Ok event)) h = λ items. refl
 all-admitted (Some (Err error)) h = no-limit (fault_of error) _ h
 
--- the limits admit an event that is passed on, and a limit's fault replaces one that they don't
-passes-admitted : (was now : Bool) (old new : LimitCounter) (asked item : Given) → was ≡ false
-    → IsReaderItem false asked → PassesNext old asked item new now
-    → KeepsLimits event_of (come was old) item (come now new)
-passes-admitted was now old new None item going h p = rw p.0 tt
-passes-admitted was now old new (Some (Ok asked)) None going h p = absurd p
-passes-admitted was now old new (Some (Ok asked)) (Some (Ok passed)) going h p =
-    λ items. rw (going, p.2, p.0) (p.1 items)
-passes-admitted was now old new (Some (Ok asked)) (Some (Err error)) going h p =
-    rw going (is_limit (fault_of error) _ p.0.0 (event_of asked, p.0))
-passes-admitted was now old new (Some (Err fault)) None going h p = absurd p
-passes-admitted was now old new (Some (Err fault)) (Some given) going h p =
-    rw p.0 (no-limit (fault_of fault) _ h)
+-- What the limits pass on is the item that was asked for, or a limit's fault in place of an event
+-- that they don't admit.
+passed-on : (was now : Bool) (old new : LimitCounter) (asked item : Given) (a b : ℕ) → was ≡ false
+    → CountsIo asked a b → ((limited : Bool) → IsReaderItem limited asked)
+    → PassesNext old asked item new now
+    → CountsIo item a b × IsReaderItem true item × EndsAfter item (now ≡ true)
+    × KeepsLimits event_of (come was old) item (come now new)
+passed-on was now old new None item a b going n h p = rw p.0 (n, tt, p.2, tt)
+passed-on was now old new (Some (Ok asked)) None a b going n h p = absurd p
+passed-on was now old new (Some (Ok asked)) (Some (Ok passed)) a b going n h p =
+    (n, tt, tt, λ items. rw (going, p.2, p.0) (p.1 items))
+passed-on was now old new (Some (Ok asked)) (Some (Err error)) a b going n h p = (
+  MatchFault-at _ (LimitReached p.0.0.0) _ _ _ (ap (λ (f : Fault). f.kind) p.0.0.1) n,
+  subst (IsReaderFault true) (sym p.0.0.1) (inr (refl, refl)),
+  inr p.1,
+  rw going (is_limit (fault_of error) _ p.0.0 (event_of asked, p.0)),
+)
+passed-on was now old new (Some (Err fault)) None a b going n h p = absurd p
+passed-on was now old new (Some (Err fault)) (Some given) a b going n h p =
+    rw p.0 (n, h true, inr p.1, no-limit (fault_of fault) _ (h false))
 
--- a reader of ASCII that has yielded nothing has all items of its source left
-fresh-text : {R : Type 0} (known : R → Option (List ℕ)) (dialect : Dialect) (source : R) (sequence : BufferedSource R) (reader : AsciiReaderOf R)
-    → buffered_source sequence ≡ source → sequential_place sequence.inner ≡ 0
-    → buffered_bytes sequence ≡ []
-    → IfSome (known source) (λ bytes. format.Ascii ≡ format_of bytes)
-    → ascii.untaken_bytes (stream_bytes_left known) reader
-    ≡ option_map input_front (stream_bytes_left known sequence)
-    → ascii.place_of reader ≡ 0 → ascii.dialect_of reader ≡ dialect
-    → ascii.ascii_items_to_come (stream_bytes_left known) reader ≡ option_map (items_of_dialect dialect) (known source)
-fresh-text known dialect source sequence reader from at none is bytes place chosen =
-    ap (λ d. option_map (λ b. items_of_ascii (ends_bare d) b (ascii.place_of reader))
-    (ascii.untaken_bytes (stream_bytes_left known) reader)) chosen
-    ∙ (λ i. option_map (λ b. items_of_ascii (ends_bare dialect) b (place i)) (bytes i))
-    ∙ ap (λ p. option_map (λ b. items_of_ascii (ends_bare dialect) b 0)
-    (option_map input_front (prepend_known (buffered_bytes sequence)
-    (option_map (from_place p) (known (buffered_source sequence)))))) at
-    ∙ ap (λ w. option_map (λ b. items_of_ascii (ends_bare dialect) b 0)
-    (option_map input_front (prepend_known w
-    (option_map (from_place 0) (known (buffered_source sequence)))))) none
-    ∙ ascii-items dialect _ (known (buffered_source sequence)) (ap known from) is
+-- a reader of ASCII that has yielded nothing reads this source, in this dialect
+pub record IsFresh {R : Type 0} (known : R → Option (List ℕ)) (source : R) (dialect : Dialect)
+    (sequence : BufferedSource R) (reader : AsciiReaderOf R) : Type 0 where
+  pub from : buffered_source sequence ≡ source
+  pub inside : ascii.device_of reader ≡ sequence
+  pub at : sequential_place sequence.inner ≡ 0
+  pub none : buffered_bytes sequence ≡ []
+  pub is : IfSome (known source) (λ bytes. format.Ascii ≡ format_of bytes)
+  pub bytes : ascii.untaken_bytes (stream_bytes_left known) reader
+      ≡ option_map input_front (stream_bytes_left known sequence)
+  pub place : ascii.place_of reader ≡ 0
+  pub chosen : ascii.dialect_of reader ≡ dialect
+
+-- it has all items of its source left
+fresh-text : {R : Type 0} (known : R → Option (List ℕ)) (dialect : Dialect) (source : R)
+    (sequence : BufferedSource R) (reader : AsciiReaderOf R)
+    → IsFresh known source dialect sequence reader
+    → ascii.ascii_items_to_come (stream_bytes_left known) reader
+    ≡ option_map (items_of_dialect dialect) (known source)
+fresh-text known dialect source sequence reader f =
+    (λ i. option_map (λ b. items_of_ascii (ends_bare (f.chosen i)) b (f.place i)) (f.bytes i))
+    ∙ rw (f.none, f.at) (ascii-items dialect _ (known (buffered_source sequence)) (ap known f.from) f.is)
 
 joined : (limits : Limits) (dialect : Dialect) (k : Option (List ℕ))
     → option_map (limited_items limits) (option_map (items_of_dialect dialect) k)
@@ -262,6 +230,9 @@ module _ {R : Type 0} {g : Ghosts R} (known : R → Option (List ℕ)) (failed :
       by true over (none, same) = rw (same, none) (over-gives old over)
       by false going (asked, gave, passes) =
           let given = ascii-gives old.inner new.inner asked gave in
+          let (failures, faults, ends, admitted) = passed-on old.ended new.ended old.limiter
+          new.limiter asked item _ _ going given.failures (λ limited.
+          ascii-faults limited (ascii.place_of new.inner) asked gave.inner.kinds gave.inner.offset) passes in
           record {
             items = first_allowed_if_known limited_by IsLimitReached (StopsIf (λ _. ⊤))
                 (StopsIf SomeRemain) (StopsIf (λ _. ⊤)) (StopsIf SomeRemain) (λ limiter. refl)
@@ -271,67 +242,36 @@ module _ {R : Type 0} {g : Ghosts R} (known : R → Option (List ℕ)) (failed :
                 (ascii.ascii_items_to_come (stream_bytes_left known) old.inner)
                 (ascii.ascii_items_to_come (stream_bytes_left known) new.inner) asked
                 item going given.items passes;
-            failures = passes-count new.ended old.limiter new.limiter asked item
-                (failed (buffered_source (ascii.device_of old.inner)))
-                (failed (buffered_source (ascii.device_of new.inner))) given.failures passes;
+            failures = failures;
             state = record {
               ended = λ over. (let no : false ≡ true → item ≡ None = λ q. cc in no (cc));
-              ends = passes-ends new.ended old.limiter new.limiter asked item passes;
+              ends = ends;
             };
-            inner = record {
-              admitted = passes-admitted old.ended new.ended old.limiter new.limiter asked item
-                  going (ascii-faults false (ascii.place_of new.inner) asked gave.inner.kinds
-                  gave.inner.offset) passes;
-              faults = passes-faults new.ended old.limiter new.limiter asked item
-                  (ascii-faults true (ascii.place_of new.inner) asked gave.inner.kinds
-                  gave.inner.offset) passes;
-              limits = λ none. none;
-              inside = h;
-            };
+            inner = record { admitted = admitted; faults = faults; limits = λ none. none; inside = h };
           }
 
-  pub begun-ascii : (source : R) (dialect : Dialect) (sequence : BufferedSource R) (old new : AsciiReaderOf R) (item : Given)
-      → buffered_source sequence ≡ source → ascii.device_of old ≡ sequence
-      → sequential_place sequence.inner ≡ 0
-      → buffered_bytes sequence ≡ [] → IfSome (known source) (λ bytes. format.Ascii ≡ format_of bytes)
-      → ascii.untaken_bytes (stream_bytes_left known) old ≡ option_map input_front
-      (stream_bytes_left known sequence)
-      → ascii.place_of old ≡ 0 → ascii.dialect_of old ≡ dialect
+  pub begun-ascii : (source : R) (dialect : Dialect) (sequence : BufferedSource R)
+      (old new : AsciiReaderOf R) (item : Given) → IsFresh known source dialect sequence old
       → AsciiGives known failed old item new
       → StateGives {R = R} {g = g} known failed (state.Unread source None dialect) item
       (state.Ascii new)
-  begun-ascii source dialect sequence old new item from inside at none is bytes place chosen h =
-      let kept : buffered_source (ascii.device_of old) ≡ source = ap buffered_source inside ∙ from in
-      chosen-gives {g = g} known failed source None dialect (state.Ascii old) (state.Ascii new) item
-      (fresh-text known dialect source sequence old from at none is bytes place chosen) refl refl
-      (subst (λ n. CountsIo item n (failed (buffered_source (ascii.device_of new))))
-      (ap (λ (s : BufferedSource R). failed (buffered_source s)) inside ∙ ap failed from)
-      (counted-failures _ _ item h.failures))
-      (old, (ap known kept, ap failed kept), place, chosen, refl, h) (ascii-gives old new item h)
+  begun-ascii source dialect sequence old new item f h =
+      let kept : buffered_source (ascii.device_of old) ≡ source = ap buffered_source f.inside ∙ f.from in
+      chosen-gives {g = g} known failed source _ None dialect (state.Ascii old) (state.Ascii new) item
+      refl (ap known kept) (ap failed kept) (fresh-text known dialect source sequence old f) refl refl
+      (old, (refl, refl), f.place, f.chosen, refl, h) (ascii-gives old new item h)
 
-  pub begun-limited : (source : R) (limits : Limits) (dialect : Dialect) (sequence : BufferedSource R) (fresh : AsciiReaderOf R)
-      (old new : LimitedItems (AsciiReaderOf R) LimitCounter) (item : Given) → items_admitted old ≡ limited_items limits
-      → iterator_of old ≡ fresh → buffered_source sequence ≡ source
-      → ascii.device_of fresh ≡ sequence → sequential_place sequence.inner ≡ 0 → buffered_bytes sequence ≡ []
-      → IfSome (known source) (λ bytes. format.Ascii ≡ format_of bytes)
-      → ascii.untaken_bytes (stream_bytes_left known) fresh
-      ≡ option_map input_front (stream_bytes_left known sequence)
-      → ascii.place_of fresh ≡ 0 → ascii.dialect_of fresh ≡ dialect
+  pub begun-limited : (source : R) (limits : Limits) (dialect : Dialect) (sequence : BufferedSource R)
+      (old new : LimitedItems (AsciiReaderOf R) LimitCounter) (item : Given)
+      → items_admitted old ≡ limited_items limits
+      → IsFresh known source dialect sequence (iterator_of old)
       → GivesLimited (AsciiGives known failed) old item new
       → StateGives {R = R} {g = g} known failed (state.Unread source (Some limits) dialect) item
       (state.Limited new)
-  begun-limited source limits dialect sequence fresh old new item come is-fresh from inside at none
-      is bytes place chosen h =
-      let gives = limited-gives old new item h in
+  begun-limited source limits dialect sequence old new item come f h =
       let kept : buffered_source (ascii.device_of (iterator_of old)) ≡ source =
-      ap (λ (r : AsciiReaderOf R). buffered_source (ascii.device_of r)) is-fresh
-      ∙ ap buffered_source inside ∙ from in
-      chosen-gives {g = g} known failed source (Some limits) dialect (state.Limited old) (state.Limited new) item
-      ((λ i. option_map (come i) (ascii.ascii_items_to_come (stream_bytes_left known) (is-fresh i)))
-      ∙ ap (option_map (limited_items limits))
-      (fresh-text known dialect source sequence fresh from at none is bytes place chosen)
-      ∙ joined limits dialect (known source)) refl come
-      (subst (λ n. CountsIo item n (failed (buffered_source (ascii.device_of (iterator_of new)))))
-      (ap (λ (r : AsciiReaderOf R). failed (buffered_source (ascii.device_of r))) is-fresh
-      ∙ ap (λ (s : BufferedSource R). failed (buffered_source s)) inside ∙ ap failed from) gives.failures)
-      (old, (ap known kept, ap failed kept), ap ascii.place_of is-fresh ∙ place, ap ascii.dialect_of is-fresh ∙ chosen, refl, h) gives
+      ap buffered_source f.inside ∙ f.from in
+      chosen-gives {g = g} known failed source _ (Some limits) dialect (state.Limited old) (state.Limited new) item
+      refl (ap known kept) (ap failed kept)
+      (rw (come, fresh-text known dialect source sequence (iterator_of old) f) (joined limits dialect (known source)))
+      refl come (old, (refl, refl), f.place, f.chosen, refl, h) (limited-gives old new item h)

@@ -1,5 +1,5 @@
 -- What the reader of the binary format yields as the chosen one.
-use Rattle.std.proofs.Common.{◌≡◌, ℕ, ◌^◌, Bool, true, false, List, [], ◌∷◌, Option, None, Some, Ok, Err, IfSome, OnErr, MatchOption, inr, ap, ◌∙◌, subst}
+use Rattle.std.proofs.Common.{◌≡◌, ℕ, ◌^◌, Bool, true, false, List, [], ◌∷◌, Option, None, Some, Ok, Err, IfSome, OnErr, MatchOption, inr, ap, ◌∙◌, refl}
 use Rattle.std.specs.Option.{is_some, option_map}
 use Rattle.plist_base.specs.declared.source.Source.{Ghosts}
 use Rattle.plist_base.specs.Events.{Item, event_of}
@@ -10,7 +10,7 @@ use Rattle.std.proofs.lemmas.Option.{IfSome_then}
 use Rattle.plist_base.specs.declared.limits.Limits.{Limits}
 use Rattle.plist_base.specs.Limits.{items_within}
 use Rattle.plist_base.specs.Faults.{FaultKind, Io, UnexpectedEof}
-use Rattle.plist_base.specs.Sources.{CountsIo, IsOffsetWithin}
+use Rattle.plist_base.specs.Sources.{IsOffsetWithin}
 use Rattle.plist_binread.specs.BinaryReader as binary
 use Rattle.plist_decode.specs.FaultOffsets.{HasOffset, MatchGiven, ItemGivenWithin}
 use Rattle.plist_binread.specs.Remaining.{SomeRemain, AllocatesFirst, AllocatesNext}
@@ -105,10 +105,8 @@ module _ {R : Type 0} {g : Ghosts R} where
       → binary.GivesBinary old item new
       → StateGives g.known g.failures (state.Unread source limits dialect) item (state.Binary new)
   begun-binary source limits dialect old new item at fresh limited is begins admits h =
-      chosen-gives {g = g} g.known g.failures source limits dialect (state.Binary old) (state.Binary new) item
+      chosen-gives {g = g} g.known g.failures source _ limits dialect (state.Binary old) (state.Binary new) item
+      refl (ap g.known at) (ap g.failures at)
       (begins ∙ same-items (g.known source) _ (input_within dialect limits)
       (IfSome_then (g.known source) is (λ bytes is. file-input limits dialect bytes is)))
-      limited admits
-      (subst (λ n. CountsIo item n (g.failures (binary.binary_source new)))
-      (ap g.failures at) h.failures)
-      (old, (ap g.known at, ap g.failures at), fresh, limited, h) (binary-gives old new item h)
+      limited admits (old, (refl, refl), fresh, limited, h) (binary-gives old new item h)

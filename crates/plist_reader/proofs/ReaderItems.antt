@@ -9,11 +9,11 @@ use Rattle.plist_base.specs.Events.{Item, event_of}
 use Rattle.plist_base.specs.FirstItems.{GivesFirst, GivesFirstIfKnown, StopsIf}
 use Rattle.plist_base.specs.declared.limits.Limits.{Limits}
 use Rattle.plist_base.specs.Limits.{IfLimitReached, KeepsLimits, items_within, limited_items}
-use Rattle.plist_base.specs.Faults.{FaultKind, Fault, Io, LimitReached, MatchFault, XmlUnsupported, IsIo, fault_at, kind_of, error_kind_of, fault_of}
+use Rattle.plist_base.specs.Faults.{FaultKind, Fault, Io, LimitReached, XmlUnsupported, IsIo, fault_at, kind_of, error_kind_of, fault_of}
 use Rattle.plist_base.specs.Outcomes.{IfFault}
 use Rattle.plist_base.specs.Sources.{CountsIo}
 use Rattle.plist_base.specs.Visits.{PlainItem, YieldsPlain}
-use Rattle.plist_base.proofs.Refusals.{MatchFault-weaker}
+use Rattle.plist_base.proofs.Refusals.{MatchFault-at, MatchFault-from_io}
 use Rattle.plist_base.proofs.VisitedItems.{Comes, plain_comes}
 use Rattle.plist_decode.specs.FaultOffsets.{HasOffset, MatchGiven}
 use Rattle.plist_ascii.specs.Ascii.{IsFaultOfBytes}
@@ -76,17 +76,14 @@ pub same-items : (k : Option (List ℕ)) (f g : List ℕ → List Item)
 same-items None f g h = refl
 same-items (Some bytes) f g h = ap Some h
 
-xml-other : (kind : FaultKind) (X Y Z : Type 0) → kind ≡ XmlUnsupported → Z → MatchFault kind X Y Z
-xml-other kind X Y Z is z = rw is z
-
 -- for XML the error is the only item
-pub xml-items : (k : Option (List ℕ)) (limits : Option Limits) (dialect : Dialect) (place : ℕ) (error : Error)
+xml-items : (k : Option (List ℕ)) (limits : Option Limits) (dialect : Dialect) (place : ℕ) (error : Error)
     → fault_of error ≡ fault_at XmlUnsupported place
     → IfSome k (λ bytes. format.Xml place ≡ format_of bytes)
     → IfSome k (λ bytes. First (input_within dialect limits bytes) (Some (Err error)) [])
 xml-items None limits dialect place error is h = tt
 xml-items (Some bytes) limits dialect place error is h =
-    xml-other _ _ _ _ (ap (λ (f : Fault). f.kind) is)
+    MatchFault-at _ XmlUnsupported _ _ _ (ap (λ (f : Fault). f.kind) is)
     (within limits ∙ ap (λ f. Err f ∷ []) (sym is))
   where
     within : (limits : Option Limits)
@@ -94,29 +91,15 @@ xml-items (Some bytes) limits dialect place error is h =
     within None = ap (λ f. items_in_format dialect f bytes) (sym h)
     within (Some limits) = ap (λ f. limited_items limits (items_in_format dialect f bytes)) (sym h)
 
-pub xml-kind : (place : ℕ) (error : Error) → fault_of error ≡ fault_at XmlUnsupported place
-    → IsRefusedKind (kind_of (error_kind_of error))
-xml-kind place error is = inl (ap (λ (f : Fault). f.kind) is)
-
-pub xml-counts : (place a b : ℕ) (error : Error) → fault_of error ≡ fault_at XmlUnsupported place
-    → b ≡ a → CountsIo {A = Event} (Some (Err error)) a b
-xml-counts place a b error is same =
-    let kind = ap (λ (f : Fault). f.kind) is in rw kind same
-
-pub xml-fault : (limited : Bool) (place : ℕ) (error : Error)
-    → fault_of error ≡ fault_at XmlUnsupported place → IsReaderFault limited (fault_of error)
-xml-fault limited place error is = subst (IsReaderFault limited) (sym is) (inl (inl refl, tt))
-
 -- a read failed
-pub io-items : (k : Option (List ℕ)) (limits : Option Limits) (dialect : Dialect) (error : Error)
+io-items : (k : Option (List ℕ)) (limits : Option Limits) (dialect : Dialect) (error : Error)
     → IsIo (kind_of (error_kind_of error))
     → IfSome k (λ bytes. First (input_within dialect limits bytes) (Some (Err error)) [])
 io-items None limits dialect error io = tt
 io-items (Some bytes) limits dialect error io =
-    MatchFault-weaker (kind_of (error_kind_of error)) (λ _. (tt, refl)) (λ none. absurd none)
-    (λ none. absurd none) io
+    MatchFault-from_io (kind_of (error_kind_of error)) _ _ _ io (tt, refl)
 
-pub io-fault : (limited : Bool) (error : Error) → IsIo (kind_of (error_kind_of error))
+io-fault : (limited : Bool) (error : Error) → IsIo (kind_of (error_kind_of error))
     → HasOffset (fault_of error).offset → IsReaderFault limited (fault_of error)
 io-fault limited error io place = inr (placed _ _ io place)
   where
@@ -127,26 +110,6 @@ io-fault limited error io place = inr (placed _ _ io place)
     placed kind offset io place = absurd io
 
 module _ {R : Type 0} {g : Ghosts R} (known : R → Option (List ℕ)) (failed : R → ℕ) where
-  -- what is yielded in a state with the same items and source is yielded before the choice, too
-  pub chosen-gives : (source : R) (limits : Option Limits) (dialect : Dialect) (old new : State R g) (item : Given)
-      → state_items known old ≡ option_map (input_within dialect limits) (known source)
-      → is_limited_in old ≡ is_some limits → admitted_in old ≡ items_within limits
-      → HoldsSource failed (Some source) item (source_in new)
-      → BeginsInside known failed (source, limits, dialect) item new → StateGives known failed old item new
-      → StateGives known failed (state.Unread source limits dialect) item new
-  chosen-gives source limits dialect old new item same limited admits count inside h = record {
-    items = subst (λ o. FirstIfKnown o item (state_items known new)) same h.items;
-    failures = count;
-    state = record { ended = λ e. absurd e; ends = h.state.ends };
-    inner = record {
-      admitted = subst (λ lets. KeepsLimits event_of lets item (admitted_in new)) admits
-          h.inner.admitted;
-      faults = subst (λ b. IsReaderItem b item) limited h.inner.faults;
-      limits = λ none. h.inner.limits (limited ∙ none);
-      inside = inside;
-    };
-  }
-
   -- a reader of a source is one of each source with the same bytes and the same count of failures
   begun-other : (source other : R) (limits : Option Limits) (dialect : Dialect) (new : State R g) (item : Given)
       → known other ≡ known source → failed other ≡ failed source
@@ -161,23 +124,44 @@ module _ {R : Type 0} {g : Ghosts R} (known : R → Option (List ℕ)) (failed :
   begun-other source other limits dialect (state.Refused refused) item e f h = h
   begun-other source other limits dialect new item e f h = absurd h
 
+  -- What is yielded in a state with the same items, and with a source of the same bytes and the same
+  -- count of failures, is yielded before the choice, too.
+  pub chosen-gives : (source other : R) (limits : Option Limits) (dialect : Dialect) (old new : State R g) (item : Given)
+      → source_in old ≡ Some other → known other ≡ known source → failed other ≡ failed source
+      → state_items known old ≡ option_map (input_within dialect limits) (known source)
+      → is_limited_in old ≡ is_some limits → admitted_in old ≡ items_within limits
+      → BeginsInside known failed (other, limits, dialect) item new → StateGives known failed old item new
+      → StateGives known failed (state.Unread source limits dialect) item new
+  chosen-gives source other limits dialect old new item at e f same limited admits inside h = record {
+    items = subst (λ o. FirstIfKnown o item (state_items known new)) same h.items;
+    failures = count (source_in new)
+        (subst (λ o. HoldsSource failed o item (source_in new)) at h.failures);
+    state = record { ended = λ e. absurd e; ends = h.state.ends };
+    inner = record {
+      admitted = subst (λ lets. KeepsLimits event_of lets item (admitted_in new)) admits
+          h.inner.admitted;
+      faults = subst (λ b. IsReaderItem b item) limited h.inner.faults;
+      limits = λ none. h.inner.limits (limited ∙ none);
+      inside = begun-other source other limits dialect new item e f inside;
+    };
+  }
+    where
+      count : (kept : Option R) → HoldsSource failed (Some other) item kept
+          → HoldsSource failed (Some source) item kept
+      count None h = h
+      count (Some kept) h = subst (λ n. CountsIo item n (failed kept)) f h
+
   -- a source with the same bytes and the same count of failures yields the same
   pub other-source : (source other : R) (limits : Option Limits) (dialect : Dialect) (new : State R g) (item : Given)
       → known other ≡ known source → failed other ≡ failed source
       → StateGives known failed (state.Unread other limits dialect) item new
       → StateGives known failed (state.Unread source limits dialect) item new
   other-source source other limits dialect new item e f h =
-      chosen-gives source limits dialect (state.Unread other limits dialect) new item
-      (ap (option_map (input_within dialect limits)) e) refl refl (is-kept (source_in new) h.failures)
-      (begun-other source other limits dialect new item e f h.inner.inside) h
-    where
-      is-kept : (kept : Option R) → HoldsSource failed (Some other) item kept
-          → HoldsSource failed (Some source) item kept
-      is-kept None h = h
-      is-kept (Some kept) h = subst (λ n. CountsIo item n (failed kept)) f h
+      chosen-gives source other limits dialect (state.Unread other limits dialect) new item refl e f
+      (ap (option_map (input_within dialect limits)) e) refl refl h.inner.inside h
 
   -- if the choice fails, its error is yielded
-  pub refused-gives : (source other : R) (limits : Option Limits) (dialect : Dialect) (error : Error)
+  refused-gives : (source other : R) (limits : Option Limits) (dialect : Dialect) (error : Error)
       → IfSome (known source) (λ bytes. First (input_within dialect limits bytes) (Some (Err error)) [])
       → IsRefusedKind (kind_of (error_kind_of error))
       → CountsIo {A = Event} (Some (Err error)) (failed source) (failed other)
@@ -201,6 +185,29 @@ module _ {R : Type 0} {g : Ghosts R} (known : R → Option (List ℕ)) (failed :
           → FirstIfKnown (option_map (input_within dialect limits) k) (Some (Err error)) (Some [])
       empty None h = tt
       empty (Some bytes) h = ([], refl, h)
+
+  -- the source is XML
+  pub xml-gives : (source other : R) (limits : Option Limits) (dialect : Dialect) (place : ℕ) (error : Error)
+      → fault_of error ≡ fault_at XmlUnsupported place
+      → IfSome (known source) (λ bytes. format.Xml place ≡ format_of bytes) → failed other ≡ failed source
+      → StateGives {R = R} {g = g} known failed (state.Unread source limits dialect) (Some (Err error))
+      (state.Refused other)
+  xml-gives source other limits dialect place error is begins same =
+      let kind = ap (λ (f : Fault). f.kind) is in
+      refused-gives source other limits dialect error
+      (xml-items (known source) limits dialect place error is begins) (inl kind)
+      (MatchFault-at _ XmlUnsupported _ _ _ kind same)
+      (subst (IsReaderFault (is_some limits)) (sym is) (inl (inl refl, tt)))
+
+  -- a read failed
+  pub io-gives : (source other : R) (limits : Option Limits) (dialect : Dialect) (error : Error)
+      → IsIo (kind_of (error_kind_of error)) → HasOffset (fault_of error).offset
+      → CountsIo {A = Event} (Some (Err error)) (failed source) (failed other)
+      → StateGives {R = R} {g = g} known failed (state.Unread source limits dialect) (Some (Err error))
+      (state.Refused other)
+  io-gives source other limits dialect error io place count =
+      refused-gives source other limits dialect error (io-items (known source) limits dialect error io)
+      (inr io) count (io-fault (is_some limits) error io place)
 
 -- a call of `next` yields the first of the remaining items
 pub reader_comes : {R : Type 0} {g : Ghosts R} (known : R → Option (List ℕ)) (failed : R → ℕ)
