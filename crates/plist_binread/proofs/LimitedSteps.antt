@@ -11,6 +11,7 @@ use Rattle.plist_base.specs.FirstItems.{GivesFirst, StopsIf}
 use Rattle.plist_base.specs.Limits.{Admits, KeepsLimits, event_or_limit, limited_by}
 use Rattle.plist_base.specs.Visits.{Flow, PlainItem, TakesTurn, item_with}
 use Rattle.plist_binread.specs.BinaryReader.{HasEndedBinary, Steps, Walks, has_limits, is_new, remaining_now, unlimited_items}
+use Rattle.plist_base.proofs.Refusals.{MatchFault-weaker}
 use Rattle.plist_decode.specs.FaultOffsets.{ItemGivenWithin, MatchGiven}
 use Rattle.plist_binread.proofs.ReaderLimits.{not_limit}
 use Rattle.plist_binread.specs.Handovers.{HandsItem, TakesWithin}
@@ -37,13 +38,9 @@ limits_remain limiter (Ok event ∷ items) h = reached_remain _ _ _
 limits_remain limiter (Err fault ∷ items) h = omega arith
 
 -- whether the first item needs memory doesn't depend on the others
-wants_alike : (event : PlainEvent) (left right : List Item) → AllocatesFirst (Ok event ∷ left)
-    → AllocatesFirst (Ok event ∷ right)
-wants_alike event left right h = search rules
-
 reached_wants : (reached : Option Limit) (event : PlainEvent) (items following : List Item)
     → AllocatesFirst (Ok event ∷ items) → AllocatesFirst (event_or_limit reached event following)
-reached_wants None event items following h = wants_alike event items following h
+reached_wants None event items following h = search rules
 reached_wants (Some limit) event items following h = tt
 
 limits_want : (limiter : LimitCounter) (items : List Item) → AllocatesFirst items
@@ -74,17 +71,10 @@ first_within limits next new before after None admits over (none, left) =
 first_within limits next new before after (Some (Ok event)) admits over is =
     ap (limited_by limits) is ∙ admits after
 first_within limits next new before after (Some (Err error)) admits over is =
-    rw over (by (kind_of (error_kind_of error)) (fault_of error) (rw over at is))
-  where
-    by : (kind : FaultKind) (fault : Fault)
-        → MatchFault kind (StopsIf SomeRemain before []) (StopsIf (AllocatesNext new) before [])
-        (before ≡ Err fault ∷ [])
-        → MatchFault kind (StopsIf SomeRemain (limited_by limits before) [])
-        (StopsIf (AllocatesNext new) (limited_by limits before) [])
-        (limited_by limits before ≡ Err fault ∷ [])
-    by Io fault (some, none) = (limits_remain limits before some, refl)
-    by OutOfMemory fault (some, none) = (memory_within limits new before some, refl)
-    by kind fault is = ap (limited_by limits) is
+    rw over (MatchFault-weaker (kind_of (error_kind_of error))
+    (λ some. (limits_remain limits before some.0, refl))
+    (λ some. (memory_within limits new before some.0, refl)) (λ is. ap (limited_by limits) is)
+    (rw over at is))
 
 -- ---- the errors
 

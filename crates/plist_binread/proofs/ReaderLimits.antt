@@ -1,13 +1,13 @@
 -- How limits change the result of one call.
-use Rattle.std.proofs.Common.{◌≡◌, ℕ, Bool, true, false, List, [], ◌∷◌, Option, None, Some, Ok, Err, IfSome, refl}
+use Rattle.std.proofs.Common.{◌≡◌, ℕ, Bool, true, false, List, [], ◌∷◌, Option, None, Some, Ok, Err, IfSome, ap, refl}
 use Rattle.std.specs.Option.{is_some}
 use Rattle.plist_base.specs.declared.error.Error.{Error}
 use Rattle.plist_base.specs.declared.limits.Limit.{Limit}
 use Rattle.plist_base.specs.declared.limits.LimitCounter.{LimitCounter}
 use Rattle.plist_base.specs.Events.{PlainEvent, Item}
-use Rattle.plist_base.specs.Faults.{Fault, FaultKind, LimitReached, MatchFault, fault_of, fault_without_offset}
+use Rattle.plist_base.specs.Faults.{Fault, FaultKind, LimitReached, MatchFault, error_kind_of, fault_of, fault_without_offset, kind_of}
 use Rattle.plist_base.specs.Limits.{IfLimitReached, IsLimitReached, KeepsLimits, RefusesAny, limited_by_any}
-use Rattle.plist_base.specs.Visits.{PlainItem}
+use Rattle.plist_base.proofs.Refusals.{MatchFault-at}
 use Rattle.plist_base.specs.FirstItems.{GivesFirst, StopsIf}
 use Rattle.plist_binread.specs.Remaining.{AllocatesNext, SomeRemain}
 use Rattle.plist_decode.specs.FaultOffsets.{IsGivenWithin, MatchGiven}
@@ -24,19 +24,10 @@ by-limit : (limiter : Option LimitCounter) (event : PlainEvent) (fault : Fault)
 by-limit None event fault r = absurd r
 by-limit (Some limiter) event fault r = (refl, r.0.0, r.0.1, r.1)
 
--- the error of a limit is neither `Io` nor `OutOfMemory`
-limit-fault : (fault : Fault) (limit : Limit) (X Y Z : Type 0)
-    → fault ≡ fault_without_offset (LimitReached limit) → Z → MatchFault fault.kind X Y Z
-limit-fault fault limit X Y Z is z = rw is z
-
 pub refused-other : (limiter : Option LimitCounter) (event : PlainEvent) (fault : Fault) (X Y Z : Type 0)
     → RefusesAny limiter event fault → Z → MatchFault fault.kind X Y Z
 refused-other limiter event fault X Y Z r z =
-    let by = by-limit limiter event fault r in limit-fault fault by.1 X Y Z by.2 z
-
-limit-given : (start end : ℕ) (limited : Bool) (fault : Fault) (limit : Limit) → limited ≡ true
-    → fault ≡ fault_without_offset (LimitReached limit) → IsGivenWithin start end limited fault
-limit-given start end limited fault limit e is = rw is (record { placed = (e, refl) })
+    let by = by-limit limiter event fault r in rw by.2 z
 
 -- without limits, no error is that of a limit
 pub not_limit : (start end : ℕ) (fault : Fault) (P : Type 0) → IsGivenWithin start end false fault
@@ -51,7 +42,7 @@ not_limit start end fault P h = by fault.kind _ _ _ _ h.placed
 pub refused-given : (start end : ℕ) (limiter : Option LimitCounter) (event : PlainEvent) (fault : Fault)
     → RefusesAny limiter event fault → IsGivenWithin start end (is_some limiter) fault
 refused-given start end limiter event fault r =
-    let by = by-limit limiter event fault r in limit-given start end _ fault by.1 by.0 by.2
+    let by = by-limit limiter event fault r in rw by.2 (record { placed = (by.0, refl) })
 
 pub is_limit : (fault : Fault) (P : Type 0) → IsLimitReached fault → P
     → IfLimitReached fault.kind P
@@ -70,22 +61,15 @@ pub none-under : (limiter : Option LimitCounter) → limited_by_any limiter [] �
 none-under None = refl
 none-under (Some limiter) = refl
 
--- ---- the result of a call
-
--- the items that a call yields without limits, and those that it yields under limits
-module _ (new : Bool) (current : PlainEvent) (known : Option (List ℕ)) (old now : Option LimitCounter)
-    (before after : List ℕ → List Item) where
-  abbrev Gave : PlainItem → Type 0
-  Gave item = IfSome known (λ bytes. GivesFirst (λ event. event) (StopsIf SomeRemain)
-      (StopsIf (AllocatesNext new)) (before bytes) item (after bytes))
-
-  abbrev GivesUnder : PlainItem → (List ℕ → List Item) → Type 0
-  GivesUnder item rest = IfSome known (λ bytes. GivesFirst (λ event. event) (StopsIf SomeRemain)
-      (StopsIf (AllocatesNext new)) (limited_by_any old (before bytes)) item
-      (limited_by_any now (rest bytes)))
-
-  pub limit-current : (error : Error) → RefusesAny old current (fault_of error)
-      → Gave (Some (Ok current)) → GivesUnder (Some (Err error)) (λ bytes. [])
-  limit-current error r h = IfSome_then known h (λ bytes h.
-      let by = by-limit old current (fault_of error) r in
-      limit-fault (fault_of error) by.1 _ _ _ by.2 (cc (h, by.3 (after bytes), none-under now)))
+-- an event that a call yields without limits is replaced by the error of a limit
+pub limit-current : (new : Bool) (current : PlainEvent) (known : Option (List ℕ))
+    (old now : Option LimitCounter) (before after : List ℕ → List Item) (error : Error)
+    → RefusesAny old current (fault_of error)
+    → IfSome known (λ bytes. before bytes ≡ Ok current ∷ after bytes)
+    → IfSome known (λ bytes. GivesFirst {E = PlainEvent} (λ event. event) (StopsIf SomeRemain)
+    (StopsIf (AllocatesNext new)) (limited_by_any old (before bytes)) (Some (Err error))
+    (limited_by_any now []))
+limit-current new current known old now before after error r h = IfSome_then known h (λ bytes h.
+    let by = by-limit old current (fault_of error) r in
+    MatchFault-at (kind_of (error_kind_of error)) (LimitReached by.1) _ _ _
+    (ap (λ (f : Fault). f.kind) by.2) (cc (h, by.3 (after bytes), none-under now)))

@@ -113,7 +113,7 @@ module _ {R C : Type 0} {g : Ghosts R} {h : CounterGhosts C} (old new : BinaryRe
     falls = simp (fresh, is) (omega arith);
   }
 
-  item_walks_at : (noted : Option (Result Flow StepFault)) (event : PlainEvent) → old.state ≡ Walking
+  pub item_walks : (noted : Option (Result Flow StepFault)) (event : PlainEvent) → old.state ≡ Walking
       → new.state ≡ state_after noted
       → IfSome (g.known old.source) (λ bytes. YieldsNext (remaining_in bytes old.decoder.bounds old.walk)
       (item_kept noted new.decoder.details) event (remaining_in bytes new.decoder.bounds new.walk))
@@ -127,7 +127,7 @@ module _ {R C : Type 0} {g : Ghosts R} {h : CounterGhosts C} (old new : BinaryRe
       → LightensNext old.walk noted new.walk
       → CountsIo (item_kept noted new.decoder.details) (g.failures old.source) (g.failures new.source)
       → Walks old (item_with (item_kept noted new.decoder.details) event) new
-  item_walks_at None event walking is yields within size bounded held kept falls failures = record {
+  item_walks None event walking is yields within size bounded held kept falls failures = record {
     gives = record {
       unchanged = same;
       items = simp (walking, is) (IfSome_then (g.known old.source) yields
@@ -147,7 +147,7 @@ module _ {R C : Type 0} {g : Ghosts R} {h : CounterGhosts C} (old new : BinaryRe
     };
     falls = tt;
   }
-  item_walks_at (Some (Ok x)) event walking is yields within size bounded held kept falls failures = record {
+  item_walks (Some (Ok x)) event walking is yields within size bounded held kept falls failures = record {
     gives = record {
       unchanged = same;
       items = simp (walking, is) (IfSome_then (g.known old.source) yields (λ bytes next. next));
@@ -166,7 +166,7 @@ module _ {R C : Type 0} {g : Ghosts R} {h : CounterGhosts C} (old new : BinaryRe
     };
     falls = simp (walking, is, size) falls.1;
   }
-  item_walks_at (Some (Err r)) event walking is yields within size bounded held kept falls failures = record {
+  item_walks (Some (Err r)) event walking is yields within size bounded held kept falls failures = record {
     gives = record {
       unchanged = same;
       items = simp (walking, is) (IfSome_then (g.known old.source) yields
@@ -189,18 +189,3 @@ module _ {R C : Type 0} {g : Ghosts R} {h : CounterGhosts C} (old new : BinaryRe
     };
     falls = simp (walking, is) falls.0;
   }
-
-  pub item_walks : (noted : Option (Result Flow StepFault)) (event : PlainEvent) → old.state ≡ Walking
-      → new.decoder.bounds ≡ old.decoder.bounds → new.state ≡ state_after noted
-      → YieldsItem (g.known old.source) old.decoder.bounds old.walk (item_kept noted new.decoder.details)
-      event new.walk
-      → ItemWithin 0 old.decoder.bounds.trailer (item_kept noted new.decoder.details)
-      → walk_objects new.walk ≡ walk_objects old.walk
-      → IfSome (g.known old.source) (IsBounded old.walk)
-      → IsKnownWalk (g.known old.source) old.decoder.bounds new.walk
-      → LightensNext old.walk noted new.walk
-      → CountsIo (item_kept noted new.decoder.details) (g.failures old.source) (g.failures new.source)
-      → Walks old (item_with (item_kept noted new.decoder.details) event) new
-  item_walks noted event walking bounds is yields within size bounded held falls failures =
-      item_walks_at noted event walking is (rw bounds yields.first) within size bounded (rw bounds held)
-      yields.cached falls failures

@@ -1,4 +1,4 @@
-use Rattle.std.proofs.Common.{◌≡◌, ◌<◌, ℕ, true, arith, get_or, List, Option, IfSome, refl, rules, subst, sym, ◌∙◌}
+use Rattle.std.proofs.Common.{◌≡◌, ◌-◌, ◌<◌, ℕ, true, arith, get_or, List, Option, IfSome, refl, rules, subst, sym, ◌∙◌}
 use Rattle.plist_base.specs.Events.{EndCollection, ScalarEvent}
 use Rattle.plist_decode.proofs.Decoding.{seen_decodes, seen_fits}
 use Rattle.plist_binread.proofs.ObjectEvents.{borrowed_sets, fits_walk, long_sets}
@@ -7,7 +7,7 @@ use Rattle.plist_binread.proofs.ObjectEntry.{IsDecodedAt, always_known, always_o
 use Rattle.plist_decode.proofs.UnknownBytes.{IfSome-all}
 use Rattle.plist_binread.proofs.WalkInvariant.{known_full}
 use Rattle.plist_binread.proofs.WalkSteps.{steps_positive}
-use Rattle.plist_decode.specs.Decoded.{DecodesAt, FitsBefore}
+use Rattle.plist_decode.specs.Decoded.{DecodesAt, DecodesSeen, FitsBefore}
 use Rattle.plist_decode.specs.Front.{IsFrontAt}
 use Rattle.plist_decode.specs.declared.decoded.Content.{Content}
 use Rattle.plist_decode.specs.declared.decoded.Decoded.{Decoded}
@@ -58,17 +58,34 @@ returns-in_err-decoded-in-None-clause-handed g c =
       taken = refl;
     })
 
--- a long string or long data that was decoded ends before the trailer
-long_fits : (g : _) (c : In-Long g) → FitsBefore c.args.decoder.now.bounds.trailer c.in-At.place
+-- an object was decoded, and ends before the trailer
+record Fetched (known : Option (List ℕ)) (bounds : Bounds) (place : ℕ) (d : Decoded) : Type 0 where
+  decodes : DecodesAt known bounds place d
+  fits : FitsBefore bounds.trailer place d
+
+-- an object was decoded from its first bytes
+fetched_front : (known : Option (List ℕ)) (bounds : Bounds) (place : ℕ) (seen : List ℕ)
+    (answer d : Decoded) → answer ≡ d → IsFrontAt known bounds place seen
+    → DecodesSeen (bounds.trailer - place) bounds.reference_width seen answer
+    → Fetched known bounds place d
+fetched_front known bounds place seen answer d is front means =
+    subst (Fetched known bounds place) is (record {
+      decodes = seen_decodes known bounds place seen answer front means;
+      fits = seen_fits bounds place seen answer front.front.within means;
+    })
+
+-- a long string or long data was decoded
+long_fetched : (g : _) (c : In-Long g) → Fetched (g.S.Source.known c.args.source.now)
+    c.args.decoder.now.bounds c.in-At.place
     (decoded.Long c.in-Long.kind c.in-Long.start c.in-Long.count)
-long_fits g c =
-    subst (FitsBefore c.args.decoder.now.bounds.trailer c.in-At.place) c.in-Long.is
-    (seen_fits c.args.decoder.now.bounds c.in-At.place c.in-Some.seen.now
-    c.decode_front-decoded.result (search rules) c.decode_front-decoded.ensures.decoded)
+long_fetched g c =
+    fetched_front _ c.args.decoder.now.bounds c.in-At.place c.in-Some.seen.now
+    c.decode_front-decoded.result _ c.in-Long.is c.in-Some.ensures
+    c.decode_front-decoded.ensures.decoded
 
 pub lies_in-requires : goal.lies_in-requires
 lies_in-requires g c =
-    let fits = long_fits g (goal.at.lies_in-requires g c).In-Long in
+    let fits = (long_fetched g (goal.at.lies_in-requires g c).In-Long).fits in
     let small = c.args.decoder.now.bounds.small in
     omega (arith, fits, small)
 
@@ -81,14 +98,9 @@ pub returns-then-lies_in-clause-falls : goal.returns-then-lies_in-clause-falls
 returns-then-lies_in-clause-falls g c =
     always_ok _ c.hand_bytes.result (omega (arith, steps_positive))
 
--- the first bytes of the object are buffered
-seen_front : (g : _) (c : In-Long g) → IsFrontAt (g.S.Source.known c.args.source.now)
-    c.args.decoder.now.bounds c.in-At.place c.in-Some.seen.now
-seen_front g c = c.in-Some.ensures
-
 pub returns-then-lies_in-clause-handed : goal.returns-then-lies_in-clause-handed
 returns-then-lies_in-clause-handed g c =
-    let at = (goal.at.returns-then-lies_in-clause-handed g c).In-Long in
+    let long_object = long_fetched g (goal.at.returns-then-lies_in-clause-handed g c).In-Long in
     let bounds = c.args.decoder.now.bounds in
     let content : Content
     = record { kind = c.in-Long.kind; start = c.in-Long.start; count = c.in-Long.count } in
@@ -101,14 +113,11 @@ returns-then-lies_in-clause-handed g c =
       kept = c.decode_front-decoded.new.decoder.details.kept;
     } in
     let answer = result_with c.hand_bytes.result details in
-    let front = seen_front g at in
     let there = known_decoded _ bounds c.args.walk.now c.args.reference.number c.requires.known
     c.in_ok-tag.ensures.below c.in-At.place long (rw c.in-At.is at c.in_ok-tag.ensures.found)
-    (subst (DecodesAt (g.S.Source.known c.args.source.now) bounds c.in-At.place) c.in-Long.is
-    (seen_decodes _ bounds c.in-At.place _ c.decode_front-decoded.result front
-    c.decode_front-decoded.ensures.decoded)) in
-    let sets = long_sets _ bounds c.in-At.place content answer h.event (long_fits g at)
-    (borrowed_sets _ c.in-At.place content c.in-Some.seen.now answer h.event front.lies
+    long_object.decodes in
+    let sets = long_sets _ bounds c.in-At.place content answer h.event long_object.fits
+    (borrowed_sets _ c.in-At.place content c.in-Some.seen.now answer h.event c.in-Some.ensures.lies
     (c.lies_in.ensures c.if-lies_in.true) (rw c.bytes_in-bytes.ensures at (h.is.sets details))) in
     record {
       event = h.event;
@@ -127,69 +136,54 @@ returns-then-lies_in-clause-handed g c =
 
 pub cache_or_open-requires-clause-fits : goal.cache_or_open-requires-clause-fits
 cache_or_open-requires-clause-fits g c =
+    let known = g.S.Source.known c.args.source.now in
     let bounds = c.args.decoder.now.bounds in
     fits_walk bounds c.in-At.place _ (elim c.match-buffered_front.branch [
       | in-None+in_ok-decoded-in-None w ↦
           subst (FitsBefore bounds.trailer c.in-At.place) (sym w.decoded-is)
           w.in_ok-decoded-in-None.ensures.fits
-      | in-Some+in-Long+else-lies_in w ↦
-          subst (FitsBefore bounds.trailer c.in-At.place) (w.in-Long.is ∙ sym w.decoded-is) (seen_fits bounds
-          c.in-At.place w.in-Some.seen.now w.decode_front-decoded.result (search rules)
-          w.decode_front-decoded.ensures.decoded)
-      | in-Some+in_default w ↦
-          subst (FitsBefore bounds.trailer c.in-At.place) (sym w.decoded-is) (seen_fits bounds
-          c.in-At.place w.in-Some.seen.now w.decode_front-decoded.result (search rules)
-          w.decode_front-decoded.ensures.decoded)
+      | in-Some+in-Long+else-lies_in w ↦ (fetched_front known bounds c.in-At.place w.in-Some.seen.now
+          w.decode_front-decoded.result _ (w.in-Long.is ∙ sym w.decoded-is) w.in-Some.ensures
+          w.decode_front-decoded.ensures.decoded).fits
+      | in-Some+in_default w ↦ (fetched_front known bounds c.in-At.place w.in-Some.seen.now
+          w.decode_front-decoded.result _ (sym w.decoded-is) w.in-Some.ensures
+          w.decode_front-decoded.ensures.decoded).fits
     ])
 
--- an object was decoded, and the source and the bounds are unchanged
-record Fetched (known now : Option (List ℕ)) (bounds left : Bounds) (place : ℕ) (d : Decoded) : Type 0
-  where
-    decodes : DecodesAt known bounds place d
-    fits : FitsBefore bounds.trailer place d
-    unchanged : now ≡ known
-    same : left ≡ bounds
-
+-- the object was decoded, and the source and the bounds are unchanged
 fetched : (g : _) (c : After-cache_or_open g) → Fetched (g.S.Source.known c.args.source.now)
-    (g.S.Source.known c.match-buffered_front.source) c.args.decoder.now.bounds c.match-buffered_front.decoder.bounds
-    c.in-At.place c.match-buffered_front.decoded
+    c.args.decoder.now.bounds c.in-At.place c.match-buffered_front.decoded
+    × (g.S.Source.known c.match-buffered_front.source ≡ g.S.Source.known c.args.source.now)
+    × (c.match-buffered_front.decoder.bounds ≡ c.args.decoder.now.bounds)
 fetched g c =
     let known = g.S.Source.known c.args.source.now in
     let bounds = c.args.decoder.now.bounds in
     elim c.match-buffered_front.branch [
-      | in-None+in_ok-decoded-in-None w ↦ record {
-        decodes = subst (DecodesAt known bounds c.in-At.place) (sym w.decoded-is)
-            w.in_ok-decoded-in-None.ensures.decoded;
-        fits = subst (FitsBefore bounds.trailer c.in-At.place) (sym w.decoded-is)
-            w.in_ok-decoded-in-None.ensures.fits;
-        unchanged = rw w.source-is w.in_ok-decoded-in-None.ensures.unchanged;
-        same = rw w.decoder-is w.in_ok-decoded-in-None.ensures.bounds;
-      }
-      | in-Some+in-Long+else-lies_in w ↦ record {
-        decodes = subst (DecodesAt known bounds c.in-At.place) (w.in-Long.is ∙ sym w.decoded-is) (seen_decodes known
-            bounds c.in-At.place w.in-Some.seen.now w.decode_front-decoded.result
-            w.in-Some.ensures w.decode_front-decoded.ensures.decoded);
-        fits = subst (FitsBefore bounds.trailer c.in-At.place) (w.in-Long.is ∙ sym w.decoded-is) (seen_fits bounds
-            c.in-At.place w.in-Some.seen.now w.decode_front-decoded.result (search rules)
-            w.decode_front-decoded.ensures.decoded);
-        unchanged = rw w.source-is refl;
-        same = rw w.decoder-is w.decode_front-decoded.ensures.bounds;
-      }
-      | in-Some+in_default w ↦ record {
-        decodes = subst (DecodesAt known bounds c.in-At.place) (sym w.decoded-is) (seen_decodes known
-            bounds c.in-At.place w.in-Some.seen.now w.decode_front-decoded.result
-            w.in-Some.ensures w.decode_front-decoded.ensures.decoded);
-        fits = subst (FitsBefore bounds.trailer c.in-At.place) (sym w.decoded-is) (seen_fits bounds
-            c.in-At.place w.in-Some.seen.now w.decode_front-decoded.result (search rules)
-            w.decode_front-decoded.ensures.decoded);
-        unchanged = rw w.source-is refl;
-        same = rw w.decoder-is w.decode_front-decoded.ensures.bounds;
-      }
+      | in-None+in_ok-decoded-in-None w ↦ (
+        subst (Fetched known bounds c.in-At.place) (sym w.decoded-is) (record {
+          decodes = w.in_ok-decoded-in-None.ensures.decoded;
+          fits = w.in_ok-decoded-in-None.ensures.fits;
+        }),
+        rw w.source-is w.in_ok-decoded-in-None.ensures.unchanged,
+        rw w.decoder-is w.in_ok-decoded-in-None.ensures.bounds,
+      )
+      | in-Some+in-Long+else-lies_in w ↦ (
+        fetched_front known bounds c.in-At.place w.in-Some.seen.now w.decode_front-decoded.result _
+            (w.in-Long.is ∙ sym w.decoded-is) w.in-Some.ensures w.decode_front-decoded.ensures.decoded,
+        rw w.source-is refl,
+        rw w.decoder-is w.decode_front-decoded.ensures.bounds,
+      )
+      | in-Some+in_default w ↦ (
+        fetched_front known bounds c.in-At.place w.in-Some.seen.now w.decode_front-decoded.result _
+            (sym w.decoded-is) w.in-Some.ensures w.decode_front-decoded.ensures.decoded,
+        rw w.source-is refl,
+        rw w.decoder-is w.decode_front-decoded.ensures.bounds,
+      )
     ]
 
 pub hand_decoded-requires : goal.hand_decoded-requires
 hand_decoded-requires g c =
-    let f = fetched g (goal.at.hand_decoded-requires g c).After-cache_or_open in rw f.same f.fits
+    let f = fetched g (goal.at.hand_decoded-requires g c).After-cache_or_open in rw f.2 f.0.fits
 
 -- the object of the reference was decoded
 there : (g : _) (c : After-cache_or_open g)
@@ -197,7 +191,7 @@ there : (g : _) (c : After-cache_or_open g)
     c.args.reference.number c.in-At.place c.match-buffered_front.decoded)
 there g c =
     known_decoded _ _ c.args.walk.now _ c.requires.known c.in_ok-tag.ensures.below _ _
-    (rw c.in-At.is at c.in_ok-tag.ensures.found) (fetched g c).decodes
+    (rw c.in-At.is at c.in_ok-tag.ensures.found) (fetched g c).0.decodes
 
 pub returns-then-cache_or_open-clause-kept : goal.returns-then-cache_or_open-clause-kept
 returns-then-cache_or_open-clause-kept g c = record {
@@ -223,7 +217,7 @@ returns-clause-handed g c =
             (rw c.in-At.is at c.in_ok-tag.ensures.found)
             (known_full _ c.args.decoder.now.bounds c.in-At.place c.match-buffered_front.decoded
             (error_of Memory c.match-buffered_front.decoder.details) refl
-            (c.cache_or_open.ensures.wanted c.if-cache_or_open.false) f.decodes),
+            (c.cache_or_open.ensures.wanted c.if-cache_or_open.false) f.0.decodes),
         IfSome-all _ (λ _. tt),
       );
       taken = refl;
@@ -240,13 +234,13 @@ returns-then-cache_or_open-clause-handed g c =
         known_set _ _ c.args.walk.now c.args.reference.number c.requires.known c.in_ok-tag.ensures.below
             c.args.reference.at c.in-At.place _ c.cache_or_open.new.walk _
             (result_with c.hand_decoded.result c.hand_decoded.new.decoder.details) h.event
-            f.unchanged c.in_ok-tag.ensures.new (there g at)
-            (c.cache_or_open.ensures.yields c.if-cache_or_open.true) (rw f.same at h.is)
+            f.1 c.in_ok-tag.ensures.new (there g at)
+            (c.cache_or_open.ensures.yields c.if-cache_or_open.true) (rw f.2 at h.is)
             (on_answer _ c.hand_decoded.result c.hand_decoded.new.decoder.details c.hand_decoded.ensures.found),
         known_cached _ _ c.args.walk.now c.args.reference.number c.requires.known
             c.in_ok-tag.ensures.below c.in-At.place _ _
             (result_with c.hand_decoded.result c.hand_decoded.new.decoder.details) h.event
-            c.cache_or_open.new.walk.tags.items f.unchanged (there g at) (rw f.same at h.is)
+            c.cache_or_open.new.walk.tags.items f.1 (there g at) (rw f.2 at h.is)
             c.cache_or_open.ensures.cached,
       );
       taken = h.taken;

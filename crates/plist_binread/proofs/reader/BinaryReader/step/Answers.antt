@@ -51,10 +51,10 @@ returns-in-Walking-clause-walks g c =
       event = h.event;
       is = item_walks c.args.self.now _ c.advance-item.ensures.kept.unchanged
           c.advance-item.ensures.kept.counted refl c.advance-item.result h.event c.in-Walking.is
-          c.advance-item.ensures.kept.bounds
-          c.end_after.ensures h.is c.advance-item.ensures.fault
-          c.advance-item.ensures.kept.size c.args.self.now.bounded c.advance-item.ensures.kept.known_walk
-          c.advance-item.ensures.falls c.advance-item.ensures.failures;
+          c.end_after.ensures (rw c.advance-item.ensures.kept.bounds h.is.first)
+          c.advance-item.ensures.fault c.advance-item.ensures.kept.size c.args.self.now.bounded
+          (rw c.advance-item.ensures.kept.bounds c.advance-item.ensures.kept.known_walk)
+          h.is.cached c.advance-item.ensures.falls c.advance-item.ensures.failures;
       taken = h.taken;
     }
 
