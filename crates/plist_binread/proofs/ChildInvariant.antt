@@ -50,10 +50,8 @@ module _ (known : Option (List ℕ)) (bounds : Bounds) (old mid : Walk) (frame :
         object = object_at bounds (get_or mid.contents.items frame.object 0) bytes;
       })
   there bytes k =
-      let entry = entry_there bytes bounds mid.tags.items mid.contents.items (open_in mid) k
-      frame.object parent.0 in
-      let place = held_place bytes bounds mid.tags.items mid.contents.items (open_in mid) k
-      frame.object parent.0 (open_uncached _ parent.1) ∙ ap place_at entry in
+      let entry = entry_there k frame.object parent.0 in
+      let place = held_place k frame.object parent.0 (open_uncached _ parent.1) ∙ ap place_at entry in
       entry ∙ ap (λ (p : ℕ). Some (record { place = p; object = object_at bounds p bytes }))
       (sym place)
 
@@ -93,9 +91,8 @@ module _ (known : Option (List ℕ)) (bounds : Bounds) (old mid : Walk) (frame :
           ≡ remaining_entering bytes bounds mid (get_or mid.contents.items frame.object 0) number)
       child_first = IfSome_then known (child_read (Ok number) reads) (λ bytes child.
           let k = child.0.1 in
-          let place = held_place bytes bounds mid.tags.items mid.contents.items (open_in mid) k
-          frame.object parent.0 (open_uncached _ parent.1) in
-          let many = as_many bytes bounds mid.tags.items mid.contents.items (open_in mid) k in
+          let place = held_place k frame.object parent.0 (open_uncached _ parent.1) in
+          let many = as_many k in
           rw (child.1, ← many, place) child.0.0.0)
 
       pub child_yields : (answer : Result Flow Error) (current : PlainEvent) (new : Walk)

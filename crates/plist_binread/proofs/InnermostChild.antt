@@ -63,8 +63,8 @@ module _ (bytes tags contents : List ℕ) (bounds : Bounds) (f : Frame) (fs : Li
       until_some _ _ _,
       ap (λ b. cond b (Some (get_or children f.next 0)) None) (lt-ltb _ _ h),
     ),
-    known_with bytes bounds tags contents (f ∷ fs) k tags contents (advanced f ∷ fs) refl
-        (λ q less. (k.held q less, k.refers q less)) (k.counts.0, k.counts.1),
+    known_with k tags contents (advanced f ∷ fs) refl (λ q less. (k.held q less, k.refers q less))
+        (k.counts.0, k.counts.1),
   )
 
   -- if no child is left, the end is the first item that remains
@@ -74,8 +74,7 @@ module _ (bytes tags contents : List ℕ) (bounds : Bounds) (f : Frame) (fs : Li
       × MatchesFile bytes bounds new contents fs
   closed_remaining new o h m closed = (
     rw (drop_all f.next children (rw k.counts.0 h)) refl,
-    known_closed bytes bounds tags contents (f ∷ fs) k new f (first_below tags f fs o)
-        (first_open tags f fs o) m closed fs k.counts.1,
+    known_closed k new f (first_below tags f fs o) (first_open tags f fs o) m closed fs k.counts.1,
   )
 
 one_less : (l i s w : ℕ) → i < l → (l - i) * s + 1 + w ≡ (l - (i + 1)) * s + 1 + w + s

@@ -51,7 +51,7 @@ pub long_opens : (number start count : ℕ) (kind : ContentKind) (walk : Walk)
     → number < walk_objects walk → get_or walk.tags.items number 0 ≡ 0
     → OpensObject number (decoded.Long kind start count) walk walk
 long_opens number start count kind walk below new bytes bounds entry k is found = (
-  (λ at event _ named. yields_scalar _ _ (as_many _ _ _ _ _ k) _ at _ _ walk.path below is
+  (λ at event _ named. yields_scalar _ _ (as_many k) _ at _ _ walk.path below is
       (not_open walk.path below new) event (named-long entry.object _ _ event found.1 named)),
   k,
 )
@@ -81,9 +81,8 @@ module _ (known : Option (List ℕ)) (bounds : Bounds) (walk : Walk) (number : �
       → IfSome known (λ bytes. YieldsCurrent (remaining_entering bytes bounds walk at number)
       (ScalarEvent (unpacked tag content)) (remaining_in bytes bounds walk))
   known_unpacked at tag content free is = IfSome_then known k (λ bytes k.
-      found_scalar bytes bounds walk.tags.items walk.contents.items (open_in walk) k walk.path at
-      number h free _ (ap (option_map ScalarEvent) (held_scalar bytes bounds walk.tags.items
-      walk.contents.items (open_in walk) k number h is.0)
+      found_scalar k walk.path at number h free _
+      (ap (option_map ScalarEvent) (held_scalar k number h is.0)
       ∙ (λ i. Some (ScalarEvent (unpacked (sym is.1 i) (sym is.2 i))))))
 
   -- the error of an object is possible in place of its first item
@@ -92,15 +91,14 @@ module _ (known : Option (List ℕ)) (bounds : Bounds) (walk : Walk) (number : �
       → RefusesObjectAt known bounds place e → IfSome known (λ bytes. Explains (until_fault (remaining_entering bytes bounds walk at number))
       e)
   known_refused at place e free is refused = IfSome-both known k refused (λ bytes k refused.
-      found_refused bytes bounds walk.tags.items walk.contents.items (open_in walk) k walk.path at
-      number h free e
+      found_refused k walk.path at number h free e
       (rw (place_is bytes bounds walk k number place h is) at (refused k.within)))
 
   -- the object of this number was decoded from the bytes at its offset
   pub known_decoded : (place : ℕ) (d : Decoded) → IsPlaceIn walk number place
       → DecodesAt known bounds place d → IfSome known (λ bytes. IsDecodedAt bytes bounds number place d)
   known_decoded place d is decodes = IfSome-both known k decodes (λ bytes k decodes. record {
-    entry = entry_there bytes bounds walk.tags.items walk.contents.items (open_in walk) k number h;
+    entry = entry_there k number h;
     at_place = place_is bytes bounds walk k number place h is;
     within = k.within;
     decoded = decodes k.within;
@@ -134,8 +132,8 @@ module _ (known : Option (List ℕ)) (bounds : Bounds) (walk : Walk) (number : �
           yields at current found
           (subst (λ p. event_of_object (object_at bounds p bytes) ≡ Some current) t.at_place sets)
       by bytes k t yields (Err e) found sets =
-          found_refused bytes bounds walk.tags.items walk.contents.items (open_in walk) k walk.path
-          at number h free e (subst (λ p. IsRefusedAs (object_at bounds p bytes) p e) t.at_place sets)
+          found_refused k walk.path at number h free e
+          (subst (λ p. IsRefusedAs (object_at bounds p bytes) p e) t.at_place sets)
 
   -- the object is cached if the event is that of a small scalar
   pub known_cached : {A : Type 0} (place : ℕ) (d : Decoded) (now : Option (List ℕ))

@@ -42,8 +42,7 @@ module _ (bytes : List ℕ) (bounds : Bounds) (walk : Walk) (k : IsWalkOf bytes 
   pub first_is : (rest : List Item)
       → until_fault (remaining_entering bytes bounds walk at number) ≡ Ok event ∷ rest
       → first_event (slice_get (entries_of bytes bounds) number) ≡ Some event
-  first_is rest = first_there (entries_of bytes bounds) walk.tags.items
-      (as_many bytes bounds walk.tags.items walk.contents.items (open_in walk) k) (open_in walk) at
+  first_is rest = first_there (entries_of bytes bounds) walk.tags.items (as_many k) (open_in walk) at
       number walk.path event rest
 
   -- the first event of an object that isn't open is the first item, if it is a scalar
@@ -53,10 +52,8 @@ module _ (bytes : List ℕ) (bounds : Bounds) (walk : Walk) (k : IsWalkOf bytes 
       → YieldsCurrent (remaining_entering bytes bounds walk at number) event
       (remaining_in bytes bounds walk)
   scalar_again below free first leaf =
-      found_scalar bytes bounds walk.tags.items walk.contents.items (open_in walk) k walk.path at
-      number below free event (scalar_first _ event
-      (ap first_event (sym (entry_there bytes bounds walk.tags.items walk.contents.items
-      (open_in walk) k number below)) ∙ first) leaf)
+      found_scalar k walk.path at number below free event (scalar_first _ event
+      (ap first_event (sym (entry_there k number below)) ∙ first) leaf)
 
 -- a scalar was handed over once more, by its token
 pub record Repeats (known : Option (List ℕ)) (bounds : Bounds) (walk : Walk) (reference : Reference)

@@ -46,11 +46,11 @@ returns-in-Small-clause-falls c = λ _. omega (arith, steps_positive, c.cache.en
 pub returns-in-Small-clause-yields : goal.returns-in-Small-clause-yields
 returns-in-Small-clause-yields c = λ _ bytes bounds entry k is found.
     let d = rw c.in-Small.is at found in (
-      (λ at event _ named. yields_scalar _ _ (as_many bytes bounds _ _ _ k) _ at _ entry
+      (λ at event _ named. yields_scalar _ _ (as_many k) _ at _ entry
           c.args.walk.now.path c.requires.below is
           (not_open c.args.walk.now.path c.requires.below c.requires.new) event
           (named-scalar entry.object (unpacked c.in-Small.tag c.in-Small.content) event d.0 named)),
-      rw c.cache.ensures.contents (known_cached bytes bounds _ _ _ k _ c.in-Small.tag
+      rw c.cache.ensures.contents (known_cached k _ c.in-Small.tag
           c.in-Small.content _ c.requires.below c.args.walk.now.same c.cache.ensures.tags
           c.cache.ensures.tag (packed_cached _ _ d.1) (ap scalar_at is ∙ ap scalar_in d.0)),
     )
@@ -61,7 +61,7 @@ returns-in-Date-clause-falls c = λ _. omega (arith, steps_positive)
 pub returns-in-Date-clause-yields : goal.returns-in-Date-clause-yields
 returns-in-Date-clause-yields c = λ _ bytes bounds entry k is found.
     let d = rw c.in-Date.is at found in (
-      (λ at event _ named. yields_scalar _ _ (as_many _ _ _ _ _ k) _ at _ _
+      (λ at event _ named. yields_scalar _ _ (as_many k) _ at _ _
           c.args.walk.now.path c.requires.below is
           (not_open c.args.walk.now.path c.requires.below c.requires.new) event
           (named-date entry.object (content_bytes c.in-Date.field-0) event d named)),

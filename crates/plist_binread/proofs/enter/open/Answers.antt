@@ -38,11 +38,11 @@ returns-in-Ok-clause-yields c = λ _ bytes bounds entry k is decoded.
       (λ at event _ named.
           let n = collection-named entry.object start _ collection in
           let same : start ≡ event = cc in rw (← same)
-          (yields_collection _ _ (as_many _ _ _ _ _ k) _ at _ _ c.args.walk.now.path
+          (yields_collection _ _ (as_many k) _ at _ _ c.args.walk.now.path
           c.requires.below is (not_open c.args.walk.now.path c.requires.below c.requires.new) start
           _ _ (reverse-push _ _ _ c.in-Ok.ensures.value) refl refl collection)),
       rw (reverse-push _ _ _ c.in-Ok.ensures.value)
-          (known_opened bytes bounds _ _ _ k _ _ c.args.kind c.args.start start entry
+          (known_opened k _ _ c.args.kind c.args.start start entry
           c.requires.below (ap unmarked c.requires.new) c.mark_open.ensures.tags
           c.mark_open.ensures.tag decoded.2 is collection decoded.3),
     )
