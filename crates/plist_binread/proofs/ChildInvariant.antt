@@ -6,8 +6,8 @@ use Rattle.plist_base.specs.Visits.{Flow}
 use Rattle.plist_base.specs.Events.{PlainEvent}
 use Rattle.plist_base.specs.Faults.{IsIo, kind_of, error_kind_of}
 use Rattle.plist_base.proofs.Refusals.{MatchFault-weaker}
-use Rattle.plist_binread.specs.Walking.{IsCachedIfSmall, IsKnownWalk, IsWalkOf, open_in, remaining_entering, remaining_in}
-use Rattle.plist_binread.specs.Step.{ParentIsOpen, TakesChild, TakesNextChild, YieldsResult, stored_references}
+use Rattle.plist_binread.specs.Walking.{IsCachedIfSmall, IsWalkOf, open_in, remaining_entering, remaining_in}
+use Rattle.plist_binread.specs.Step.{ParentIsOpen, TakesChild, YieldsResult, stored_references}
 use Rattle.plist_binread.specs.declared.frames.NextChild.{NextChild}
 use Rattle.plist_binread.specs.declared.frames.NextChild.TheVariants.{Child}
 use Rattle.plist_binread.specs.declared.walk.Walk.{Walk}
@@ -27,12 +27,6 @@ use Rattle.plist_decode.proofs.UnknownBytes.{IfSome-both}
 abbrev pub ChildTaken : (bytes : List ℕ) → Bounds → (old : Walk) → NextChild → (new : Walk) → Type 0
 ChildTaken bytes bounds old child new =
     TakesChild bytes bounds old child new × IsWalkOf bytes bounds new
-
-pub known_child_taken : (known : Option (List ℕ)) (bounds : Bounds) (old new : Walk) (child : NextChild)
-    → IsKnownWalk known bounds old → TakesNextChild old child new
-    → IfSome known (λ bytes. ChildTaken bytes bounds old child new)
-known_child_taken known bounds old new child k takes =
-    IfSome_then known k (λ bytes k. takes bytes bounds k)
 
 -- the number of the child of an object
 abbrev child_of : (bytes : List ℕ) → Bounds → (object index : ℕ) → ℕ

@@ -6,7 +6,7 @@ use Rattle.plist_base.specs.declared.source.Source.{Ghosts}
 use Rattle.plist_base.specs.declared.limits.Limit.{Limit}
 use Rattle.plist_base.specs.declared.limits.LimitCounter.{LimitCounter}
 use Rattle.plist_base.specs.Events.{Item, PlainEvent}
-use Rattle.plist_base.specs.Faults.{Fault, FaultKind, Io, LimitReached, MatchFault, OutOfMemory, error_kind_of, fault_of, kind_of}
+use Rattle.plist_base.specs.Faults.{FaultKind, LimitReached, error_kind_of, fault_of, kind_of}
 use Rattle.plist_base.specs.FirstItems.{GivesFirst, StopsIf}
 use Rattle.plist_base.specs.Limits.{Admits, KeepsLimits, event_or_limit, limited_by}
 use Rattle.plist_base.specs.Visits.{Flow, PlainItem, TakesTurn, item_with}

@@ -1,5 +1,5 @@
 -- What is true when an object is entered.
-use Rattle.std.proofs.Common.{◌≡◌, ℕ, ◌<◌, ◌≤◌, false, List, length, get_or, Option, None, Some, Result, Ok, Err, IfSome, ap, subst, sym, ◌∙◌}
+use Rattle.std.proofs.Common.{◌≡◌, ℕ, ◌<◌, ◌≤◌, false, List, length, get_or, Option, Some, Result, Ok, Err, IfSome, ap, subst, sym, ◌∙◌}
 use Rattle.std.specs.List.{slice_get}
 use Rattle.std.specs.Option.{option_map}
 use Rattle.plist_base.specs.Events.{PlainEvent, ScalarEvent}
@@ -14,7 +14,7 @@ use Rattle.plist_decode.specs.StepFaults.{result_with}
 use Rattle.std.specs.Prelude.{OnOk}
 use Rattle.plist_decode.specs.declared.head.Bounds.{Bounds}
 use Rattle.plist_binread.specs.declared.walk.Walk.{Walk}
-use Rattle.plist_binread.specs.Walking.{IsCachedIfSmall, IsKnownWalk, IsWalkOf, open_in, remaining_entering, remaining_in, walk_objects}
+use Rattle.plist_binread.specs.Walking.{IsCachedIfSmall, IsKnownWalk, IsWalkOf, remaining_entering, remaining_in, walk_objects}
 use Rattle.plist_binread.specs.Remaining.{Explains, entries_of}
 use Rattle.plist_decode.specs.Decoded.{DecodesAt, IsDecodedThere, RefusesObjectAt, small_count}
 use Rattle.plist_binread.specs.ObjectEvents.{SetsDecoded, SetsEvent, event_of_object, is_refused}
@@ -60,11 +60,6 @@ long_opens number start count kind walk below new bytes bounds entry k is found 
 pub always_ok : {A E : Type 0} (P : Type 0) (answer : Result A E) → P → OnOk answer P
 always_ok P (Ok value) p = p
 always_ok P (Err error) p = tt
-
--- a true statement is true of bytes that may be unknown
-pub always_known : {X : Type 0} (known : Option X) (P : Type 0) → P → IfSome known (λ _. P)
-always_known None P p = tt
-always_known (Some bytes) P p = p
 
 -- what is true after `Ok` is true of the result with its error
 pub on_answer : {A : Type 0} (P : Type 0) (answer : Result A StepFault) (details : FaultDetails)

@@ -116,10 +116,6 @@ IsOpen-none n tags [] is h = record {
 }
 IsOpen-none n tags (f ∷ fs) is h = absurd (omega arith)
 
-pub IsOpen-empty : (tags : List ℕ) (fs : List Frame) → length tags ≡ 0 → length fs ≡ 0
-    → MarksOpenPath tags (reverse fs)
-IsOpen-empty tags fs none h = IsOpen-none 0 _ fs (nil_from_length _ none) h
-
 -- ---- the number of cached objects
 
 same_count : (xs ys : List ℕ) → length xs ≡ length ys

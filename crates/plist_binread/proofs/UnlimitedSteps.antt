@@ -14,7 +14,7 @@ use Rattle.plist_binread.specs.Walking.{IsBounded, IsCachedIfSmall, IsKnownWalk,
 use Rattle.plist_binread.specs.BinaryReader.{Walks}
 use Rattle.plist_binread.specs.Remaining.{CountsObjects, entries_of, is_fresh, is_walking, next_number, objects_in_head, state_after, walk_steps}
 use Rattle.plist_decode.specs.FaultOffsets.{ErrWithin, ItemWithin}
-use Rattle.plist_binread.specs.Step.{LightensNext, YieldsItem, YieldsNext, YieldsRoot}
+use Rattle.plist_binread.specs.Step.{LightensNext, YieldsNext, YieldsRoot}
 use Rattle.plist_base.specs.Events.{PlainEvent}
 use Rattle.plist_base.specs.Visits.{Flow, item_with}
 use Rattle.plist_decode.specs.declared.step_fault.StepFault.{StepFault}

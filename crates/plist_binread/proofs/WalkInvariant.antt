@@ -14,7 +14,7 @@ use Rattle.plist_decode.specs.Reading.{object_at, bytes_at}
 use Rattle.plist_decode.specs.declared.decoded.Decoded.{Decoded}
 use Rattle.plist_decode.specs.declared.decoded.Decoded.TheVariants as decoded
 use Rattle.plist_binread.specs.Step.{IsCollectionStart}
-use Rattle.plist_binread.specs.Walking.{IsWalkOf, open_in, walk_objects}
+use Rattle.plist_binread.specs.Walking.{IsWalkOf, walk_objects}
 use Rattle.plist_binread.specs.declared.walk.Walk.{Walk}
 use Rattle.plist_decode.specs.declared.head.Bounds.{Bounds}
 use Rattle.plist_base.specs.Object.{Object, object_in}
@@ -118,7 +118,7 @@ module _ {bytes : List ℕ} {bounds : Bounds} {tags contents : List ℕ} {fs : L
   known_opened new f kind first start entry less none m tag small is collection refers =
       known_with new contents (f ∷ fs) m.size (kept_others f.object new contents m (λ q _. refl) (
         rw (open_uncached _ (ap is_marked tag ∙ open_tag-marked kind first))
-        (held_place f.object less none),
+            (held_place f.object less none),
         λ _. rw (is, tag, open_tag-kind kind first small, open_tag-start kind first small)
             refers,
       ))

@@ -3,7 +3,7 @@ use Rattle.plist_base.specs.Events.{EndCollection, ScalarEvent}
 use Rattle.plist_decode.proofs.Decoding.{seen_decodes, seen_fits}
 use Rattle.plist_binread.proofs.ObjectEvents.{borrowed_sets, fits_walk, long_sets}
 use Rattle.plist_decode.proofs.FaultOffsets.{err_within, passed}
-use Rattle.plist_binread.proofs.ObjectEntry.{IsDecodedAt, always_known, always_ok, known_cached, known_decoded, known_opens, known_refused, known_set, known_unpacked, long_opens, on_answer}
+use Rattle.plist_binread.proofs.ObjectEntry.{IsDecodedAt, always_ok, known_cached, known_decoded, known_opens, known_refused, known_set, known_unpacked, long_opens, on_answer}
 use Rattle.plist_decode.proofs.UnknownBytes.{IfSome-all}
 use Rattle.plist_binread.proofs.WalkInvariant.{known_full}
 use Rattle.plist_binread.proofs.WalkSteps.{steps_positive}
@@ -39,7 +39,7 @@ returns-in-Small-clause-handed g c =
         known_unpacked _ _ c.args.walk.now c.args.reference.number c.requires.known
             c.in_ok-tag.ensures.below c.args.reference.at c.in-Small.tag c.in-Small.content
             c.in_ok-tag.ensures.new found,
-        always_known _ _ caches,
+        IfSome-all _ (λ _. caches),
       );
       taken = subst (λ scalar. g.V.EventVisitor.step c.args.visitor.now (ScalarEvent scalar)
           c.packed.result c.packed.new.self) c.from_parts.ensures c.packed.ensures;

@@ -1,4 +1,4 @@
-use Rattle.std.proofs.Common.{◌≡◌, arith, ◌∙◌, sym, subst, ap, refl, rules, length, replicate}
+use Rattle.std.proofs.Common.{◌≡◌, arith, ◌∙◌, sym, subst, ap, refl, rules, length}
 use Rattle.std.proofs.Math.ListN.{length-replicate}
 use Rattle.plist_decode.proofs.FaultOffsets.{passed}
 use Rattle.plist_decode.specs.declared.head.Bounds.{Bounds}
@@ -50,15 +50,11 @@ returns-in_err-tags-clause-objects g c =
     (known_hidden (g.S.Source.known c.args.source.now) (error_of Memory c.keep_error.new.self)
     (length c.args.walk.now.tags.items) c.requires.empty.0 refl)
 
--- all tags are 0
-none : (g : _) (c : In_ok-tags g) → c.in_ok-tags.tags.items ≡ replicate c.len.result 0
-none g c = c.in_ok-tags.ensures.tags
-
 -- there are as many tags as offsets
 count : (g : _) (c : In_ok-tags g)
     → length c.in_ok-tags.tags.items ≡ length c.in_ok-head.head.places.items
 count g c =
-    ap length (none g c) ∙ length-replicate c.len.result 0 ∙ c.len.ensures
+    ap length c.in_ok-tags.ensures.tags ∙ length-replicate c.len.result 0 ∙ c.len.ensures
     ∙ c.in_ok-head.head.places.ok.0
 
 pub returns-clause-objects : goal.returns-clause-objects
@@ -73,27 +69,25 @@ invariant_of-walk g c =
     let there = (goal.at.invariant_of-walk g c).In_ok-tags in
     record {
       same = sym (count g there);
-      path = IsOpen-none _ _ _ (none g there) c.requires.empty.1;
-      packed = subst (λ tags. ArePacked tags c.in_ok-head.head.places.items) (sym (none g there))
+      path = IsOpen-none _ _ _ c.in_ok-tags.ensures.tags c.requires.empty.1;
+      packed = subst (λ tags. ArePacked tags c.in_ok-head.head.places.items) (sym c.in_ok-tags.ensures.tags)
           (zeros_packed c.len.result _);
     }
 
 pub enter_object-requires-clause-known : goal.enter_object-requires-clause-known
 enter_object-requires-clause-known g c =
-    let there = (goal.at.enter_object-requires-clause-known g c).In_ok-tags in
     let value = rw (← c.in_ok-head.ensures.answer) at c.read.ensures.value in
     let within = rw (← c.in_ok-head.ensures.answer) at c.read.ensures.within in
     known_opens (g.S.Source.known c.args.source.now) (g.S.Source.known c.read.new.source)
     c.in_ok-head.head _ c.in_ok-tags.tags.items c.len.result c.args.walk.now.frames
-    c.read.ensures.unchanged value within refl refl (none g there)
+    c.read.ensures.unchanged value within refl refl c.in_ok-tags.ensures.tags
     (c.len.ensures ∙ c.in_ok-head.head.places.ok.0) c.requires.empty.1
 
 pub enter_object-requires-clause-counted : goal.enter_object-requires-clause-counted
 enter_object-requires-clause-counted g c = λ counts.
-    let there = (goal.at.enter_object-requires-clause-counted g c).In_ok-tags in
     c.requires.counted counts
     ∙ cached_count-empty c.args.walk.now.tags.items c.requires.empty.0
-    ∙ sym (cached_count-none c.len.result c.in_ok-tags.tags.items (none g there))
+    ∙ sym (cached_count-none c.len.result c.in_ok-tags.tags.items c.in_ok-tags.ensures.tags)
 
 -- the bounds of the file
 abbrev bounds : (g : _) (c : In_ok-tags g) → Bounds

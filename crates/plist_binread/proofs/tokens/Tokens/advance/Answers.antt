@@ -1,5 +1,6 @@
 use Rattle.std.proofs.Common.{◌≡◌, arith, ◌<◌, length, ◌-◌, reverse, IfSome, refl, subst}
 use Rattle.std.specs.declared.ops.ControlFlow.TheVariants.{Continue}
+use Rattle.std.proofs.lemmas.Option.{IfSome_then}
 use Rattle.std.proofs.lemmas.Result.{on_ok_weaker}
 use Rattle.plist_binread.specs.declared.frames.NextChild.TheVariants.{Child}
 use Rattle.plist_base.specs.Events.{EndCollection}
@@ -7,7 +8,7 @@ use Rattle.plist_decode.specs.StepFaults.{result_with}
 use Rattle.plist_decode.proofs.UnknownBytes.{IfSome-all}
 use Rattle.plist_binread.specs.Walking.{weight_in}
 use Rattle.plist_binread.proofs.WalkSteps.{steps_positive}
-use Rattle.plist_binread.proofs.ChildInvariant.{ChildTaken, known_child_taken, child_failed, child_kept, child_references, child_yields}
+use Rattle.plist_binread.proofs.ChildInvariant.{ChildTaken, child_failed, child_kept, child_references, child_yields}
 use Rattle.plist_binread.proofs.TokenSteps.{tokens_kept, tokens_then}
 use Rattle.plist_binread.proofs.tokens.Tokens.advance.Goals as goal
 use Rattle.plist_binread.proofs.tokens.Tokens.advance.Goals.{In-Child}
@@ -17,8 +18,8 @@ taken : (g : _) (c : In-Child g) → IfSome (g.S.Source.known c.args.source.now)
     ChildTaken bytes c.args.decoder.now.bounds c.args.walk.now (Child c.in-Child.frame)
     c.next_child.new.self)
 taken g c =
-    known_child_taken _ _ c.args.walk.now c.next_child.new.self (Child _) c.requires.known
-    c.in-Child.ensures.remaining
+    IfSome_then (g.S.Source.known c.args.source.now) c.requires.known (λ bytes k.
+    c.in-Child.ensures.remaining bytes c.args.decoder.now.bounds k)
 
 pub read_child-requires-clause-references : goal.read_child-requires-clause-references
 read_child-requires-clause-references g c =
