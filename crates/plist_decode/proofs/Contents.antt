@@ -1,9 +1,9 @@
 -- What the bytes after a marker mean.
-use Rattle.std.proofs.Common.{◌≡◌, ℕ, zero, suc, get_or, replicate, ◌+◌, ◌-◌, ◌*◌, ◌/◌, ◌^◌, ◌<◌, ◌≤◌, inl, inr, pos, negsuc, ◌-ℤ◌, Bool, true, false, List, [], ◌∷◌, ◌++◌, length, take, drop, Option, Some, IfSome, refl, ap, sym, ◌∙◌, arith, add_assoc}
+use Rattle.std.proofs.Common.{◌≡◌, ℕ, zero, suc, get_or, replicate, ◌+◌, ◌-◌, ◌*◌, ◌/◌, ◌^◌, ◌<◌, ◌≤◌, inl, inr, pos, negsuc, ◌-ℤ◌, Bool, true, false, List, [], ◌∷◌, ◌++◌, length, take, drop, Option, IfSome, refl, ap, sym, ◌∙◌, arith, add_assoc}
 use Rattle.std.specs.Int.{cast_signed, w64}
 use Rattle.std.specs.Int.Digits.{number_from_digits, number_from_digits_after}
-use Rattle.std.specs.Char.Utf16.{has_unpaired_surrogate, utf16_lossy_chars}
-use Rattle.std.specs.Str.{IsUtf8, is_utf8, encode_utf8_all}
+use Rattle.std.specs.Char.Utf16.{has_unpaired_surrogate}
+use Rattle.std.specs.Str.{IsUtf8, is_utf8}
 use Rattle.std.proofs.lemmas.Bool.{lt-leb, lt-ltb, le-ltb, le-leb, cases_lt}
 use Rattle.std.proofs.lemmas.Int.{ints}
 use Rattle.std.proofs.lemmas.Int.Digits.{number_after_append}
@@ -14,12 +14,12 @@ use Rattle.std.proofs.lemmas.Str.{is_utf8-from_IsUtf8, IsUtf8-from_is_utf8}
 use Rattle.std.proofs.Math.Nat.{pow-zero, pow-succ', add-mul, mul_assoc}
 use Rattle.std.proofs.Math.ListN.{length-replicate}
 use Rattle.std.proofs.Math.Seq.{take-add}
-use Rattle.std.specs.Prelude.{⊤, if◌then◌else◌}
+use Rattle.std.specs.Prelude.{if◌then◌else◌}
 use Rattle.plist_base.specs.Packing.{content_bytes, number_of_padded, padded}
 use Rattle.plist_base.specs.declared.error.Error.{Error}
-use Rattle.plist_base.specs.Faults.{FaultKind, Fault, IntegerOutOfRange, InvalidUtf8String, InvalidUtf16String, MatchFault, kind_of, error_kind_of, offset_of, fault_of, fault_at}
+use Rattle.plist_base.specs.Faults.{IntegerOutOfRange, InvalidUtf8String, kind_of, error_kind_of, fault_of}
 use Rattle.plist_base.specs.Trees.{Integer, String}
-use Rattle.plist_base.proofs.Refusals.{MatchFault-at, MatchFault-weaker}
+use Rattle.plist_base.proofs.Refusals.{MatchFault-weaker}
 use Rattle.plist_base.specs.Container.{number_of, numbers_spelled}
 use Rattle.plist_base.proofs.Utf16Forms.{no_fewer_bytes}
 use Rattle.plist_decode.specs.Decoding.{Allocates, IsRefusedAs, is_small_object}
@@ -27,7 +27,7 @@ use Rattle.plist_decode.specs.CountedContent.{content_means, unit_size}
 use Rattle.plist_decode.specs.Reading.{IsIoOrMemoryAt}
 use Rattle.plist_decode.specs.declared.decoded.ContentKind.{ContentKind}
 use Rattle.plist_decode.specs.declared.decoded.ContentKind.TheVariants as kind
-use Rattle.plist_base.specs.Object.{Object, Scalar, Faulty, signed, integer_in_range, wide_integer, text, text_of_units, wide_text, meaning_of_front}
+use Rattle.plist_base.specs.Object.{Object, Scalar, Faulty, signed, integer_in_range, wide_integer, text, wide_text, meaning_of_front}
 
 one_digit : (n b d power rest all : ℕ) → all ≡ b * power
     → (n * b + d) * power + rest ≡ n * all + ((0 * b + d) * power + rest)
@@ -96,17 +96,6 @@ out_of_range n big small = elim (cases_lt n _) [
 pub wide_high : (high low : ℕ) → 0 < high → high < 2 ^ 64 → low < 2 ^ 64
     → integer_in_range (signed 128 (high * 2 ^ 64 + low)) ≡ Faulty IntegerOutOfRange
 wide_high high low some h l = out_of_range (high * 2 ^ 64 + low) (omega arith) (omega arith)
-
--- an error with the kind of an object's fault, at the object's offset, is the error of the object
-pub refused_as : (object : Object) (place : ℕ) (e : Error) (kind : FaultKind)
-    → fault_of e ≡ fault_at kind place → MatchFault kind ⊥ ⊥ ⊤ → object ≡ Faulty kind
-    → IsRefusedAs object place e
-refused_as object place e kind fault inside is =
-    let same = ap (λ (f : Fault). f.kind) fault in
-    let there : offset_of e ≡ Some place = ap (λ (f : Fault). f.offset) fault in
-    MatchFault-at (kind_of (error_kind_of e)) kind _ _ _ same
-    (MatchFault-weaker kind (λ none. absurd none) (λ none. absurd none)
-    (λ _. (is ∙ ap Faulty (sym same), there)) inside)
 
 -- bytes that are UTF-8 mean a string, and bytes that aren't mean a fault
 pub text-utf8 : (bytes : List ℕ) → IsUtf8 bytes → text bytes ≡ Scalar (String bytes)
@@ -182,27 +171,17 @@ large_content kind.WideText count bytes long fits =
     large_wide_text _ (omega (arith, long, length-take-le (count * 2) bytes fits))
 
 -- each string may need memory
-grows_text : (content : List ℕ) → Allocates (text content)
-grows_text content = by _
-  where
-    by : (b : Bool) → Allocates (if b then Scalar (String content) else Faulty InvalidUtf8String)
-    by true = tt
-    by false = tt
-
-grows_units : (units : List ℕ) → Allocates (text_of_units units)
-grows_units units = by _
-  where
-    by : (b : Bool) → Allocates (if b then Faulty InvalidUtf16String else Scalar
-        (String (encode_utf8_all (utf16_lossy_chars units))))
-    by true = tt
-    by false = tt
+grows_either : (b : Bool) (x y : Object) → Allocates x → Allocates y → Allocates (if b then x else y)
+grows_either true x y p q = p
+grows_either false x y p q = q
 
 -- ---- a content that was read
 
 grows_content : (kind : ContentKind) (content : List ℕ) → Allocates (content_means kind content)
 grows_content kind.Data content = tt
-grows_content kind.Text content = grows_text content
-grows_content kind.WideText content = grows_units _
+grows_content kind.Text content = grows_either (is_utf8 content) _ _ tt tt
+grows_content kind.WideText content =
+    grows_either (has_unpaired_surrogate (numbers_spelled 2 content)) _ _ tt tt
 
 -- if the content wasn't read because a read or an allocation failed, the error is possible for the
 -- object

@@ -143,23 +143,14 @@ decoded_fits trailer place width all object (decoded.Collection kind start count
     (omega (arith, h, is.1), is.2)
 decoded_fits trailer place width all object (decoded.Faulty fault marker) h is = is.1
 
--- some bytes before the trailer decode to this result
-seen_as : (bounds : Bounds) (place : ℕ) (seen : List ℕ) (answer : Decoded)
-    → place + length seen ≤ bounds.trailer
-    → DecodesSeen (bounds.trailer - place) bounds.reference_width seen answer
-    → (all : List ℕ) × (place + length all ≤ bounds.trailer)
-    × IsDecodedAs bounds.reference_width all (object_in bounds.reference_width all) answer
-seen_as bounds place seen answer h means =
-    let k = bounds.trailer - place - length seen in
-    let more = replicate k 0 in
-    let n : length (seen ++ more) ≡ bounds.trailer - place =
-    omega (arith, length-append seen more, length-replicate {A = ℕ} k 0, h) in
-    (seen ++ more, omega (arith, n, h), means more n)
-
 pub seen_fits : (bounds : Bounds) (place : ℕ) (seen : List ℕ) (answer : Decoded)
     → place + length seen ≤ bounds.trailer
     → DecodesSeen (bounds.trailer - place) bounds.reference_width seen answer
     → FitsBefore bounds.trailer place answer
 seen_fits bounds place seen answer h means =
-    let a = seen_as bounds place seen answer h means in
-    decoded_fits bounds.trailer place bounds.reference_width a.0 _ answer a.1 a.2
+    let k = bounds.trailer - place - length seen in
+    let more = replicate k 0 in
+    let n : length (seen ++ more) ≡ bounds.trailer - place =
+    omega (arith, length-append seen more, length-replicate {A = ℕ} k 0, h) in
+    decoded_fits bounds.trailer place bounds.reference_width (seen ++ more) _ answer
+    (omega (arith, n, h)) (means more n)

@@ -2,10 +2,10 @@
 use Rattle.std.proofs.Common.{◌≡◌, ℕ, ◌+◌, ◌≤◌, Option, None, Some, Result, Ok, Err, arith, ap}
 use Rattle.std.specs.Prelude.{⊤, IsErrAnd}
 use Rattle.plist_base.specs.declared.error.Error.{Error}
-use Rattle.plist_base.specs.Faults.{FaultKind, Fault, IsNotIo, LimitReached, MatchFault, UnexpectedEof, Io, OutOfMemory, error_kind_of, fault_at, fault_of, kind_of}
+use Rattle.plist_base.specs.Faults.{FaultKind, Fault, MatchFault, UnexpectedEof, Io, error_kind_of, kind_of}
 use Rattle.plist_base.specs.Sources.{CountsIo, FailsReading, IsOffsetWithin, IsReadFault}
-use Rattle.plist_base.proofs.Refusals.{MatchFault-at, MatchFault-weaker}
-use Rattle.plist_decode.specs.FaultOffsets.{MatchGiven, MatchReader, FailsWithin, ErrWithin}
+use Rattle.plist_base.proofs.Refusals.{MatchFault-weaker}
+use Rattle.plist_decode.specs.FaultOffsets.{MatchGiven, FailsWithin, ErrWithin}
 
 place_wider : (offset : Option ℕ) (s e s' e' : ℕ) → s' ≤ s → e ≤ e' → IsOffsetWithin s e offset
     → IsOffsetWithin s' e' offset
@@ -41,18 +41,6 @@ from_reading fault p n s e h low high = record {
       (place_wider fault.offset p (p + n) s e low high h.at);
 }
 
--- an error in the bytes has an offset
-pub from_fault : (fault : Fault) (kind : FaultKind) (place s e : ℕ) → fault ≡ fault_at kind place
-    → MatchReader kind ⊥ ⊥ ⊤ → FailsWithin s e fault
-from_fault fault kind place s e is other = rw is (record { placed = by kind _ _ _ other })
-  where
-    by : (kind : FaultKind) (A B D : Type 0) → MatchReader kind ⊥ ⊥ ⊤ → MatchGiven kind A B ⊤ D
-    by UnexpectedEof A B D h = absurd h
-    by Io A B D h = absurd h
-    by OutOfMemory A B D h = absurd h
-    by (LimitReached limit) A B D h = absurd h
-    by kind A B D h = h
-
 -- an error that is neither `Io` nor `OutOfMemory` leaves the count of failures unchanged
 pub counts_fault : (A : Type 0) (error : Error) (old new : ℕ)
     → MatchFault (kind_of (error_kind_of error)) ⊥ ⊥ ⊤ → new ≡ old
@@ -60,13 +48,6 @@ pub counts_fault : (A : Type 0) (error : Error) (old new : ℕ)
 counts_fault A error old new other same =
     MatchFault-weaker (kind_of (error_kind_of error)) (λ none. absurd none) (λ none. absurd none)
     (λ _. same) other
-
--- an error in the bytes isn't an I/O error
-pub other_kind : (error : Error) (kind : FaultKind) (place : ℕ) → fault_of error ≡ fault_at kind place
-    → MatchFault kind ⊥ ⊥ ⊤ → IsNotIo (kind_of (error_kind_of error))
-other_kind error kind place is other =
-    MatchFault-at _ kind _ _ _ (ap (λ (f : Fault). f.kind) is)
-    (MatchFault-weaker kind (λ none. none) (λ none. absurd none) (λ _. tt) other)
 
 -- ---- results
 

@@ -9,15 +9,10 @@ use Rattle.std.proofs.lemmas.List.Sums.{prefix_len-drop_all, prefix_len-drop_no,
 use Rattle.std.proofs.lemmas.Option.{slice_get_within, slice_get-get_or, get_or_from_slice_get}
 use Rattle.plist_base.specs.Sources.{IsOffsetWithin}
 use Rattle.plist_base.specs.Container.{magic}
+use Rattle.plist_decode.proofs.UnknownBytes.{IfSome-both}
 use Rattle.plist_decode.specs.FaultOffsets.{HasOffset}
 use Rattle.plist_decode.specs.declared.format.Format.TheVariants.{Binary, Xml, Ascii}
 use Rattle.plist_decode.specs.Formats.{input_front, is_white, byte_order_mark_length, past_white, xml_place, format_of}
-
--- two facts that are true of known bytes can be used together
-pub both_known : {A : Type 0} (o : Option A) {P Q R : A → Type 0} → IfSome o P → IfSome o Q
-    → ((x : A) → P x → Q x → R x) → IfSome o R
-both_known None p q f = tt
-both_known (Some x) p q f = f x p q
 
 -- an offset that lies within bounds isn't `None`
 pub within-placed : (start end : ℕ) (offset : Option ℕ) → IsOffsetWithin start end offset
@@ -102,6 +97,6 @@ pub text-is : (k a b : Option (List ℕ)) (start : ℕ) (place : Option ℕ) →
     → IfSome k (λ bytes. option_map_or Xml place Ascii ≡ format_of bytes)
 unfolding format_of
 text-is k a b start place p q h m x =
-    both_known k (both_known k (rw p at m) (rw (q ∙ p) at x)
+    IfSome-both k (IfSome-both k (rw p at m) (rw (q ∙ p) at x)
     (λ bytes m x. x ∙ ap (λ s. xml_place s (input_front bytes)) m)) h (λ bytes x h. ap (λ p. option_map_or Xml p Ascii) x
     ∙ ap (λ b. cond b Binary (option_map_or Xml (xml_place (byte_order_mark_length bytes) (input_front bytes)) Ascii)) h)

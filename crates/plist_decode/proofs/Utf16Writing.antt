@@ -3,7 +3,7 @@ use Rattle.std.proofs.Common.{◌≡◌, ℕ, ◌+◌, ◌/◌, ◌%◌, ◌<◌
 use Rattle.std.specs.Char.{encode_utf8, len_utf8}
 use Rattle.std.specs.Str.{encode_utf8_all}
 use Rattle.std.proofs.lemmas.Bool.{le-ltb, lt-ltb}
-use Rattle.std.proofs.lemmas.List.{length-append, take_all}
+use Rattle.std.proofs.lemmas.List.{length-append}
 use Rattle.std.proofs.lemmas.Str.{encodes-IsAscii, encodes-append, length-encode}
 use Rattle.std.proofs.Math.Seq.{take-append_seam}
 use Rattle.plist_base.specs.ByteTests.{EachByte}
@@ -128,15 +128,6 @@ writes_then p q = record {
   room = q.room;
   left = omega (arith, p.left, q.left);
 }
-
--- all characters are written
-pub writes_all : {old new : ℕ × List ℕ × List ℕ} → WritesChars old new → new.2 ≡ []
-    → new.1 ≡ take old.0 old.1 ++ encode_utf8_all old.2
-writes_all {new = new} p none =
-    let whole : length new.1 ≤ new.0 =
-    omega (arith, p.room, ap (λ l. length (encode_utf8_all l)) none) in
-    sym (take_all new.0 new.1 whole) ∙ sym (append-nil (take new.0 new.1))
-    ∙ ap (λ l. take new.0 new.1 ++ encode_utf8_all l) (sym none) ∙ p.written
 
 -- memory of the text's length that begins with the text is the text
 pub whole_text : {size : ℕ} (new rest text : List ℕ) → new ≡ text → size ≡ length text
