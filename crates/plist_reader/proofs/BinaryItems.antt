@@ -16,13 +16,12 @@ use Rattle.plist_decode.specs.FaultOffsets.{HasOffset, MatchGiven, ItemGivenWith
 use Rattle.plist_binread.specs.Remaining.{SomeRemain, AllocatesFirst, AllocatesNext}
 use Rattle.plist_ascii.specs.declared.dialect.Dialect.{Dialect}
 use Rattle.plist_reader.specs.declared.reader.State.TheVariants as state
-use Rattle.plist_reader.specs.Reader.{BinaryReaderOf, items_of_input, items_in_format, StateGives}
+use Rattle.plist_reader.specs.Reader.{BinaryReaderOf, items_in_format, StateGives}
 use Rattle.plist_decode.specs.declared.format.Format.TheVariants as format
 use Rattle.plist_decode.specs.Formats.{format_of}
 use Rattle.plist_decode.proofs.Fronts.{within-placed}
 use Rattle.plist_reader.proofs.ReaderItems.{EndsAfter, Given, IsReaderItem, chosen-gives, input_within, one-remain, same-items}
 use Rattle.plist_base.specs.Unfolding.{items_of_file}
-use Rattle.plist_ascii.specs.declared.dialect.Dialect.TheVariants.{Lax}
 
 -- ---- `OutOfMemory` is yielded only if something remains
 
@@ -67,11 +66,6 @@ file-input : (limits : Option Limits) (dialect : Dialect) (bytes : List ℕ)
     → items_within limits (items_of_file bytes) ≡ input_within dialect limits bytes
 file-input limits dialect bytes is =
     ap (λ f. items_within limits (items_in_format dialect f bytes)) is
-
--- the items of an input that is binary are those of the file
-pub binary-input : (bytes : List ℕ) → format.Binary ≡ format_of bytes
-    → items_of_file bytes ≡ items_of_input bytes
-binary-input bytes is = ap (λ f. items_in_format Lax f bytes) is
 
 module _ {R : Type 0} {g : Ghosts R} where
   pub binary-gives : (old new : BinaryReaderOf R g) (item : Given) → binary.GivesBinary old item new
