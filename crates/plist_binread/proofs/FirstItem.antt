@@ -33,7 +33,7 @@ use Rattle.plist_decode.proofs.UnknownBytes.{IfSome-all, IfSome-both}
 use Rattle.std.proofs.lemmas.List.{nil_from_length}
 
 -- if the first item may need memory, some items remain
-remaining_if_wanted : (items : List Item) → AllocatesFirst items → SomeRemain items
+pub remaining_if_wanted : (items : List Item) → AllocatesFirst items → SomeRemain items
 remaining_if_wanted [] h = absurd h
 remaining_if_wanted (item ∷ items) h = omega arith
 

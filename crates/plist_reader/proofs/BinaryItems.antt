@@ -1,5 +1,5 @@
 -- What the reader of the binary format yields as the chosen one.
-use Rattle.std.proofs.Common.{◌≡◌, ℕ, ◌^◌, Bool, true, false, List, [], ◌∷◌, Option, None, Some, Ok, Err, IfSome, OnErr, MatchOption, inr, ap, ◌∙◌, refl}
+use Rattle.std.proofs.Common.{◌≡◌, ℕ, ◌^◌, Bool, true, false, List, Option, None, Some, Ok, Err, IfSome, OnErr, MatchOption, inr, ap, ◌∙◌, refl}
 use Rattle.std.specs.Option.{is_some, option_map}
 use Rattle.plist_base.specs.declared.source.Source.{Ghosts}
 use Rattle.plist_base.specs.Events.{Item, event_of}
@@ -12,26 +12,23 @@ use Rattle.plist_base.specs.Limits.{items_within}
 use Rattle.plist_base.specs.Faults.{FaultKind, Io, UnexpectedEof}
 use Rattle.plist_base.specs.Sources.{IsOffsetWithin}
 use Rattle.plist_binread.specs.BinaryReader as binary
+use Rattle.plist_binread.proofs.FirstItem.{remaining_if_wanted}
 use Rattle.plist_decode.specs.FaultOffsets.{HasOffset, MatchGiven, ItemGivenWithin}
-use Rattle.plist_binread.specs.Remaining.{SomeRemain, AllocatesFirst, AllocatesNext}
+use Rattle.plist_binread.specs.Remaining.{SomeRemain, AllocatesNext}
 use Rattle.plist_ascii.specs.declared.dialect.Dialect.{Dialect}
 use Rattle.plist_reader.specs.declared.reader.State.TheVariants as state
 use Rattle.plist_reader.specs.Reader.{BinaryReaderOf, items_in_format, StateGives}
 use Rattle.plist_decode.specs.declared.format.Format.TheVariants as format
 use Rattle.plist_decode.specs.Formats.{format_of}
 use Rattle.plist_decode.proofs.Fronts.{within-placed}
-use Rattle.plist_reader.proofs.ReaderItems.{EndsAfter, Given, IsReaderItem, chosen-gives, input_within, one-remain, same-items}
+use Rattle.plist_reader.proofs.ReaderItems.{EndsAfter, Given, IsReaderItem, chosen-gives, input_within, same-items}
 use Rattle.plist_base.specs.Unfolding.{items_of_file}
 
 -- ---- `OutOfMemory` is yielded only if something remains
 
-wants-remain : (before : List Item) → AllocatesFirst before → SomeRemain before
-wants-remain [] h = absurd h
-wants-remain (x ∷ xs) h = one-remain x xs
-
 either-remain : (new : Bool) (before : List Item) → AllocatesNext new before → SomeRemain before
 either-remain true before h = h
-either-remain false before h = wants-remain _ h
+either-remain false before h = remaining_if_wanted before h
 
 -- ---- one call
 

@@ -18,7 +18,6 @@ returns c = λ width first more whole.
     content_enough (c.in-Some.count) c.args.rest.to_trailer _ _ c.args.rest.shown
     (omega (arith, c.in-Some.ensures.within)) c.in-Some.ensures.short
     c.in-Some.ensures.near (omega arith) in
-    let one : c.in-Some.count ≡ c.in-Some.count * 1 = omega arith in
     few_bytes KindData c.args.low c.in-Some.count c.in-Some.count first c.args.rest.bytes.now
-    c.in-Some.following.now _ more c.small.result found.0 one seen refl
+    c.in-Some.following.now _ more c.small.result found.0 (omega arith) seen refl
     (means_small c.small.result (search rules) refl c.small.ensures) width
