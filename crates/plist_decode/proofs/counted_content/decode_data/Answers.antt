@@ -1,4 +1,4 @@
-use Rattle.std.proofs.Common.{refl, arith, rules, ◌≡◌, ◌*◌, ◌≤◌, length}
+use Rattle.std.proofs.Common.{refl, arith, rules, ◌≤◌, length}
 use Rattle.plist_decode.specs.declared.decoded.ContentKind.TheVariants.{Data as KindData}
 use Rattle.plist_decode.proofs.Contents.{large_content}
 use Rattle.plist_decode.proofs.Decoding.{content_enough, few_bytes, long_decoded, means_small}

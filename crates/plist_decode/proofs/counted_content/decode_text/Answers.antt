@@ -1,4 +1,4 @@
-use Rattle.std.proofs.Common.{refl, arith, ◌≡◌, ◌*◌, ◌≤◌, length}
+use Rattle.std.proofs.Common.{refl, arith, ◌≤◌, length}
 use Rattle.plist_decode.specs.declared.decoded.ContentKind.TheVariants.{Text as KindText}
 use Rattle.plist_decode.proofs.Contents.{large_content}
 use Rattle.plist_decode.proofs.Decoding.{content_enough, few_bytes, long_decoded}
