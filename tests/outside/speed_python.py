@@ -1,7 +1,7 @@
 #!/usr/bin/env python3
 """Compares the speed of the Python package with plistlib, on files that it makes.
 
-The files are some shapes of speed.py, and Info.plist files of some hundred applications in one list.
+The files are some shapes of speed.py, and Info.plist files of many applications in one list (17,600 for 10 MB).
 `loads` and `dumps` of both run in turn in one process, and for each the least processor time of some
 runs counts. Printed are tables in Markdown: milliseconds, and in parentheses the package's time by
 plistlib's. Before that it is tested that both return the same.
