@@ -42,7 +42,7 @@ BuffersNext before event after =
     (buffered_events after ≡ buffered_events before ++ without_length event ∷ [])
     × TestsWhole (is_whole after) (buffered_events before ++ event ∷ [])
 
--- the same events are buffered, and the same is expected next
+-- the buffered events and what is expected next are unchanged
 pub record BuffersSame (before after : EventBuffer) : Type 0 where
   pub events : buffered_events after ≡ buffered_events before
   pub expects : after.expects ≡ before.expects
