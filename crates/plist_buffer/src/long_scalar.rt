@@ -5,7 +5,7 @@ ghost use Rattle.std.proofs.Props.{props};
 ghost use Rattle.plist_buffer.specs.inner.LongContents.{bytes_stored, form_in, scalar_from, IsLongIn};
 ghost use Rattle.plist_base.specs.Trees.{String as StringScalar};
 
-use crate::short_bytes::ShortBytes;
+use crate::short_bytes::{MAX_SHORT, ShortBytes};
 use crate::stored_scalar::ScalarRef;
 use crate::wide::{is_long_wide, units_of};
 use plist_base::{Ascii, Utf16Str, all_pass};
@@ -70,6 +70,12 @@ impl<'a> LongRef<'a> {
             return Some(LongRef::new(Form::Wide, text.as_bytes()));
         }
         None
+    }
+
+    /// Returns `true` if a copy allocates no memory, since its bytes are stored in the value itself.
+    #[inline(always)]
+    pub fn is_short(self) -> bool {
+        self.bytes.len() <= MAX_SHORT
     }
 }
 

@@ -2,8 +2,8 @@
 
 ghost use Rattle.std.specs.Prelude.{◌≡◌, ◌≤◌, IfSome};
 
-// The greatest number of bytes that are stored in the value itself.
-const MAX_SHORT: usize = 30;
+/// The greatest number of bytes that are stored in the value itself.
+pub const MAX_SHORT: usize = 30;
 
 /// At most 30 bytes, which are stored in the value itself.
 #[derive(Clone, Copy)]

@@ -24,8 +24,11 @@ impl EventTable<'static> {
             (ScalarEvent (scalar_of_long_ref scalar.entry)) self.new) }
         ensures unchanged { OnErr result (plain_events self.new ≡ plain_events self.old) }
     {
-        if let Some(index) = self.find_long(&LongScalar::borrowed(scalar)) {
-            return self.repeat(ScalarNumber::Long(index));
+        // A short one is inserted without a look-up first, since its copy allocates no memory.
+        if !scalar.is_short() {
+            if let Some(index) = self.find_long(&LongScalar::borrowed(scalar)) {
+                return self.repeat(ScalarNumber::Long(index));
+            }
         }
         self.push_long(LongScalar::copy_of(alloc, scalar)?)
     }
