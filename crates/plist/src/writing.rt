@@ -50,7 +50,7 @@ fn push_all<'a>(table: &mut EventTable<'a>, events: &mut Events<'a>) -> Result<(
 }
 
 /// Returns a table of the value's events, in order, which stores every different scalar once.
-/// Strings and data of more than 30 bytes are borrowed from the value.
+/// Strings and data of more than 38 bytes are borrowed from the value.
 ///
 /// # Errors
 ///

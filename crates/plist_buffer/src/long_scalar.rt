@@ -79,27 +79,27 @@ impl<'a> LongRef<'a> {
     }
 }
 
-/// The form and the bytes of a string or data. If there are at most 30 bytes, they are stored in
+/// The form and the bytes of a string or data. If there are at most 38 bytes, they are stored in
 /// the value itself. More bytes are borrowed or owned.
 ///
-/// A short one has its form in the variant, since the value would otherwise be larger than 32
+/// A short one has its form in the variant, since the value would otherwise be larger than 40
 /// bytes.
 #[derive(Drop)]
 pub enum LongContent<'e> {
-    /// A string in ASCII of at most 30 bytes.
+    /// A string in ASCII of at most 38 bytes.
     ShortAscii(ShortBytes),
-    /// A string of at most 30 bytes in UTF-16.
+    /// A string of at most 38 bytes in UTF-16.
     ShortWide(ShortBytes),
-    /// Data of at most 30 bytes.
+    /// Data of at most 38 bytes.
     ShortData(ShortBytes),
-    /// More than 30 bytes that are borrowed, or bytes to compare with.
+    /// More than 38 bytes that are borrowed, or bytes to compare with.
     Borrowed(Form, &'e [u8]),
-    /// More than 30 bytes that are owned.
+    /// More than 38 bytes that are owned.
     Owned(Form, Vec<u8>),
 }
 
 impl<'e> LongContent<'e> {
-    // Copies the bytes into the value, or returns `None` if there are more than 30.
+    // Copies the bytes into the value, or returns `None` if there are more than 38.
     #[inline(always)]
     fn short(form: Form, bytes: &[u8]) -> Option<LongContent<'e>>
         ensures form { IfSome result (λ content. form_in content ≡ form) }
@@ -157,7 +157,7 @@ impl<'e> LongScalar<'e> {
     ghost use Rattle.plist_buffer.specs.AsciiTexts.{is_ascii_text};
     ghost use Rattle.plist_buffer.specs.StoredScalars.{IsStored, scalar_of_long, scalar_of_long_ref, scalar_of_ref};
 
-    /// Stores a string or data, given its form and its bytes. More than 30 bytes remain borrowed or
+    /// Stores a string or data, given its form and its bytes. More than 38 bytes remain borrowed or
     /// owned, as they were.
     pub fn new(form: Form, bytes: CowSlice<'e, u8>) -> LongScalar<'e>
         requires { IsLongIn form (cow_slice_items bytes) }

@@ -2,21 +2,21 @@
 
 ghost use Rattle.std.specs.Prelude.{◌≡◌, ◌≤◌, IfSome};
 
-/// The greatest number of bytes that are stored in the value itself.
-pub const MAX_SHORT: usize = 30;
+/// The greatest number of bytes that are stored in the value itself. A UUID as text has 36.
+pub const MAX_SHORT: usize = 38;
 
-/// At most 30 bytes, which are stored in the value itself.
+/// At most 38 bytes, which are stored in the value itself.
 #[derive(Clone, Copy)]
 pub struct ShortBytes {
     len: u8,
     bytes: [u8; MAX_SHORT],
-    ghost fits: { len ≤ 30 },
+    ghost fits: { len ≤ 38 },
 }
 
 impl ShortBytes {
     ghost use Rattle.plist_buffer.specs.inner.LongContents.{short_bytes};
 
-    /// Copies the bytes, or returns `None` if there are more than 30.
+    /// Copies the bytes, or returns `None` if there are more than 38.
     #[inline(always)]
     pub fn new(content: &[u8]) -> Option<ShortBytes>
         ensures { IfSome result (λ short. short_bytes short ≡ content.now) }
