@@ -1,6 +1,6 @@
 -- What the parsers of integers return, as Boolean tests.
 use Rattle.std.proofs.Common.{◌≡◌, ℕ, ◌^◌, ◌<◌, Bool, true, false, cond, List, [], ◌∷◌, drop, Option, None, Some, refl, ap, ◌∙◌, arith}
-use Rattle.std.specs.Prelude.{◌&&◌, ℤ, pos, negsuc, FitsSigned, MatchOption}
+use Rattle.std.specs.Prelude.{◌&&◌, ℤ, pos, negsuc, FitsSigned}
 use Rattle.std.proofs.lemmas.Bool.Decides.{nat_tests}
 use Rattle.std.proofs.lemmas.Int.{ints, to_z-of_z}
 use mir.Val.{of_z, to_z}
@@ -102,16 +102,3 @@ pub integer_unsigned : (text : List ℕ) (o r : Option ℤ)
     → ((rest : List ℕ) → text ≡ 48 ∷ 120 ∷ rest → ⊥) → o ≡ signed_of_text text → o ≡ None
     → r ≡ unsigned_of_text 10 text → r ≡ integer_of_text text
 integer_unsigned text o r h e i u = rw (integer_plain _ h, ← e, i) u
-
--- a text that doesn't begin with `0x` spells a signed number or else an unsigned one
-pub integer_either : {Called : Type 0} (text : List ℕ) (o r : Option ℤ)
-    → ((rest : List ℕ) → text ≡ 48 ∷ 120 ∷ rest → ⊥) → o ≡ signed_of_text text
-    → MatchOption o Called (λ z. r ≡ Some z) → (Called → r ≡ unsigned_of_text 10 text)
-    → r ≡ integer_of_text text
-integer_either text None r h e m u = integer_unsigned text None r h e refl (u m)
-integer_either text (Some z) r h e m u = m ∙ integer_signed text (Some z) z h e refl
-
--- rules for signed numbers, and for integers
-pub ruleset signed_texts = (signed_ok, signed_err, signed_back)
-
-pub ruleset integer_texts = (integer_prefixed, integer_signed, integer_unsigned)

@@ -1,6 +1,6 @@
 -- Characters of a string in UTF-16 that are ASCII, eight at a time.
 use Rattle.std.proofs.lemmas.Bool.Decides.{nat_tests}
-use Rattle.std.proofs.Common.{◌≡◌, ℕ, ◌+◌, ◌-◌, ◌*◌, ◌/◌, ◌<◌, ◌≤◌, inl, zero, suc, false, not, List, [], ◌∷◌, ◌++◌, length, get_or, drop, take, map, Option, Some, refl, sym, subst, ap, ◌∙◌, arith, drop-cons, is_some}
+use Rattle.std.proofs.Common.{◌≡◌, ℕ, ◌+◌, ◌-◌, ◌*◌, ◌/◌, ◌<◌, ◌≤◌, inl, zero, suc, false, not, List, [], ◌∷◌, ◌++◌, length, get_or, drop, take, map, Option, Some, refl, sym, subst, ap, ◌∙◌, arith, drop-cons, is_some, eq-eqb, leb, bit_or}
 use Rattle.std.specs.List.{list_any}
 use Rattle.std.specs.Option.{unwrap_or}
 use Rattle.std.specs.Char.Utf16.{has_unpaired_surrogate, utf16_chars, utf16_lossy_chars}
@@ -10,7 +10,7 @@ use lib.Lanes.{pick_l}
 use Rattle.plist_base.specs.ByteTests.{EachByte}
 use Rattle.plist_base.specs.Container.{number_of, numbers_spelled}
 use Rattle.plist_base.specs.Utf16.{ArePaired, IsAsciiBlock, unit_at}
-use Rattle.plist_base.specs.inner.Units.{IsAfterPaired}
+use Rattle.plist_base.proofs.ByteBlocks.{each_below, mask_right, none_of_two}
 use Rattle.plist_base.proofs.Utf16Forms.{IsBytes}
 use Rattle.plist_base.proofs.Utf16Units.{next_lone, units_length}
 
@@ -26,6 +26,10 @@ odds = 1 ∷ 3 ∷ 5 ∷ 7 ∷ 9 ∷ 11 ∷ 13 ∷ 15 ∷ []
 abbrev pub first_bytes : (units : List ℕ) → List ℕ
 first_bytes units = pick_l 0 (take 16 units ++ take 16 units) evens
 
+-- their second bytes
+abbrev pub second_bytes : (units : List ℕ) → List ℕ
+second_bytes units = pick_l 0 (take 16 units ++ take 16 units) odds
+
 -- they lie at the even indices
 pub at_evens : (units : List ℕ) → 16 ≤ length units → (k : ℕ) → k < 8
     → get_or (first_bytes units) k 0 ≡ get_or units (2 * k) 0
@@ -33,26 +37,22 @@ at_evens units long k below = grind (arith, nat_tests)
 
 -- the second bytes lie at the odd indices
 at_odds : (units : List ℕ) → 16 ≤ length units → (k : ℕ) → k < 8
-    → get_or (pick_l 0 (take 16 units ++ take 16 units) odds) k 0 ≡ get_or units (2 * k + 1) 0
+    → get_or (second_bytes units) k 0 ≡ get_or units (2 * k + 1) 0
 at_odds units long k below = grind (arith, nat_tests)
 
--- eight units whose first bytes are zero, and whose second bytes are ASCII
-pub block_of : (units first second : List ℕ) → 16 ≤ length units
-    → first ≡ pick_l 0 (take 16 units ++ take 16 units) evens
-    → second ≡ pick_l 0 (take 16 units ++ take 16 units) odds
-    → EachByte (λ byte. byte < 1) first → EachByte (λ byte. byte < 128) second
-    → IsAsciiBlock units second
-block_of units first second long p q zeros ascii = record {
-  long = ap length q;
-  first = λ k below. omega (
-    arith,
-    at_evens units long k below,
-    ap (λ l. get_or l k 0) p,
-    zeros k (omega (arith, below, ap length p)),
-  );
-  second = λ k below. sym (ap (λ l. get_or l k 0) q ∙ at_odds units long k below);
-  ascii = ascii;
-}
+-- eight units whose first bytes are zero, and whose second bytes are ASCII: no mask has a bit
+pub block_of : (units : List ℕ) → 16 ≤ length units
+    → bit_or (mask_right leb (first_bytes units) 1 8) (mask_right leb (second_bytes units) 128 8) ≡ 0
+    → IsAsciiBlock units (second_bytes units)
+block_of units long none =
+    let masks = none_of_two (mask_right leb (first_bytes units) 1 8) (mask_right leb (second_bytes units) 128 8) none in
+    let zeros = each_below 8 1 (first_bytes units) (omega arith) refl (eq-eqb _ _ masks.0) in
+    record {
+      long = refl;
+      first = λ k below. omega (arith, at_evens units long k below, zeros k below);
+      second = λ k below. sym (at_odds units long k below);
+      ascii = each_below 8 128 (second_bytes units) (omega arith) refl (eq-eqb _ _ masks.1);
+    }
 
 -- the bytes of a unit
 pub unit_is : (bytes : List ℕ) (at : ℕ) → at * 2 + 2 ≤ length bytes
@@ -164,20 +164,17 @@ module _ (bytes : List ℕ) (small : IsBytes bytes) where
   pub after_block : (at : ℕ) → at * 2 + 16 ≤ length bytes
       → ((k : ℕ) → k < 8
       → get_or (take (length bytes - 2 * at) (drop (2 * at) bytes)) (2 * k) 0 < 0xd8)
-      → IsAfterPaired bytes at (at + 8)
+      → has_unpaired_surrogate (drop at (numbers_spelled 2 bytes))
+      ≡ has_unpaired_surrogate (drop (at + 8) (numbers_spelled 2 bytes))
   after_block at le first =
       let n = length bytes - 2 * at in
-      record {
-        after = omega arith;
-        within = omega (arith, le);
-        same = low_units 8 at (omega (arith, le)) (λ k below.
-            grind (
-              arith,
-              get_or-take n (drop (2 * at) bytes) (2 * k) 0 (omega (arith, le, below)),
-              get_or-drop (2 * at) bytes (2 * k) 0,
-              first k below,
-            ));
-      }
+      low_units 8 at (omega (arith, le)) (λ k below.
+      grind (
+        arith,
+        get_or-take n (drop (2 * at) bytes) (2 * k) 0 (omega (arith, le, below)),
+        get_or-drop (2 * at) bytes (2 * k) 0,
+        first k below,
+      ))
 
 -- rules for blocks of ASCII
 pub ruleset blocks = (block_chars, block_paired, block_yields)

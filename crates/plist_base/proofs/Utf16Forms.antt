@@ -8,7 +8,7 @@ use Rattle.std.specs.List.{list_any, range_with_len, sum_by}
 use Rattle.std.proofs.lemmas.List.{length-append, take_all, take_more}
 use Rattle.std.proofs.lemmas.List.Sums.{sum_by-append, sum_by_push}
 use Rattle.std.proofs.lemmas.Str.{length-encode, chars-encodes, len_utf8_bounds, utf16_chars-nil, utf16_chars_lone, utf16_chars_pair}
-use Rattle.plist_base.specs.inner.Units.{utf8_share}
+use Rattle.plist_base.specs.Utf16.{utf8_share}
 use Rattle.std.specs.Option.{unwrap_or}
 use Rattle.std.specs.Str.{encode_utf8_all}
 use Rattle.std.proofs.Math.Utf8.{scalar, scalar_cases, scalars}

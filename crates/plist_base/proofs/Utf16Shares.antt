@@ -8,7 +8,7 @@ use Rattle.std.proofs.lemmas.List.Sums.{sum_by-append, sum_by-cons}
 use Rattle.std.proofs.lemmas.Simd.{bitmask_splat, get_or_wider, length-chunk, ones-mask_l, pick_l_left}
 use lib.Lanes.{Each1, chunk, digits_l, mask_l, number_l, pick_l, top, zip2}
 use Rattle.plist_base.specs.Container.{numbers_spelled}
-use Rattle.plist_base.specs.inner.Units.{utf8_share}
+use Rattle.plist_base.specs.Utf16.{utf8_share}
 use Rattle.plist_base.proofs.ByteBlocks.{turned}
 use Rattle.plist_base.proofs.Utf16Blocks.{unit_is}
 use Rattle.plist_base.proofs.Utf16Forms.{IsBytes}

@@ -1,5 +1,5 @@
 -- Strings in UTF-16, in big-endian order.
-use Rattle.std.specs.Prelude.{◌≡◌, ℕ, ◌+◌, ◌-◌, ◌*◌, ◌/◌, ◌%◌, ◌<◌, ◌≤◌, List, ◌∷◌, drop, length, slice_index, false, None, Some}
+use Rattle.std.specs.Prelude.{◌≡◌, ℕ, ◌+◌, ◌-◌, ◌*◌, ◌/◌, ◌%◌, ◌<◌, ◌≤◌, ◌&&◌, ◌||◌, nat_le, nat_lt, if◌then◌else◌, List, ◌∷◌, drop, length, slice_index, false, None, Some}
 use Rattle.std.specs.Int.{bytes_high_first}
 use Rattle.std.specs.List.{flat_map}
 use Rattle.std.specs.Char.Escape.{encode_utf16}
@@ -38,6 +38,12 @@ pub record IsUtf16 (bytes : List ℕ) : Type 0 where
 -- the unit at an index
 abbrev pub unit_at : List ℕ → (index : ℕ) → ℕ
 unit_at bytes index = number_at bytes (index * 2) 2
+
+-- how many bytes a unit adds to its string in UTF-8; the four bytes of the character of a surrogate
+-- pair are those of two units
+abbrev pub utf8_share : (unit : ℕ) → ℕ
+utf8_share unit = if nat_lt unit 0x80 then 1 else
+    (if nat_lt unit 0x800 || (nat_le 0xd800 unit && nat_lt unit 0xe000) then 2 else 3)
 
 -- the unit at an index is an unpaired surrogate
 abbrev pub IsUnpaired : List ℕ → (index : ℕ) → Type 0

@@ -2,4 +2,3 @@
 pub mod DateBits
 pub mod Hashing
 pub mod Windows
-pub mod Units

@@ -1,9 +1,8 @@
 //! Data, and its text form: lines of base64.
 
-ghost use Rattle.std.specs.Prelude.{◌≡◌, List, ℕ, length, Some, Ok, IfOk, IfErr, OnOk, string_bytes, nat_eq};
+ghost use Rattle.std.specs.Prelude.{◌≡◌, List, ℕ, length, Some, Ok, IfOk, IfErr, string_bytes, nat_eq};
 ghost use Rattle.std.specs.Borrow.{sem};
-ghost use Rattle.base64.specs.Engines.{standard};
-ghost use Rattle.base64.specs.GeneralPurpose.{IsBytes, IsDecodeFailure, decode_of, encode_of};
+ghost use Rattle.base64.specs.GeneralPurpose.{IsBytes};
 ghost use Rattle.plist_base.specs.Faults.{OutOfMemory};
 ghost use Rattle.plist_base.specs.Outcomes.{OnlyMemory};
 ghost use Rattle.plist_base.specs.DataText.{IsFaultOfText, IsNoData, data_of_text, data_text, without_white, IsReadWhereSpelled, IsAllNew, LendsBytes, refusal_text, refusal_of_decoding};

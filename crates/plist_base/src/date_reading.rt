@@ -1,6 +1,6 @@
 //! Parses dates to Unix seconds.
 
-ghost use Rattle.std.specs.Prelude.{◌≡◌, ◌==◌, ◌+◌, ◌+ℤ◌, ◌-ℤ◌, ◌*ℤ◌, ◌<◌, ◌≤◌, if◌then◌else◌, length, neg_ℤ, ℤ, pos, IsTrue, Some, None, IfSome};
+ghost use Rattle.std.specs.Prelude.{◌≡◌, ◌+◌, ◌+ℤ◌, ◌-ℤ◌, ◌*ℤ◌, ◌<◌, ◌≤◌, length, pos, IsTrue, Some, None, IfSome};
 ghost use Rattle.jiff_core.specs.Calendar.{IsEpochDay, IsWithin};
 ghost use Rattle.plist_base.specs.UnixSeconds as spec;
 
@@ -32,22 +32,9 @@ fn four_digits_at(text: &[u8], place: usize) -> Option<u16>
     Some(u16::from(high) * 100 + u16::from(low))
 }
 
-// Returns the number of days from 1970-01-01 to a date, or `None` if the calendar doesn't have it.
+// Parses the `YYYY-MM-DD` at offset 0, and returns the number of days from 1970-01-01 to it, or
+// `None` if the calendar doesn't have it.
 #[tactic(auto, unfolding(crate::specs::UnixSeconds::day_number))]
-fn day_number(year: u16, month: u8, day: u8) -> Option<i32>
-    requires { year < 10000 }
-    ensures is { result ≡ spec.day_number year month day }
-    ensures bound { IfSome result (λ n. IsEpochDay n) }
-{
-    // A greater month or day might not fit into an `i8`, the type of the calendar's parameters.
-    if month > 12 || day > 31 {
-        return None;
-    }
-    let date = Date::new(year as i16, month as i8, day as i8).ok()?;
-    Some(date.to_unix_epoch_day())
-}
-
-// Parses the `YYYY-MM-DD` at offset 0, and returns the number of days from 1970-01-01 to it.
 fn day_in(text: &[u8]) -> Option<i32>
     requires { 10 ≤ length text.now }
     ensures is { result ≡ spec.day_in text.now }
@@ -56,21 +43,17 @@ fn day_in(text: &[u8]) -> Option<i32>
     let year = four_digits_at(text, 0)?;
     let month = two_digits_at(text, 5)?;
     let day = two_digits_at(text, 8)?;
-    day_number(year, month, day)
+    // A greater month or day might not fit into an `i8`, the type of the calendar's parameters.
+    if month > 12 || day > 31 {
+        return None;
+    }
+    let date = Date::new(year as i16, month as i8, day as i8).ok()?;
+    Some(date.to_unix_epoch_day())
 }
 
-// Returns the second of the day at this time, or `None` if a part is out of range.
+// Parses the `HH:MM:SS` at offset 11, and returns the second of the day, or `None` if a part is out
+// of range.
 #[tactic(auto, unfolding(crate::specs::UnixSeconds::second_of_day))]
-fn second_of_day(hour: u8, minute: u8, second: u8) -> Option<u32>
-    ensures is { result ≡ spec.second_of_day hour minute second }
-    ensures bound { IfSome result (λ n. n < 86400) }
-{
-    (hour < 24 && minute < 60 && second < 60).then_some(
-        u32::from(hour) * 3600 + u32::from(minute) * 60 + u32::from(second),
-    )
-}
-
-// Parses the `HH:MM:SS` at offset 11, and returns the second of the day.
 fn time_in(text: &[u8]) -> Option<u32>
     requires { 19 ≤ length text.now }
     ensures is { result ≡ spec.time_in text.now }
@@ -79,7 +62,9 @@ fn time_in(text: &[u8]) -> Option<u32>
     let hour = two_digits_at(text, 11)?;
     let minute = two_digits_at(text, 14)?;
     let second = two_digits_at(text, 17)?;
-    second_of_day(hour, minute, second)
+    (hour < 24 && minute < 60 && second < 60).then_some(
+        u32::from(hour) * 3600 + u32::from(minute) * 60 + u32::from(second),
+    )
 }
 
 // Returns whether the text is long enough and has the separators at their offsets.

@@ -2,7 +2,7 @@
 
 ghost use Rattle.std.specs.Prelude.{◌≡◌, pos, negsuc, codes, ◌-◌, ◌^◌, ◌≤◌, ◌≤ℤ◌, ◌<ℤ◌, ◌↔◌, IsSome, IfSome, Some, ℤ, refl};
 ghost use Rattle.std.specs.Fmt.{signed_decimal, styled_signed_decimal};
-ghost use Rattle.plist_base.specs.IntegerText.{SpellsInteger, integer_of_text, signed_of_text, unsigned_of_text, without_prefixes};
+ghost use Rattle.plist_base.specs.IntegerText.{SpellsInteger, unsigned_of_text, without_prefixes};
 ghost use Rattle.std.proofs.Common.{ap};
 ghost use Rattle.plist_base.specs.Integer.{IsNumberOf, number_for, whole, IsOrderOf};
 ghost use Rattle.std.specs.Cmp.{partial_equiv_from_equiv, int_cmp_total, signed_po};
@@ -91,7 +91,14 @@ impl Integer {
     pub fn from_str(text: &str) -> Result<Integer, InvalidInteger>
         ensures number { SpellsInteger text.now result }
     {
-        number_in(text).ok_or(InvalidInteger)
+        let number = match text.strip_prefix("0x") {
+            Some(rest) => unsigned(strip_prefixes(rest), 16),
+            None => match text.parse::<i64>() {
+                Ok(number) => Some(Integer::from(number)),
+                Err(_) => unsigned(text, 10),
+            },
+        };
+        number.ok_or(InvalidInteger)
     }
 
     // Returns the value as an `i128`.
@@ -249,18 +256,6 @@ impl fmt::Display for InvalidInteger {
 
 impl std::error::Error for InvalidInteger {}
 
-// Parses a decimal number with an optional sign. Returns `None` if the string isn't one, or if the
-// number doesn't fit into an `i64`.
-#[tactic(auto, using(crate::proofs::Numerals::signed_texts))]
-fn signed(text: &str) -> Option<Integer>
-    ensures { result ≡ signed_of_text text.now }
-{
-    match text.parse::<i64>() {
-        Ok(number) => Some(Integer::from(number)),
-        Err(_) => None,
-    }
-}
-
 // Parses a number with an optional plus sign. Returns `None` if the string isn't one, or if the
 // number doesn't fit into a `u64`.
 #[tactic(auto, using(crate::proofs::Numerals::unsigned_ok, crate::proofs::Numerals::unsigned_err))]
@@ -283,17 +278,6 @@ fn strip_prefixes(text: &str) -> &str
         rest = more;
     }
     rest
-}
-
-// Returns the integer that a string spells, or `None` if it spells none.
-#[tactic(auto, using(crate::proofs::Numerals::integer_texts))]
-fn number_in(text: &str) -> Option<Integer>
-    ensures { result ≡ integer_of_text text.now }
-{
-    match text.strip_prefix("0x") {
-        Some(rest) => unsigned(strip_prefixes(rest), 16),
-        None => signed(text).or_else(|| unsigned(text, 10)),
-    }
 }
 
 /// Parses as [`Integer::from_str`] does, so that `text.parse::<Integer>()` can be called.

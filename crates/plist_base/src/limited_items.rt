@@ -1,7 +1,7 @@
 //! An iterator that yields the items of another iterator up to the first that isn't allowed.
 
 ghost use Rattle.std.specs.Prelude.{◌≡◌, false, OnOk, List};
-ghost use Rattle.plist_base.specs.Allowances.{AdmitsEvent, Passes, RefusesEvent, iterator_of, GivesAllowed};
+ghost use Rattle.plist_base.specs.Allowances.{AdmitsEvent, RefusesEvent, iterator_of, GivesAllowed};
 ghost use Rattle.plist_base.specs.Budgets.{items_within_budget, within_bytes};
 ghost use Rattle.plist_base.specs.Events.{event_of, Item};
 ghost use Rattle.plist_base.specs.Limits.{items_admitted, limited_items};
@@ -86,30 +86,6 @@ impl<I> LimitedItems<I, ByteBudget> {
     }
 }
 
-impl<I, A: Allowance> LimitedItems<I, A> {
-    // Decides what to yield for an item of the inner iterator.
-    fn pass(&mut self, item: Result<OwnedEvent, Error>) -> Result<OwnedEvent, Error>
-        requires going { self.old.ended ≡ false }
-        ensures passes { Passes A.lets A.may_reach self.old.limiter item.entry result
-            (self.new.limiter, self.new.ended) }
-        ensures inner { self.new.inner ≡ self.old.inner }
-    {
-        match item {
-            Ok(event) => match self.limiter.admit(&event) {
-                Ok(()) => Ok(event),
-                Err(reached) => {
-                    self.ended = true;
-                    Err(reached)
-                }
-            },
-            Err(error) => {
-                self.ended = true;
-                Err(error)
-            }
-        }
-    }
-}
-
 impl<I: Iterator<Item = Result<OwnedEvent, Error>>, A: Allowance> Iterator for LimitedItems<I, A> {
     type Item = Result<OwnedEvent, Error>;
 
@@ -123,12 +99,14 @@ impl<I: Iterator<Item = Result<OwnedEvent, Error>>, A: Allowance> Iterator for L
         if self.ended {
             return None;
         }
-        match self.inner.next() {
-            Some(item) => Some(self.pass(item)),
-            None => {
-                self.ended = true;
-                None
-            }
-        }
+        let item = match self.inner.next() {
+            Some(Ok(event)) => match self.limiter.admit(&event) {
+                Ok(()) => return Some(Ok(event)),
+                Err(reached) => Some(Err(reached)),
+            },
+            other => other,
+        };
+        self.ended = true;
+        item
     }
 }

@@ -1,10 +1,10 @@
 //! Limits on how much of a property list is read.
 
-ghost use Rattle.std.specs.Prelude.{◌≡◌, ◌&&◌, nat_le, true, false, IfOk, IfErr, OnErr, OnOk};
+ghost use Rattle.std.specs.Prelude.{◌≡◌, OnErr, OnOk};
 ghost use Rattle.plist_base.specs.Events.{event_of};
 ghost use Rattle.plist_base.specs.Outcomes.{IfFault};
-ghost use Rattle.plist_base.specs.Faults.{LimitReached, fault_without_offset, limit_name};
-ghost use Rattle.plist_base.specs.Limits.{Admits, Refuses, level_after, limited_items, limited_by, opens, IsLimitReached};
+ghost use Rattle.plist_base.specs.Faults.{LimitReached, limit_name};
+ghost use Rattle.plist_base.specs.Limits.{Admits, Refuses, limited_items, limited_by, IsLimitReached};
 
 use crate::{Allowance, Error, ErrorKind, Event, EventShape};
 
@@ -42,26 +42,6 @@ impl Limit {
     }
 }
 
-// Returns how many collections are open after an event of this shape if `level` were open before
-// it, or fails if that would be more than `depth`.
-fn level_after(depth: u64, level: u64, shape: EventShape) -> Result<u64, Limit>
-    ensures value { IfOk result (λ after. (after ≡ level_after shape level)
-        × ((opens shape && nat_le depth level) ≡ false)) }
-    ensures refused { IfErr result (λ limit. (limit ≡ Limit.Depth)
-        × ((opens shape && nat_le depth level) ≡ true)) }
-{
-    match shape {
-        EventShape::StartArray | EventShape::StartDictionary => {
-            if level >= depth {
-                return Err(Limit::Depth);
-            }
-            Ok(level + 1)
-        }
-        EventShape::EndCollection => Ok(level.saturating_sub(1)),
-        EventShape::Scalar => Ok(level),
-    }
-}
-
 /// Counts the events and the open collections of a property list under [`Limits`].
 #[derive(Clone, Copy)]
 pub struct LimitCounter {
@@ -83,22 +63,6 @@ impl LimitCounter {
             level: 0,
         }
     }
-
-    // Counts the event, or returns the limit that it exceeds. The limit of items is checked before
-    // the depth.
-    fn count(&mut self, event: &Event<'_>) -> Result<(), Limit>
-        ensures admitted { OnOk result (Admits self.old (event_of event.now) self.new) }
-        ensures refused { IfErr result (λ limit. Refuses self.old (event_of event.now)
-            (fault_without_offset (LimitReached limit))) }
-        ensures unchanged { OnErr result (self.new ≡ self.old) }
-    {
-        if self.admitted >= self.limits.items {
-            return Err(Limit::Items);
-        }
-        self.level = level_after(self.limits.depth, self.level, event.shape())?;
-        self.admitted += 1;
-        Ok(())
-    }
 }
 
 impl Allowance for LimitCounter {
@@ -117,7 +81,20 @@ impl Allowance for LimitCounter {
         ensures refused { IfFault result (Refuses self.old (event_of event.now)) }
         ensures unchanged { OnErr result (self.new ≡ self.old) }
     {
-        self.count(event)
-            .map_err(|limit| ErrorKind::LimitReached(limit).without_position())
+        if self.admitted >= self.limits.items {
+            return Err(ErrorKind::LimitReached(Limit::Items).without_position());
+        }
+        match event.shape() {
+            EventShape::StartArray | EventShape::StartDictionary => {
+                if self.level >= self.limits.depth {
+                    return Err(ErrorKind::LimitReached(Limit::Depth).without_position());
+                }
+                self.level += 1;
+            }
+            EventShape::EndCollection => self.level = self.level.saturating_sub(1),
+            EventShape::Scalar => {}
+        }
+        self.admitted += 1;
+        Ok(())
     }
 }

@@ -2,7 +2,7 @@
 //! first byte and determines what follows.
 
 ghost use Rattle.std.specs.Prelude.{◌≡◌, ℕ, ◌%◌, ◌<◌, ◌≤◌, IfNone, IfSome};
-ghost use Rattle.plist_base.specs.Object.{IsDecodedMarker, byte_of, high_half};
+ghost use Rattle.plist_base.specs.Object.{IsDecodedMarker, byte_of};
 
 use std::marker::Model;
 
@@ -29,14 +29,6 @@ impl Model for LowHalf {
 }
 
 impl LowHalf {
-    // Returns the low half of a marker.
-    #[inline(always)]
-    fn of_byte(byte: u8) -> LowHalf
-        ensures { result ≡ byte % 16 }
-    {
-        LowHalf { value: byte % 16 }
-    }
-
     /// Returns the low half for a length, or `None` if the length has to follow the marker.
     #[inline(always)]
     pub fn of_length(length: u64) -> Option<LowHalf>
@@ -121,23 +113,6 @@ pub enum CountedKind {
     Dictionary,
 }
 
-impl CountedKind {
-    // Returns the high half of the markers of this kind.
-    #[inline(always)]
-    fn high_half(self) -> u8
-        ensures value { result ≡ high_half self }
-        ensures small { result < 16 }
-    {
-        match self {
-            CountedKind::Data => 0x4,
-            CountedKind::Text => 0x5,
-            CountedKind::WideText => 0x6,
-            CountedKind::Array => 0xa,
-            CountedKind::Dictionary => 0xd,
-        }
-    }
-}
-
 /// The marker of an object. Only this type depends on the bytes of markers.
 #[derive(Clone, Copy)]
 pub enum Marker {
@@ -178,6 +153,7 @@ impl Marker {
         ensures byte { byte_of result ≡ byte }
         ensures decoded { IsDecodedMarker result }
     {
+        let low = LowHalf { value: byte % 16 };
         match byte {
             0x00 => Marker::Null,
             0x08 => Marker::Boolean(false),
@@ -191,12 +167,12 @@ impl Marker {
             0x22 => Marker::Real4,
             0x23 => Marker::Real8,
             0x33 => Marker::Date,
-            0x40..=0x4f => Marker::Counted(CountedKind::Data, LowHalf::of_byte(byte)),
-            0x50..=0x5f => Marker::Counted(CountedKind::Text, LowHalf::of_byte(byte)),
-            0x60..=0x6f => Marker::Counted(CountedKind::WideText, LowHalf::of_byte(byte)),
+            0x40..=0x4f => Marker::Counted(CountedKind::Data, low),
+            0x50..=0x5f => Marker::Counted(CountedKind::Text, low),
+            0x60..=0x6f => Marker::Counted(CountedKind::WideText, low),
             0x80..=0x87 => Marker::Uid(UidWidth { bytes: byte - 0x7f }),
-            0xa0..=0xaf => Marker::Counted(CountedKind::Array, LowHalf::of_byte(byte)),
-            0xd0..=0xdf => Marker::Counted(CountedKind::Dictionary, LowHalf::of_byte(byte)),
+            0xa0..=0xaf => Marker::Counted(CountedKind::Array, low),
+            0xd0..=0xdf => Marker::Counted(CountedKind::Dictionary, low),
             other => Marker::Unknown(other),
         }
     }
@@ -219,7 +195,16 @@ impl Marker {
             Marker::Real4 => 0x22,
             Marker::Real8 => 0x23,
             Marker::Date => 0x33,
-            Marker::Counted(kind, low) => kind.high_half() * 16 + low.value,
+            Marker::Counted(kind, low) => {
+                let high = match kind {
+                    CountedKind::Data => 0x40,
+                    CountedKind::Text => 0x50,
+                    CountedKind::WideText => 0x60,
+                    CountedKind::Array => 0xa0,
+                    CountedKind::Dictionary => 0xd0,
+                };
+                high + low.value
+            }
             Marker::Uid(width) => 0x7f + width.bytes,
             Marker::Unknown(byte) => byte,
         }

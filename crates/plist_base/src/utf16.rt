@@ -9,8 +9,7 @@ ghost use Rattle.plist_base.specs.Container.{numbers_spelled};
 ghost use Rattle.plist_base.specs.Faults.{InvalidUtf16String};
 ghost use Rattle.plist_base.specs.Object.{Faulty, Scalar, wide_text};
 ghost use Rattle.plist_base.specs.Trees.{String};
-ghost use Rattle.plist_base.specs.Utf16.{ArePaired, IsAsciiBlock, IsNextChar, IsUnpaired, IsUtf16, unit_at, chars_of_utf16, utf8_of_utf16};
-ghost use Rattle.plist_base.specs.inner.Units.{IsAfterPaired, utf8_share};
+ghost use Rattle.plist_base.specs.Utf16.{ArePaired, IsAsciiBlock, IsNextChar, IsUnpaired, IsUtf16, unit_at, chars_of_utf16, utf8_of_utf16, utf8_share};
 
 use crate::byte_test::{ByteTest, all_pass};
 use std::simd::prelude::*;
@@ -94,24 +93,9 @@ fn are_below_surrogates(units: &[u8]) -> bool
     first.simd_ge(u8x8::splat(0xd8)).to_bitmask() == 0
 }
 
-// Returns the index after the next eight units if all of them are less than the surrogates, or else
-// the index after the next character, or `None` if that begins with an unpaired surrogate.
-#[inline(always)]
-#[tactic(auto, using(crate::proofs::Utf16Blocks::after_block))]
-fn after_paired(bytes: &[u8], at: usize) -> Option<usize>
-    requires { 2 * at + 2 ≤ length bytes.now }
-    ensures { MatchOption result (IsUnpaired bytes.now at) (IsAfterPaired bytes.now at) }
-{
-    if bytes.len() / 2 - at >= 8 && are_below_surrogates(&bytes[2 * at..]) {
-        return Some(at + 8);
-    }
-    let (_, next) = char_at(bytes, at)?;
-    Some(next)
-}
-
 // Returns whether each surrogate is paired.
 #[inline(never)]
-#[tactic(auto, using(crate::proofs::Utf16Units::at_end))]
+#[tactic(auto, using(crate::proofs::Utf16Units::at_end, crate::proofs::Utf16Blocks::after_block))]
 fn all_paired(bytes: &[u8]) -> bool
     ensures yes { result ≡ true → ArePaired bytes.now }
     ensures no { result ≡ false → has_unpaired_surrogate (numbers_spelled 2 bytes.now) ≡ true }
@@ -119,9 +103,12 @@ fn all_paired(bytes: &[u8]) -> bool
     let count = bytes.len() / 2;
     let mut at = 0;
     while at < count {
-        match after_paired(bytes, at) {
-            Some(next) => at = next,
-            None => return false,
+        if count - at >= 8 && are_below_surrogates(&bytes[2 * at..]) {
+            at += 8;
+        } else if let Some((_, next)) = char_at(bytes, at) {
+            at = next;
+        } else {
+            return false;
         }
     }
     true
@@ -174,21 +161,6 @@ fn eight_units(bytes: &[u8], at: usize) -> u16x8
     u16x8::from_le_bytes(turned)
 }
 
-// Returns how many bytes all whole blocks of eight units add to their string in UTF-8.
-#[inline(always)]
-#[tactic(auto, using(crate::proofs::Utf16Shares::shares_more))]
-fn block_shares(bytes: &[u8]) -> usize
-    ensures value { result ≡ sum_by utf8_share
-        (take (8 * (length bytes.now / 16)) (numbers_spelled 2 bytes.now)) }
-    ensures small { result ≤ 24 * (length bytes.now / 16) }
-{
-    let mut size = 0;
-    for block in 0..bytes.len() / 16 {
-        size += eight_shares(eight_units(bytes, 8 * block));
-    }
-    size
-}
-
 /// A string in UTF-16: its units, each in two bytes in big-endian order. Every surrogate is paired.
 #[derive(Clone, Copy)]
 pub struct Utf16Str<'a> {
@@ -231,12 +203,16 @@ impl<'a> Utf16Str<'a> {
     }
 
     /// Returns the number of bytes that the string has in UTF-8.
-    #[tactic(auto, using(crate::proofs::Utf16Forms::shares))]
+    #[tactic(auto, using(crate::proofs::Utf16Forms::shares, crate::proofs::Utf16Shares::shares_more))]
     pub fn len_utf8(self) -> usize
         ensures { result ≡ length (string_of_utf16 self.entry) }
     {
-        let mut size = block_shares(self.bytes);
-        for at in 8 * (self.bytes.len() / 16)..self.bytes.len() / 2 {
+        let mut size = 0;
+        let blocks = self.bytes.len() / 16;
+        for block in 0..blocks {
+            size += eight_shares(eight_units(self.bytes, 8 * block));
+        }
+        for at in 8 * blocks..self.bytes.len() / 2 {
             size += utf8_share(unit_at(self.bytes, at));
         }
         size
@@ -252,17 +228,6 @@ impl<'a> Utf16Str<'a> {
     }
 }
 
-// Returns whether eight units are ASCII, given their first and their second bytes.
-#[inline(always)]
-fn are_ascii(first: u8x8, second: u8x8) -> bool
-    ensures zero { result ≡ true → EachByte (λ byte. byte < 1) first }
-    ensures ascii { result ≡ true → EachByte (λ byte. byte < 128) second }
-{
-    let not_zero = first.simd_ge(u8x8::splat(1)).to_bitmask();
-    let not_ascii = second.simd_ge(u8x8::splat(0x80)).to_bitmask();
-    not_zero | not_ascii == 0
-}
-
 // Returns the second bytes of the first eight units if these are ASCII.
 #[inline(always)]
 fn ascii_block(units: &[u8]) -> Option<[u8; 8]>
@@ -270,8 +235,11 @@ fn ascii_block(units: &[u8]) -> Option<[u8; 8]>
     ensures { IfSome result (λ block. IsAsciiBlock units.now block) }
 {
     let bytes = u8x16::from_slice(units);
+    let first = bytes.swizzle::<8>([0, 2, 4, 6, 8, 10, 12, 14]);
     let second = bytes.swizzle::<8>([1, 3, 5, 7, 9, 11, 13, 15]);
-    if are_ascii(bytes.swizzle::<8>([0, 2, 4, 6, 8, 10, 12, 14]), second) {
+    let not_zero = first.simd_ge(u8x8::splat(1)).to_bitmask();
+    let not_ascii = second.simd_ge(u8x8::splat(0x80)).to_bitmask();
+    if not_zero | not_ascii == 0 {
         return Some(second.to_array());
     }
     None

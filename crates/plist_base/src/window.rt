@@ -1,7 +1,7 @@
 //! Windows of a file, stored in two slices: one has a header for every window, the other the bytes
 //! of all windows.
 
-ghost use Rattle.std.specs.Prelude.{◌≡◌, ◌+◌, ◌*◌, ◌<◌, ◌≤◌, length, drop, take, IfSome, OnErr};
+ghost use Rattle.std.specs.Prelude.{◌≡◌, ◌+◌, ◌*◌, ◌<◌, ◌≤◌, length, IfSome, OnErr};
 ghost use Rattle.plist_base.specs.inner.Windows.{IsWindowOf, LendsFrom};
 
 use std::io;
@@ -58,16 +58,6 @@ pub(crate) fn window_at(headers: &[Header], size: usize, place: u64) -> Option<u
     (headers[i].start == start).then_some(i)
 }
 
-// Returns `size` bytes from this index on, or fewer if the slice ends earlier.
-#[inline(always)]
-fn part(bytes: &[u8], first: usize, size: usize) -> &[u8]
-    requires { first ≤ length bytes.now }
-    ensures { result.now ≡ take size (drop first bytes.now) }
-{
-    let rest = &bytes[first..];
-    &rest[..size.min(rest.len())]
-}
-
 /// Returns the buffered bytes from this offset on. The slice is empty if none are buffered.
 #[inline(always)]
 pub(crate) fn buffered_in<'a>(
@@ -88,7 +78,8 @@ pub(crate) fn buffered_in<'a>(
     if from >= filled {
         return &[];
     }
-    part(bytes, i * (size + OVERLAP) + from, filled - from)
+    let rest = &bytes[i * (size + OVERLAP) + from..];
+    &rest[..(filled - from).min(rest.len())]
 }
 
 // Returns the index of the window to fill for this offset: the window to which the offset already

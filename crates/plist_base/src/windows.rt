@@ -86,28 +86,22 @@ impl LongWindows {
         self.extend_to(INITIAL_WINDOWS)
     }
 
-    // Stores that window `number` of the file is filled, and returns whether it, or a window with
-    // the same bit, was filled before. Returns `false` if the bits couldn't be allocated.
-    fn mark_filled(&mut self, number: u64) -> bool
+    // Counts the fill of a window, and doubles the number of windows if refills are frequent.
+    fn count_fill(&mut self, number: u64)
         ensures { KeepsWindows self.old self.new }
     {
         let bit = number % FILL_BITS as u64;
         let mask = 1 << (bit % 64);
-        match self.ever_filled.get_mut((bit / 64) as usize) {
+        let was_filled = match self.ever_filled.get_mut((bit / 64) as usize) {
             Some(ever_filled) => {
                 let before = *ever_filled & mask != 0;
                 *ever_filled |= mask;
                 before
             }
+            // The bits couldn't be allocated.
             None => false,
-        }
-    }
-
-    // Counts the fill of a window, and doubles the number of windows if refills are frequent.
-    fn count_fill(&mut self, number: u64)
-        ensures { KeepsWindows self.old self.new }
-    {
-        if !self.mark_filled(number) {
+        };
+        if !was_filled {
             self.refills = self.refills.saturating_sub(1);
             return;
         }
