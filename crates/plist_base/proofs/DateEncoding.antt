@@ -9,7 +9,7 @@ use Rattle.std.specs.Prelude.{unsigned_abs, is_none, ◌*ℤ◌}
 use Rattle.std.specs.Int.Signed.{lt_z}
 use Rattle.std.proofs.lemmas.Int.{ints}
 use Rattle.plist_base.specs.Date.{real_exponent, real_mantissa, real_scale, parts_in_second, parts_of, whole_seconds, parts_left, real_second, rounded_down, is_second_of_date, if_second_of_date, is_negative, second_of_bits, has_fraction, real_bits, real_parts, date_if, IsWholeAt}
-use Rattle.plist_base.specs.inner.DateBits.{whole_bits, second_bits, AreBitsAt}
+use Rattle.plist_base.specs.Date.{whole_bits, second_bits, AreBitsAt}
 use Rattle.plist_base.proofs.DateShifts.{second_pos}
 
 pub record Encoded (n : ℕ) : Type 0 where

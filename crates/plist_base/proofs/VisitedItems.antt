@@ -7,7 +7,7 @@ use Rattle.plist_base.specs.declared.event.Event.{Event}
 use Rattle.plist_base.specs.declared.visitor.Visited.{Visited}
 use Rattle.plist_base.specs.Events.{PlainEvent, Item, event_of}
 use Rattle.plist_base.specs.FirstItems.{GivesFirstIfKnown, StopsIf}
-use Rattle.plist_base.specs.Tokens.{HasNamed}
+use Rattle.plist_base.specs.VisitedItems.{HasNamed}
 use Rattle.plist_base.specs.VisitedItems.{NoneLeft, VisitsKnown, WantsAll, YieldsFirst}
 use Rattle.plist_base.specs.Visits.{Flow, HandsOverAll, PlainItem, TakesTurn, Visits, YieldsAll, last_turn, plain_item}
 use Rattle.plist_base.proofs.FirstItems.{first_weaker_if_known, plain_first}

@@ -4,7 +4,7 @@ use Rattle.plist_base.specs.declared.byte_budget.ByteBudget.{ByteBudget}
 use Rattle.plist_base.specs.declared.error.Error.{Error}
 use Rattle.plist_base.specs.declared.event.Event.{Event}
 use Rattle.plist_base.specs.declared.limited_items.LimitedItems.{LimitedItems}
-use Rattle.plist_base.specs.Allowances.{AdmitsEvent, GivesAllowed, RefusesEvent, items_allowed}
+use Rattle.plist_base.specs.Allowances.{GivesAllowed, items_allowed}
 use Rattle.plist_base.specs.Faults.{Fault, OutOfMemory, fault_without_offset}
 use Rattle.plist_base.specs.Events.{PlainEvent, Item, text_or_data}
 
@@ -34,14 +34,6 @@ within_budget budget = within_bytes budget.left
 -- the fault is the one that replaces an event
 abbrev pub IsBudgetUsedUp : Fault → Type 0
 IsBudgetUsedUp fault = fault ≡ fault_without_offset OutOfMemory
-
--- the event is admitted, and the new budget decides on what follows it
-abbrev pub AdmitsWithin : (old : ByteBudget) → PlainEvent → (new : ByteBudget) → Type 0
-AdmitsWithin = AdmitsEvent within_budget
-
--- the event is replaced by this fault, which is `OutOfMemory`, and no item follows it
-abbrev pub RefusesWithin : ByteBudget → PlainEvent → Fault → Type 0
-RefusesWithin = RefusesEvent within_budget IsBudgetUsedUp
 
 -- the inner iterator's items that remain within the budget
 abbrev pub items_within_budget : {I : Type 0} → LimitedItems I ByteBudget → List Item → List Item

@@ -35,11 +35,6 @@ IsDateText date text =
 abbrev pub IsInUtc : List ℕ → Type 0
 IsInUtc text = (slice_index text 10 ≡ 84) × (slice_index text 19 ≡ 90)
 
--- parsing returned this date
-abbrev pub ReadsAs : {E : Type 0} → List ℕ → Result (List ℕ) E → Type 0
-ReadsAs date (Ok read) = read ≡ date
-ReadsAs date (Err error) = ⊥
-
 -- the call returned an error of this kind, without an offset
 abbrev pub IsRefused : {A : Type 0} → FaultKind → Result A Error → Type 0
 IsRefused kind (Ok value) = ⊥

@@ -3,7 +3,6 @@ use Rattle.std.specs.Prelude.{◌≡◌, ℕ, ◌+◌, ◌-◌, ◌==◌, ◌≤
 use Rattle.std.specs.Int.{w64, cast_signed, cast_unsigned, from_be_bytes, to_be_bytes}
 use Rattle.std.specs.Str.{is_utf8}
 use Rattle.std.proofs.Props.{props}
-use Rattle.std.specs.Coded.{Coded, prop_coded}
 use Rattle.plist_base.specs.Date.{date_of_bytes}
 use Rattle.plist_base.specs.Trees.{Scalar, Boolean, Data, Date, Integer, Real, String, Uid}
 use Rattle.plist_base.specs.declared.packed_scalar.PackedKind.{PackedKind}
@@ -35,10 +34,6 @@ IsPackable scalar = ⊤
 pub packable_prop : (scalar : Scalar) → IsProp (IsPackable scalar)
 packable_prop (Data bytes) = hlevel props
 packable_prop scalar = hlevel props
-
--- this fact has a code
-pub packable_coded : (scalar : Scalar) → Coded (IsPackable scalar)
-packable_coded scalar = prop_coded (packable_prop scalar)
 
 -- the tag, which encodes the kind of a scalar, the value of a Boolean, and the length of data or of a
 -- string

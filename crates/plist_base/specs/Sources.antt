@@ -1,6 +1,7 @@
 -- What the calls of a source return, and how the calls that fail are counted.
 use Rattle.std.specs.Prelude.{◌≡◌, ℕ, ◌+◌, ◌-◌, ◌^◌, ◌<◌, ◌≤◌, ◌⊎◌, List, length, take, drop, Option, None, Some, IfSome, MatchResult, Result, ⊤}
 use Rattle.plist_base.specs.declared.error.Error.{Error}
+use Rattle.plist_base.specs.declared.seeking.Seeking.{Seeking}
 use Rattle.plist_base.specs.Faults.{FaultKind, Fault, UnexpectedEof, Io, IsIo}
 use Rattle.plist_base.specs.FirstItems.{MatchItem}
 
@@ -57,3 +58,13 @@ FillsUpTo start buffer bytes fault = IfSome fault.offset
 -- if all of these `size` bytes exist, the fault is an I/O error
 abbrev pub IsIoWithin : (place size : ℕ) → List ℕ → Fault → Type 0
 IsIoWithin place size bytes fault = place + size ≤ length bytes → IsIo fault.kind
+
+-- ---- a source over a reader that can seek
+
+-- the number of calls that failed
+abbrev pub failures_of : {R : Type 0} → Seeking R → ℕ
+failures_of source = source.failed
+
+-- the inner reader
+abbrev pub seekable_of : {R : Type 0} → Seeking R → R
+seekable_of source = source.inner

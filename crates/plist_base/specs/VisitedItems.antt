@@ -1,9 +1,10 @@
--- The items that a visit hands over, if those that remained before are known.
-use Rattle.std.specs.Prelude.{◌≡◌, ◌⊎◌, List, [], ◌∷◌, ◌++◌, Option, Some, Result, Ok, IfSome, map}
+-- The items that a visit hands over, if those that remained before are known, and the tokens by which
+-- a visitor names scalars that it has taken.
+use Rattle.std.specs.Prelude.{◌≡◌, ◌⊎◌, ℕ, ◌<◌, List, [], ◌∷◌, ◌++◌, Option, Some, Result, Ok, IfSome, map}
 use Rattle.std.specs.declared.ops.ControlFlow.TheVariants.{Continue}
 use Rattle.plist_base.specs.declared.error.Error.{Error}
 use Rattle.plist_base.specs.declared.visitor.Visited.{Visited}
-use Rattle.plist_base.specs.Events.{PlainEvent, Item}
+use Rattle.plist_base.specs.Events.{IsScalarEvent, PlainEvent, Item}
 use Rattle.plist_base.specs.FirstItems.{GivesFirst}
 use Rattle.plist_base.specs.Visits.{Flow, PlainItem, TakesTurn, last_turn}
 
@@ -40,3 +41,22 @@ module _ {V : Type 0} (step : V → PlainEvent → Flow → V → Type 0) where
       → (new : Option (List Item) × V) → Type 0
   VisitsKnown old answer new = IfSome old.0 (λ all. (left : List Item) × (new.0 ≡ Some left)
       × VisitsItems (all, old.1) answer (left, new.1))
+
+module _ {V : Type 0} (step : V → PlainEvent → Flow → V → Type 0)
+    (names : V → (token : ℕ) → PlainEvent → Type 0) where
+  -- the token named this event when the visitor had just taken it, or later
+  pub record HasNamed (token : ℕ) (event : PlainEvent) (now : V) : Type 0 where
+    pub past : V
+    pub events : List PlainEvent
+    pub named : names past token event
+    pub since : WantsAll step past events now
+
+  -- a token that isn't 0 names the event that the visitor has just taken
+  abbrev pub NamesLast : (token : ℕ) → (now : V) → Type 0
+  NamesLast token now = (old : V) (event : PlainEvent) → step old event (Continue tt) now
+      → 0 < token → names now token event
+
+  -- the visitor takes the scalar that this token has named once more, unless it declines
+  abbrev pub TakesNamed : (old : V) → (token : ℕ) → Option Flow → (new : V) → Type 0
+  TakesNamed old token answer new = (event : PlainEvent) → HasNamed token event old
+      → IfSome answer (λ flow. IsScalarEvent event × step old event flow new)

@@ -3,7 +3,8 @@
 ghost use Rattle.std.specs.Prelude.{◌≡◌, OnErr, OnOk};
 ghost use Rattle.plist_base.specs.Events.{event_of};
 ghost use Rattle.plist_base.specs.Outcomes.{IfFault};
-ghost use Rattle.plist_base.specs.Budgets.{AdmitsWithin, RefusesWithin, within_budget, within_bytes, IsBudgetUsedUp};
+ghost use Rattle.plist_base.specs.Allowances.{AdmitsEvent, RefusesEvent};
+ghost use Rattle.plist_base.specs.Budgets.{within_budget, within_bytes, IsBudgetUsedUp};
 
 use crate::{Allowance, Error, ErrorKind, Event};
 
@@ -37,8 +38,10 @@ impl Allowance for ByteBudget {
     /// `OutOfMemory`, without an offset, if more bytes are needed than are left. The budget is
     /// unchanged then.
     fn admit(&mut self, event: &Event<'_>) -> Result<(), Error>
-        ensures admitted { OnOk result (AdmitsWithin self.old (event_of event.now) self.new) }
-        ensures refused { IfFault result (RefusesWithin self.old (event_of event.now)) }
+        ensures admitted { OnOk result (AdmitsEvent within_budget self.old (event_of event.now)
+            self.new) }
+        ensures refused { IfFault result (RefusesEvent within_budget IsBudgetUsedUp self.old
+            (event_of event.now)) }
         ensures unchanged { OnErr result (self.new ≡ self.old) }
     {
         match self.left.checked_sub(event.text_or_data().len() as u64) {

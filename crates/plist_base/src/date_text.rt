@@ -1,9 +1,9 @@
 //! Parses and prints dates.
 
-ghost use Rattle.std.specs.Prelude.{◌≡◌, ◌↔◌, ℕ, List, codes, Some, None, Ok, IsErr, IfOk, string_bytes};
+ghost use Rattle.std.specs.Prelude.{◌≡◌, ◌↔◌, ℕ, List, true, codes, Some, None, Ok, IsErr, IfOk, string_bytes};
 ghost use Rattle.plist_base.specs.Outcomes.{OnlyMemory};
-ghost use Rattle.plist_base.specs.Date.{IsWhole, has_fraction, second_of_bytes, HasFraction};
-ghost use Rattle.plist_base.specs.DateTexts.{HasOtherYear, HasTextYear, IsDateText, IsInUtc, IsRefused, ReadsAs, second_of_text, PrintsOnly};
+ghost use Rattle.plist_base.specs.Date.{IsWhole, has_fraction, real_bits, second_of_bytes};
+ghost use Rattle.plist_base.specs.DateTexts.{HasOtherYear, HasTextYear, IsDateText, IsInUtc, IsRefused, second_of_text, PrintsOnly};
 ghost use Rattle.plist_base.specs.Faults.{FractionalDate, InvalidDateString, YearOutOfRange, fault_without_offset, fault_of};
 
 use crate::date_reading::unix_second_of_text;
@@ -42,7 +42,7 @@ impl Date {
         // Errors.
         ensures refused { IsErr result ↔ (second_of_text text.now ≡ None) }
         // Laws.
-        ensures back { (date : List ℕ) → IsDateText date text.now → ReadsAs date result }
+        ensures back { (date : List ℕ) → IsDateText date text.now → result ≡ Ok date }
         ensures prints { IfOk result (λ date. IsInUtc text.now → IsDateText date text.now) }
     {
         let Some(second) = unix_second_of_text(text) else {
@@ -70,7 +70,7 @@ impl Date {
         // Result.
         ensures text { IfOk result (λ text. IsDateText self.now (string_bytes text)) }
         // Errors.
-        ensures fraction { HasFraction self.now → IsRefused FractionalDate result }
+        ensures fraction { has_fraction (real_bits self.now) ≡ true → IsRefused FractionalDate result }
         ensures year { IsWhole self.now → HasOtherYear self.now → IsRefused YearOutOfRange result }
         ensures memory { IsWhole self.now → HasTextYear self.now → OnlyMemory result }
         // Laws.

@@ -1,7 +1,7 @@
 //! Prints an error with the reason that the system reported.
 
 ghost use Rattle.std.specs.Prelude.{◌≡◌};
-ghost use Rattle.plist_base.specs.Reasons.{error_of_reason, reason_text};
+ghost use Rattle.plist_base.specs.Faults.{error_of_reason, reason_text};
 
 use crate::{Error, ErrorKind};
 use std::fmt;

@@ -1,8 +1,7 @@
 //! A source over a reader that can seek.
 
 ghost use Rattle.std.specs.Prelude.{◌≡◌, ◌≤◌, length, IfOk, None};
-ghost use Rattle.plist_base.specs.Sources.{CountsFailure};
-ghost use Rattle.plist_base.specs.Seeking.{failures_of, seekable_of};
+ghost use Rattle.plist_base.specs.Sources.{CountsFailure, failures_of, seekable_of};
 
 use crate::source::{Source, copy_at};
 use crate::windows::Windows;

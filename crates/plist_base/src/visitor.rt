@@ -35,7 +35,7 @@ pub trait EventVisitor {
     ghost use Rattle.plist_base.specs.PackedScalars.{scalar_of_packed};
     ghost use Rattle.plist_base.specs.Trees.{String};
     ghost use Rattle.plist_base.specs.Utf16Strings.{string_of_utf16};
-    ghost use Rattle.plist_base.specs.Tokens.{NamesLast, TakesNamed};
+    ghost use Rattle.plist_base.specs.VisitedItems.{NamesLast, TakesNamed};
     ghost use Rattle.plist_base.specs.Visits.{Flow};
 
     /// Relates the visitor before a call, the event that the call takes, its result, and the

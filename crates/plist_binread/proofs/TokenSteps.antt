@@ -5,7 +5,7 @@ use Rattle.std.specs.List.{slice_get}
 use Rattle.std.specs.declared.ops.ControlFlow.TheVariants.{Continue}
 use Rattle.plist_base.specs.Events.{IsScalarEvent, Item, PlainEvent, ScalarEvent}
 use Rattle.plist_base.specs.Object.{Object, Scalar, Array, Dictionary, Faulty}
-use Rattle.plist_base.specs.Tokens.{HasNamed, TakesNamed}
+use Rattle.plist_base.specs.VisitedItems.{HasNamed, TakesNamed}
 use Rattle.plist_base.specs.Unfolding.{until_fault}
 use Rattle.plist_base.specs.Visits.{Flow}
 use Rattle.plist_base.proofs.VisitedItems.{named_then}

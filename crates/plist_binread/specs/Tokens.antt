@@ -2,7 +2,7 @@
 use Rattle.std.specs.Prelude.{◌≡◌, ◌⊎◌, ℕ, ◌<◌, true, false, List, length, slice_index, Option, Some, IfSome, option_and_then}
 use Rattle.std.specs.List.{slice_get}
 use Rattle.plist_base.specs.Events.{PlainEvent}
-use Rattle.plist_base.specs.Tokens.{HasNamed}
+use Rattle.plist_base.specs.VisitedItems.{HasNamed}
 use Rattle.plist_base.specs.Unfolding.{TableEntry}
 use Rattle.plist_base.specs.Visits.{Flow}
 use Rattle.plist_decode.specs.Packed.{is_marked, is_small_event, unmarked}

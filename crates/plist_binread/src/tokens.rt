@@ -32,7 +32,7 @@ pub struct Tokens {
 
 impl Tokens {
     ghost use Rattle.plist_binread.specs.Tokens.{HasNoTokens, HoldsTokens, IsEventOf, IsTokenOf, StoresToken, StoresTokenOf, stored_token};
-    ghost use Rattle.plist_base.specs.Tokens.{NamesLast};
+    ghost use Rattle.plist_base.specs.VisitedItems.{NamesLast};
 
     /// Creates an empty list. It allocates no memory.
     pub fn new(alloc: Global) -> Tokens

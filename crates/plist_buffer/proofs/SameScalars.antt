@@ -3,7 +3,8 @@ use Rattle.std.proofs.Common.{◌≡◌, ◌⊎◌, ℕ, ◌≤◌, Bool, true, 
 use Rattle.std.specs.Str.{bytes_eq}
 use Rattle.std.proofs.lemmas.Slice.Eq.{bytes_eq-Decides}
 use Rattle.plist_base.specs.Events.{ScalarEvent}
-use Rattle.plist_base.specs.Scalars.{scalar_eq, scalar_is, scalar_refl}
+use Rattle.plist_base.proofs.ScalarTests.{scalar_is, scalar_refl}
+use Rattle.plist_base.specs.Scalars.{scalar_eq}
 use Rattle.plist_base.specs.Trees.{Scalar}
 use Rattle.plist_base.specs.PackedScalars.{packed_eq, scalar_of_packed}
 use Rattle.plist_base.specs.Packing.{IsPackable}

@@ -19,7 +19,7 @@ pub struct WaitingScalars {
 impl Model for WaitingScalars {
     ghost use Rattle.std.specs.Prelude.{◌≡◌, ◌≤◌, List, length, take};
     ghost use Rattle.std.specs.Coded.{codes};
-    ghost use Rattle.plist_base.specs.Packing.{packable_coded};
+    ghost use Rattle.plist_base.proofs.ScalarTests.{packable_coded};
     ghost use Rattle.plist_base.specs.declared.packed_scalar.PackedScalar.{PackedScalar};
     ghost use Rattle.plist_buffer.specs.declared.waiting.TheConstants.{BATCH_SIZE};
 

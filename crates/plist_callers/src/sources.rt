@@ -2,7 +2,7 @@
 //! it has buffered, and how failures of the inner reader are counted.
 
 ghost use Rattle.std.specs.Prelude.{◌≡◌, ◌+◌, ◌-◌, ◌^◌, ◌<◌, ◌≤◌, IfOk, IfSome, IsOk, OnOk, Some, drop, length, take};
-ghost use Rattle.plist_base.specs.Seeking.{failures_of};
+ghost use Rattle.plist_base.specs.Sources.{failures_of};
 ghost use Rattle.plist_base.specs.Sources.{CountsFailure, LiesAt};
 
 use plist_base::{Error, Seeking, Sequential, Source, read_exact_at};

@@ -6,7 +6,7 @@ use Rattle.std.proofs.lemmas.List.{length-append}
 use Rattle.std.proofs.lemmas.Option.{get_or_from_slice_get, slice_get-get_or, slice_get_within}
 use Rattle.plist_base.specs.Bracketing.{without_length}
 use Rattle.plist_base.specs.Events.{EndCollection, IsScalarEvent, PlainEvent, ScalarEvent}
-use Rattle.plist_base.specs.Tokens.{HasNamed}
+use Rattle.plist_base.specs.VisitedItems.{HasNamed}
 use Rattle.plist_base.specs.VisitedItems.{WantsAll}
 use Rattle.plist_buffer.specs.EventTable.{event_at}
 use Rattle.plist_buffer.specs.inner.Entries.{is_leaf}

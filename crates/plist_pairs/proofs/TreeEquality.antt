@@ -5,7 +5,7 @@ use Rattle.std.specs.Cmp.{IsEquivalence, equiv, both_ways}
 use Rattle.std.proofs.lemmas.Option.{same_Some}
 use Rattle.std.proofs.lemmas.Bool.{and_parts, or_parts}
 use Rattle.std.specs.Cmp.Derive.{both_true}
-use Rattle.plist_base.specs.Scalars.{bytes_is, bytes_refl, scalar_is, scalar_refl}
+use Rattle.plist_base.proofs.ScalarTests.{bytes_is, bytes_refl, scalar_is, scalar_refl}
 use Rattle.plist_base.specs.Trees.{Scalar, Tree, Leaf, Array, Dictionary, Trees, NoTrees, TreeAnd, Members, NoMembers, MemberAnd}
 use Rattle.plist_pairs.specs.TreeEquality.{AreSameAt, first_value, is_among, if_found, has_keys, same, same_items, is_covered}
 

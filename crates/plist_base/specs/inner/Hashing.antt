@@ -1,5 +1,5 @@
 -- What an event writes to a hasher. Equal events write the same.
-use Rattle.std.specs.Prelude.{◌≡◌, ◌==◌, ℕ, Bool, true, List, []}
+use Rattle.std.specs.Prelude.{◌≡◌, ◌==◌, ℕ, true, List, []}
 use Rattle.std.proofs.Common.{ap, refl, rules}
 use Rattle.std.specs.Bool.{Decides}
 use Rattle.std.specs.Cmp.Rules.{comparing}
@@ -20,16 +20,12 @@ abbrev pub writes_of : PlainEvent → List (List ℕ)
 writes_of (ScalarEvent scalar) = writes_of_scalar scalar
 writes_of event = []
 
--- does the code find these events equal?
-abbrev pub eq_of_events : Event → Event → Bool
-eq_of_events x y = (impl.ghosts).eq x y
-
 -- the test of two lists of bytes decides whether they are equal
 pub same_list : (a b : List ℕ) → Decides (pointwise (λ x y. x == y) a b) (a ≡ b)
 same_list a b = slice_eq-Decides Decides-eqb a b _ refl
 
 -- events that the code finds equal have the same content
-pub same_event : (x y : Event) → eq_of_events x y ≡ true → event_of x ≡ event_of y
+pub same_event : (x y : Event) → (impl.ghosts).eq x y ≡ true → event_of x ≡ event_of y
 same_event (event.Data a) (event.Data b) h =
     ap (λ l. ScalarEvent (Data l)) ((same_list (cow_slice_items a) (cow_slice_items b)).0 h)
 same_event (event.String a) (event.String b) h =

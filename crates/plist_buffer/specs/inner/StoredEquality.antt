@@ -1,7 +1,8 @@
 -- Equal scalars have the same content, and so they write the same to a hasher.
 use Rattle.std.proofs.Common.{◌≡◌, ◌∷◌, [], true, ap, sym, subst}
 use Rattle.std.specs.Cmp.{IsEquivalence, both_ways}
-use Rattle.plist_base.specs.Scalars.{scalar_eq, scalar_is, scalar_refl}
+use Rattle.plist_base.proofs.ScalarTests.{scalar_is, scalar_refl}
+use Rattle.plist_base.specs.Scalars.{scalar_eq}
 use Rattle.plist_base.specs.Trees.{Scalar}
 use Rattle.plist_buffer.specs.inner.LongContents.{bytes_of_scalar}
 

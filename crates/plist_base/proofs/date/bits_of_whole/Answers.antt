@@ -1,5 +1,5 @@
 use Rattle.std.proofs.Common.{arith, refl}
-use Rattle.plist_base.specs.inner.DateBits.{whole_bits}
+use Rattle.plist_base.specs.Date.{whole_bits}
 use Rattle.plist_base.proofs.DateEncoding.{encoded}
 use Rattle.plist_base.proofs.date.bits_of_whole.Goals as goal
 
