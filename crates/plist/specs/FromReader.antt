@@ -6,7 +6,7 @@ use Rattle.plist_base.specs.Allowances.{iterator_of as inner_of_limited}
 use Rattle.plist_base.specs.Budgets.{GivesWithinBudget, items_within_budget, within_bytes}
 use Rattle.plist_base.specs.Limits.{GivesLimited, items_admitted, limited_items}
 use Rattle.plist_base.specs.Sources.{failures_of}
-use Rattle.plist_base.specs.declared.byte_budget.ByteBudget.{ByteBudget}
+use Rattle.plist_base.specs.declared.limits.ByteBudget.{ByteBudget}
 use Rattle.plist_base.specs.declared.limited_items.LimitedItems.{LimitedItems}
 use Rattle.plist_base.specs.declared.limits.LimitCounter.{LimitCounter}
 use Rattle.plist_base.specs.declared.limits.Limits.{Limits}

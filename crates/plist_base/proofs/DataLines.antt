@@ -4,6 +4,7 @@ use Rattle.std.proofs.lemmas.List.{append-nil, length-take-le, length-drop, take
 use Rattle.std.proofs.lemmas.List.Elements.{filter-append}
 use Rattle.std.proofs.lemmas.List.Folds.{concat-append}
 use Rattle.std.proofs.lemmas.List.FromFn.{map-range_with_len_more}
+use Rattle.std.specs.Int.{div_ceil}
 use Rattle.std.proofs.lemmas.Grind.{div_ceil_times}
 use Rattle.std.proofs.Math.Seq.{take-add}
 use Rattle.std.specs.List.{concat, join_with_byte, list_all, range_with_len}
@@ -19,7 +20,7 @@ use Rattle.std.proofs.lemmas.Bool.{and_parts}
 use Rattle.base64.specs.Rfc4648.{encode_symbols}
 use Rattle.base64.proofs.EngineFacts.{decode_of-encode_of, decode_of_iff, encode_of-append, encode_of-nil}
 use Rattle.base64.proofs.Streams.{decoded_of-ok}
-use Rattle.plist_base.specs.DataText.{bytes_of_line, first_lines, line_count, data_text, without_white, data_of_text, IsFaultOfText, IsNoData, refusal_of_decoding}
+use Rattle.plist_base.specs.DataText.{first_lines, data_text, without_white, data_of_text, IsFaultOfText, IsNoData, refusal_of_decoding}
 
 -- ---- no white space in base64
 
@@ -59,17 +60,17 @@ dark-base64 bytes = dark-append (encode_symbols _ _) _ (dark-symbols _) (dark-pa
 -- ---- the lines
 
 abbrev pub written : List ℕ → ℕ → List ℕ
-written bytes line = encode_of standard (bytes_of_line bytes line)
+written bytes line = encode_of standard (take 51 (drop (line * 51) bytes))
 
 -- if white space is removed, the lines follow one another
 dark-lines : (bytes lines : List ℕ)
     → without_white (join_with_byte 10 (map (written bytes) lines))
     ≡ concat (map (written bytes) lines)
 dark-lines bytes [] = refl
-dark-lines bytes (line ∷ []) = dark-base64 (bytes_of_line bytes line) ∙ sym (append-nil _)
+dark-lines bytes (line ∷ []) = dark-base64 (take 51 (drop (line * 51) bytes)) ∙ sym (append-nil _)
 dark-lines bytes (line ∷ next ∷ lines) =
     filter-append is_dark (written bytes line) _
-    ∙ rw (dark-base64 (bytes_of_line bytes line), dark-lines bytes (next ∷ lines)) refl
+    ∙ rw (dark-base64 (take 51 (drop (line * 51) bytes)), dark-lines bytes (next ∷ lines)) refl
 
 concat-lines : (bytes : List ℕ) (count : ℕ) → count * 51 < length bytes + 51
     → concat (first_lines count bytes) ≡ encode_of standard (take (count * 51) bytes)
@@ -79,7 +80,7 @@ concat-lines bytes (suc count) fits =
     let fills : length front ≡ count * 51 = length-take-le (count * 51) bytes (omega (arith, fits))
     in
     let whole : length front % 3 ≡ 0 = omega (arith, fills) in
-    let split : take (suc count * 51) bytes ≡ front ++ bytes_of_line bytes count =
+    let split : take (suc count * 51) bytes ≡ front ++ take 51 (drop (count * 51) bytes) =
     ap (λ n. take n bytes) (omega arith) ∙ take-add (count * 51) 51 _ in
     let next : suc count ≡ count + 1 = omega arith in
     ap (λ k. concat (first_lines k bytes)) next
@@ -130,7 +131,7 @@ lines-next bytes (suc line) grows ends lf lines some =
 pub written-reads : (bytes : List ℕ) → IsBytes bytes → data_of_text (data_text bytes) ≡ Some bytes
 unfolding data_of_text data_text
 written-reads bytes are_bytes =
-    let count = line_count bytes in
+    let count = div_ceil (length bytes) 51 in
     let whole_lines = div_ceil_times (length _) 51 (omega arith) in
     let all : take (count * 51) bytes ≡ bytes = take_all (count * 51) _ whole_lines.0 in
     let text : without_white (join_with_byte 10 (first_lines count bytes))
@@ -171,7 +172,7 @@ data_decoded text dark bytes is decoded =
 
 -- the lines together are the text
 pub text_of_lines : (bytes : List ℕ) (count : ℕ) (text : List ℕ)
-    → text ≡ join_with_byte 10 (first_lines count bytes) → count ≡ line_count bytes
+    → text ≡ join_with_byte 10 (first_lines count bytes) → count ≡ div_ceil (length bytes) 51
     → text ≡ data_text bytes
 unfolding data_text
 text_of_lines bytes count text is all = is ∙ ap (λ n. join_with_byte 10 (first_lines n bytes)) all

@@ -8,7 +8,8 @@ use Rattle.std.proofs.lemmas.Bool.Decides.{nat_tests, leb_tells}
 use Rattle.std.specs.Prelude.{unsigned_abs, is_none, ◌*ℤ◌}
 use Rattle.std.specs.Int.Signed.{lt_z}
 use Rattle.std.proofs.lemmas.Int.{ints}
-use Rattle.plist_base.specs.Date.{real_exponent, real_mantissa, real_scale, parts_in_second, parts_of, whole_seconds, parts_left, real_second, rounded_down, is_second_of_date, if_second_of_date, is_negative, second_of_bits, has_fraction, real_bits, real_parts, date_if, IsWholeAt}
+use Rattle.std.specs.Option.{option_map}
+use Rattle.plist_base.specs.Date.{real_exponent, real_mantissa, real_scale, parts_in_second, parts_of, whole_seconds, parts_left, real_second, rounded_down, is_second_of_date, if_second_of_date, is_negative, second_of_bits, has_fraction, real_bits, real_parts, date_bytes, IsWholeAt}
 use Rattle.plist_base.specs.Date.{whole_bits, second_bits, AreBitsAt}
 use Rattle.plist_base.proofs.DateShifts.{second_pos}
 
@@ -201,7 +202,7 @@ bytes_are bs b e h = cc (from_be_bytes-to_be_bytes_8 b h)
 
 -- eight bytes that have a second, and aren't the negative zero, are those of a date
 pub date_of_second : (second : Option ℤ) (bs : List ℕ) → is_none second ≡ false
-    → eqb (real_bits bs) (2 ^ 63) ≡ false → date_if second bs ≡ Some bs
+    → eqb (real_bits bs) (2 ^ 63) ≡ false → option_map (λ _. date_bytes bs) second ≡ Some bs
 date_of_second None bs some plain = absurd (cc)
 date_of_second (Some second) bs some plain = rw plain refl
 

@@ -6,7 +6,8 @@ use Rattle.std.proofs.Math.Nat.{div-add-mod, mod-lt, mul-le-mul_right}
 use Rattle.std.proofs.lemmas.Bool.{false_from_ne_true}
 use Rattle.std.proofs.lemmas.Bool.Decides.{nat_tests}
 use Rattle.std.proofs.lemmas.Int.{ints}
-use Rattle.plist_base.specs.Date.{IsSecondOf, real_parts, parts_of, whole_seconds, parts_left, real_second, rounded_down, is_second_of_date, if_second_of_date, IsSecondOfDate, second_of_bits, date_if, is_not_finite, IsDate, IsWhole, plist_epoch, real_bits, second_of_bytes}
+use Rattle.std.specs.Option.{option_map}
+use Rattle.plist_base.specs.Date.{IsSecondOf, real_parts, parts_of, whole_seconds, parts_left, real_second, rounded_down, is_second_of_date, if_second_of_date, IsSecondOfDate, second_of_bits, date_bytes, is_not_finite, IsDate, IsWhole, plist_epoch, real_bits, second_of_bytes}
 use Rattle.plist_base.specs.DateTexts.{HasTextYear, IsDateText, IsInUtc}
 use Rattle.plist_base.specs.UnixSeconds.{HasFourDigitYear, IsTextOfSecond, unix_second_of_text}
 use Rattle.plist_base.proofs.DateShifts.{second_pos}
@@ -157,7 +158,7 @@ text_in_utc date text second is_date whole is spells in_utc = (
 date_second : (date : List ℕ) → IsDate date → (second : ℤ) × (second_of_bytes date ≡ Some second)
 date_second date is = by_second _ refl is.1
   where
-    by_second : (second : Option ℤ) → second_of_bytes date ≡ second → date_if second date ≡ Some date
+    by_second : (second : Option ℤ) → second_of_bytes date ≡ second → option_map (λ _. date_bytes date) second ≡ Some date
         → (found : ℤ) × (second_of_bytes date ≡ Some found)
     by_second None none kept = absurd (cc)
     by_second (Some second) some kept = (second, some)

@@ -7,7 +7,8 @@ use Rattle.std.proofs.lemmas.Bool.{cases_lt}
 use Rattle.std.proofs.lemmas.Bool.Decides.{nat_tests}
 use Rattle.std.proofs.lemmas.Int.{ints}
 use Rattle.std.proofs.lemmas.Nat.{be_bytes_8}
-use Rattle.plist_base.specs.Date.{AreEightBytes, IsDate, IsWhole, date_if, has_fraction, is_negative, parts_in_second, parts_left, parts_of, real_bits, real_exponent, real_mantissa, real_parts, real_scale, real_second, rounded_down, second_of_bits, second_of_bytes, whole_seconds}
+use Rattle.std.specs.Option.{option_map}
+use Rattle.plist_base.specs.Date.{AreEightBytes, IsDate, IsWhole, date_bytes, has_fraction, is_negative, parts_in_second, parts_left, parts_of, real_bits, real_exponent, real_mantissa, real_parts, real_scale, real_second, rounded_down, second_of_bits, second_of_bytes, whole_seconds}
 use Rattle.plist_base.proofs.DateRounding.{neg_times, second_kept}
 use Rattle.plist_base.proofs.DateShifts.{power_pos}
 
@@ -156,7 +157,7 @@ no_signed_zero : (bytes : List ℕ) → IsDate bytes → eqb (real_bits bytes) (
 no_signed_zero bytes is = by_test (second_of_bytes bytes) _ bytes refl is.1
   where
     by_test : (second : Option ℤ) (b : Bool) (bytes : List ℕ) → eqb (real_bits bytes) (2 ^ 63) ≡ b
-        → date_if second bytes ≡ Some bytes → b ≡ false
+        → option_map (λ _. date_bytes bytes) second ≡ Some bytes → b ≡ false
     by_test second false bytes is same = refl
     by_test None true bytes is same = absurd (cc)
     by_test (Some second) true bytes is same =

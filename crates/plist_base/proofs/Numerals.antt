@@ -5,11 +5,12 @@ use Rattle.std.proofs.lemmas.Bool.Decides.{nat_tests}
 use Rattle.std.proofs.lemmas.Int.{ints, to_z-of_z}
 use mir.Val.{of_z, to_z}
 use Rattle.std.specs.List.{list_all}
+use Rattle.std.specs.Option.{option_or}
 use Rattle.std.specs.Char.{is_digit}
 use Rattle.std.specs.Str.Parse.{AllDigits, IsNumeral, digits_value, signed_digits_value, without_leading_plus, without_leading_sign}
 use Rattle.std.proofs.lemmas.Bool.{and_from, and_parts, false_from_ne_true, lt-ltb, ltb-true}
 use mir.Syntax.{w64}
-use Rattle.plist_base.specs.IntegerText.{is_numeral, unsigned_of_text, signed_of_text, fits_signed, integer_of_text, or_else, has_prefix, without_prefixes}
+use Rattle.plist_base.specs.IntegerText.{is_numeral, unsigned_of_text, signed_of_text, fits_signed, integer_of_text, has_prefix, without_prefixes}
 
 all_digits : (radix : ℕ) (ds : List ℕ) → AllDigits radix ds
     → list_all (λ c. is_digit c radix) ds ≡ true
@@ -89,7 +90,7 @@ unprefixed (a ∷ []) h = refl
 unprefixed (a ∷ b ∷ rest) h = grind (arith, nat_tests, h rest)
 
 pub integer_plain : (text : List ℕ) → ((rest : List ℕ) → text ≡ 48 ∷ 120 ∷ rest → ⊥)
-    → integer_of_text text ≡ or_else (signed_of_text text) (unsigned_of_text 10 text)
+    → integer_of_text text ≡ option_or (signed_of_text text) (unsigned_of_text 10 text)
 unfolding integer_of_text
 integer_plain text h = rw (unprefixed _ h) refl
 

@@ -1,6 +1,6 @@
 -- Items within a budget of bytes, which all strings and data share.
 use Rattle.std.specs.Prelude.{◌≡◌, ℕ, ◌+◌, ◌-◌, nat_lt, if◌then◌else◌, length, List, [], ◌∷◌, Option, Result, Ok, Err}
-use Rattle.plist_base.specs.declared.byte_budget.ByteBudget.{ByteBudget}
+use Rattle.plist_base.specs.declared.limits.ByteBudget.{ByteBudget}
 use Rattle.plist_base.specs.declared.error.Error.{Error}
 use Rattle.plist_base.specs.declared.event.Event.{Event}
 use Rattle.plist_base.specs.declared.limited_items.LimitedItems.{LimitedItems}

@@ -27,22 +27,14 @@ IsAllNew bytes new = overwritten bytes new ≡ new
 
 -- ---- what is written
 
--- the bytes of a line: 51, or fewer in the last line; lines are counted from 0
-abbrev pub bytes_of_line : List ℕ → ℕ → List ℕ
-bytes_of_line bytes line = take 51 (drop (line * 51) bytes)
-
--- the base64 of the first `count` lines
+-- the base64 of the first `count` lines; a line has 51 bytes, or fewer if it is the last one
 abbrev pub first_lines : ℕ → List ℕ → List (List ℕ)
 first_lines count bytes =
-    map (λ line. encode_of standard (bytes_of_line bytes line)) (range_with_len 0 count)
-
--- the number of lines
-abbrev pub line_count : List ℕ → ℕ
-line_count bytes = div_ceil (length bytes) 51
+    map (λ line. encode_of standard (take 51 (drop (line * 51) bytes))) (range_with_len 0 count)
 
 -- the text form of data, which is all lines, separated by LF
 unfoldable pub data_text : List ℕ → List ℕ
-data_text bytes = join_with_byte 10 (first_lines (line_count bytes) bytes)
+data_text bytes = join_with_byte 10 (first_lines (div_ceil (length bytes) 51) bytes)
 
 -- ---- what is read
 

@@ -21,10 +21,6 @@ abbrev pub HasTextYear : List ℕ → Type 0
 HasTextYear date =
     (second : ℤ) → second_of_bytes date ≡ Some second → HasFourDigitYear (second +ℤ plist_epoch)
 
--- the year of the date isn't one from 0 to 9999
-abbrev pub HasOtherYear : List ℕ → Type 0
-HasOtherYear date = ¬ (HasTextYear date)
-
 -- the date has no fraction, and this is the text of its second
 abbrev pub IsDateText : (date text : List ℕ) → Type 0
 IsDateText date text =

@@ -1,11 +1,22 @@
--- Equality of scalars, and what a scalar writes to a hasher.
-use Rattle.std.specs.Prelude.{ℕ, ◌==◌, Bool, false, not, if◌then◌else◌, List, [], ◌∷◌}
+-- The number that a real encodes, equality of scalars, and what a scalar writes to a hasher.
+use Rattle.std.specs.Prelude.{ℕ, ◌==◌, Bool, false, not, if◌then◌else◌, List, [], ◌∷◌, from_bits, to_bits}
 use Rattle.std.specs.Hash as fed
+use Rattle.std.specs.Int.{w32, w64, from_be_bytes, to_be_bytes}
 use Rattle.std.specs.Ordering.{int_eq}
 use Rattle.std.specs.Str.{bytes_eq}
+use lib.Ieee.{Float, binary32, binary64}
 use Rattle.plist_base.specs.declared.real.RealBits.{RealBits}
 use Rattle.plist_base.specs.declared.real.RealBits.TheVariants.{Four, Eight}
 use Rattle.plist_base.specs.Trees.{Scalar, Boolean, Data, Date, Integer, Real, String, Uid}
+
+-- the number that the bytes encode in their width
+abbrev pub number_of_real : RealBits → Float
+number_of_real (Four bytes) = from_bits binary32 (from_be_bytes w32 bytes)
+number_of_real (Eight bytes) = from_bits binary64 (from_be_bytes w64 bytes)
+
+-- the eight bytes that encode a number
+abbrev pub real_of : Float → RealBits
+real_of number = Eight (to_be_bytes w64 (to_bits binary64 number))
 
 -- are the reals of one width, with the same bytes?
 abbrev pub real_eq : RealBits → RealBits → Bool

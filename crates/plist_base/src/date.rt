@@ -1,8 +1,7 @@
 //! Dates, which are stored as the eight bytes of a real.
 
 ghost use Rattle.std.specs.Prelude.{◌≡◌, ℕ, ◌^◌, ◌<◌, ◌≤◌, ◌↔◌, not, ◌==◌, false, pos, ℤ, ◌*ℤ◌, ◌-ℤ◌, Some, None, IsSome, IfSome, IsErr, IfOk, IfErr, List, MatchOption};
-ghost use Rattle.plist_base.specs.Date.{IsDate, IsSecondOf, IsSecondOfDate, IsWhole, date_bytes, date_of_bytes, has_fraction, if_second_of_date, is_second_of_date, parts_in_second, parts_left, plist_epoch, real_bits, real_exponent, real_mantissa, real_parts, real_scale, rounded_down, second_of_bits, second_of_bytes, whole_seconds, HasNoSecond, IsExactly, IsOnlyAt, IsWholeAt};
-ghost use Rattle.plist_base.specs.Date.{whole_bits, AreBitsAt};
+ghost use Rattle.plist_base.specs.Date.{IsDate, IsSecondOf, IsSecondOfDate, IsWhole, date_bytes, date_of_bytes, has_fraction, if_second_of_date, is_second_of_date, parts_in_second, parts_left, plist_epoch, real_bits, real_exponent, real_mantissa, real_parts, real_scale, rounded_down, second_of_bits, second_of_bytes, whole_seconds, HasNoSecond, IsExactly, IsOnlyAt, IsWholeAt, whole_bits, AreBitsAt};
 
 use crate::ErrorKind;
 use std::marker::Model;
@@ -139,8 +138,8 @@ impl Date {
         self.plist_secs() + PLIST_EPOCH
     }
 
-    /// Returns the start of the second in which this date lies, which is the date without its fraction.
-    /// A date without a fraction is returned unchanged.
+    /// Returns the start of the second in which this date lies, which is the date without its
+    /// fraction. A date without a fraction is returned unchanged.
     ///
     /// # Examples
     ///

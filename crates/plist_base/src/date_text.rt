@@ -3,7 +3,7 @@
 ghost use Rattle.std.specs.Prelude.{◌≡◌, ◌↔◌, ℕ, List, true, codes, Some, None, Ok, IsErr, IfOk, string_bytes};
 ghost use Rattle.plist_base.specs.Outcomes.{OnlyMemory};
 ghost use Rattle.plist_base.specs.Date.{IsWhole, has_fraction, real_bits, second_of_bytes};
-ghost use Rattle.plist_base.specs.DateTexts.{HasOtherYear, HasTextYear, IsDateText, IsInUtc, IsRefused, second_of_text, PrintsOnly};
+ghost use Rattle.plist_base.specs.DateTexts.{HasTextYear, IsDateText, IsInUtc, IsRefused, second_of_text, PrintsOnly};
 ghost use Rattle.plist_base.specs.Faults.{FractionalDate, InvalidDateString, YearOutOfRange, fault_without_offset, fault_of};
 
 use crate::date_reading::unix_second_of_text;
@@ -71,7 +71,8 @@ impl Date {
         ensures text { IfOk result (λ text. IsDateText self.now (string_bytes text)) }
         // Errors.
         ensures fraction { has_fraction (real_bits self.now) ≡ true → IsRefused FractionalDate result }
-        ensures year { IsWhole self.now → HasOtherYear self.now → IsRefused YearOutOfRange result }
+        ensures year { IsWhole self.now → ¬ (HasTextYear self.now)
+            → IsRefused YearOutOfRange result }
         ensures memory { IsWhole self.now → HasTextYear self.now → OnlyMemory result }
         // Laws.
         ensures only { (text : List ℕ) → IsDateText self.now text → PrintsOnly text result }
@@ -81,10 +82,7 @@ impl Date {
         }
         match UtcSecond::from_unix_secs(self.unix_secs()) {
             None => Err(ErrorKind::YearOutOfRange.without_position()),
-            Some(parts) => {
-                let text = parts.to_string(alloc)?;
-                Ok(text)
-            }
+            Some(parts) => Ok(parts.to_string(alloc)?),
         }
     }
 }

@@ -2,9 +2,8 @@
 
 ghost use Rattle.std.specs.Prelude.{◌≡◌, pos, negsuc, codes, ◌-◌, ◌^◌, ◌≤◌, ◌≤ℤ◌, ◌<ℤ◌, ◌↔◌, IsSome, IfSome, Some, ℤ, refl};
 ghost use Rattle.std.specs.Fmt.{signed_decimal, styled_signed_decimal};
-ghost use Rattle.plist_base.specs.IntegerText.{SpellsInteger, unsigned_of_text, without_prefixes};
+ghost use Rattle.plist_base.specs.IntegerText.{SpellsInteger, unsigned_of_text, without_prefixes, IsNumberOf, number_for, whole, IsOrderOf};
 ghost use Rattle.std.proofs.Common.{ap};
-ghost use Rattle.plist_base.specs.Integer.{IsNumberOf, number_for, whole, IsOrderOf};
 ghost use Rattle.std.specs.Cmp.{partial_equiv_from_equiv, int_cmp_total, signed_po};
 ghost use Rattle.std.specs.Ordering.{int_eq, int_cmp};
 ghost use Rattle.std.proofs.lemmas.Cmp.{int_eq_equiv};

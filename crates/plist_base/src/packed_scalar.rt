@@ -188,9 +188,9 @@ impl PackedScalar {
         })
     }
 
-    /// Packs the scalar of an event. Returns `None` if the event is a start or an end, or a string or
-    /// data of more than eight bytes. The function is inlined, since most callers know the kind of
-    /// the event.
+    /// Packs the scalar of an event. Returns `None` if the event is a start or an end, or a string
+    /// or data of more than eight bytes. The function is inlined, since most callers know the kind
+    /// of the event.
     #[inline(always)]
     pub fn of_event(event: &Event<'_>) -> Option<PackedScalar>
         ensures some { IfSome result (λ packed. event_of event.now

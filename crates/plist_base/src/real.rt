@@ -1,7 +1,7 @@
 //! Reals, which are stored as their bytes.
 
 ghost use Rattle.std.specs.Prelude.{◌≡◌};
-ghost use Rattle.plist_base.specs.Reals.{number_of_real, real_of};
+ghost use Rattle.plist_base.specs.Scalars.{number_of_real, real_of};
 
 use std::num::{f32_from_bits_with_nan, f64_from_bits_with_nan, f64_to_bits_with_nan};
 

@@ -37,7 +37,11 @@ impl<R: Read + Seek> Seeking<R> {
         ensures inner { seekable_of result ≡ inner }
         ensures failures { failures_of result ≡ 0 }
     {
-        Seeking::with_memory(inner, None)
+        Seeking {
+            inner,
+            failed: 0,
+            windows: Windows::new(None),
+        }
     }
 
     /// Creates a source with windows of 8 KiB over the given reader.
@@ -58,17 +62,10 @@ impl<R: Read + Seek> Seeking<R> {
         ensures inner { seekable_of result ≡ inner }
         ensures failures { failures_of result ≡ 0 }
     {
-        Seeking::with_memory(inner, Some(alloc))
-    }
-
-    fn with_memory(inner: R, alloc: Option<Global>) -> Self
-        ensures inner { seekable_of result ≡ inner }
-        ensures failures { failures_of result ≡ 0 }
-    {
         Seeking {
             inner,
             failed: 0,
-            windows: Windows::new(alloc),
+            windows: Windows::new(Some(alloc)),
         }
     }
 

@@ -1,16 +1,49 @@
-//! A sink, which writes bytes to a writer through a buffer of fixed size.
+//! Writes bytes to a writer: at once, or by a sink, which has a buffer of fixed size.
 
 ghost use Rattle.std.specs.Prelude.{◌≡◌, ◌+◌, ◌≤◌, ℕ, [], length, true, false, OnErr, OnOk};
-ghost use Rattle.std.specs.Io.KnownBytes.{Appends};
+ghost use Rattle.std.specs.Io.KnownBytes.{Appends, Keeps};
 ghost use Rattle.plist_base.specs.FixedBuffers.{buffer_capacity, room};
 ghost use Rattle.plist_base.specs.Outcomes.{IsSizeOrNone, OnlyDevice};
 ghost use Rattle.plist_base.specs.Prefixes.{AppendsPrefix};
 ghost use Rattle.plist_base.specs.Sinks.{Advances, HasPut, IsSameSink, Puts, is_open, pending};
 
-use crate::send::{flush, send};
 use crate::{Error, FixedBuffer};
 use std::io;
 use std::io::Write;
+
+/// Writes all the bytes. A failed write isn't retried, not even after `Interrupted`.
+///
+/// # Errors
+///
+/// The error of a write that fails, or `WriteZero` if a write accepts no byte. A prefix of the
+/// bytes is written then.
+pub fn send<W: Write>(writer: &mut W, bytes: &[u8]) -> Result<(), io::Error>
+    ensures sent { OnOk result (Appends (W.contents writer.old) (W.contents writer.new) bytes.now) }
+    ensures prefix { AppendsPrefix (W.contents writer.old) (W.contents writer.new) bytes.now }
+{
+    let mut done = 0;
+    while done < bytes.len() {
+        match writer.write(&bytes[done..]) {
+            Ok(0) => return Err(io::Error::from(io::ErrorKind::WriteZero)),
+            Ok(count) => done += count,
+            Err(failure) => return Err(failure),
+        }
+    }
+    Ok(())
+}
+
+/// Flushes the writer.
+///
+/// # Errors
+///
+/// `Io`, without an offset, if the flush fails.
+pub fn flush<W: Write>(writer: &mut W) -> Result<(), Error>
+    ensures fault { OnlyDevice result }
+    ensures unchanged { Keeps (W.contents writer.old) (W.contents writer.new) }
+{
+    writer.flush()?;
+    Ok(())
+}
 
 /// Writes bytes to a writer through a buffer of [`BUFFER_CAPACITY`] bytes.
 ///

@@ -121,8 +121,8 @@ pub trait EventVisitor {
     }
 
     /// Takes a scalar that isn't a string or data of more than eight bytes. A source may use this
-    /// method instead of the one that the scalar's kind names. A visitor that stores scalars in this
-    /// form needn't unpack it.
+    /// method instead of the one that the scalar's kind names. A visitor that stores scalars in
+    /// this form needn't unpack it.
     #[inline(always)]
     fn packed(&mut self, scalar: PackedScalar) -> ControlFlow<()>
         ensures { step self.old (ScalarEvent (scalar_of_packed scalar)) result self.new }
@@ -148,9 +148,9 @@ pub trait EventVisitor {
         }
     }
 
-    /// Takes a scalar that it has taken before, given the token that [`EventVisitor::token`] returned
-    /// then. Returns `None` and changes nothing if the scalar is to be handed over by another
-    /// method. This is always so if the token is 0.
+    /// Takes a scalar that it has taken before, given the token that [`EventVisitor::token`]
+    /// returned then. Returns `None` and changes nothing if the scalar is to be handed over by
+    /// another method. This is always so if the token is 0.
     #[inline(always)]
     fn again(&mut self, token: u32) -> Option<ControlFlow<()>>
         ensures unnamed { token ≡ 0 → result ≡ None }
@@ -189,8 +189,8 @@ pub trait EventVisitor {
         None
     }
 
-    /// Returns a token for the scalar that was just taken, or 0 if there is none. The token is valid
-    /// as long as the visitor takes events and returns `Continue` for each. By
+    /// Returns a token for the scalar that was just taken, or 0 if there is none. The token is
+    /// valid as long as the visitor takes events and returns `Continue` for each. By
     /// [`EventVisitor::again`] a source can hand over the scalar once more without its content.
     #[inline(always)]
     fn token(&self) -> u32

@@ -118,13 +118,8 @@ impl LongWindows {
         if window_at(&self.headers, LONG_WINDOW, place).is_none() {
             self.count_fill(place / LONG_WINDOW as u64);
         }
-        fill_in(
-            &mut self.headers,
-            &mut self.bytes,
-            LONG_WINDOW,
-            place,
-            reader,
-        )
+        let LongWindows { headers, bytes, .. } = self;
+        fill_in(headers, bytes, LONG_WINDOW, place, reader)
     }
 }
 
@@ -185,13 +180,7 @@ impl Windows {
                 return long.fill(place, reader);
             }
         }
-        let short = &mut self.short;
-        fill_in(
-            &mut short.headers,
-            &mut short.bytes,
-            SHORT_WINDOW,
-            place,
-            reader,
-        )
+        let ShortWindows { headers, bytes } = &mut self.short;
+        fill_in(headers, bytes, SHORT_WINDOW, place, reader)
     }
 }

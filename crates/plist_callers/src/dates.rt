@@ -3,7 +3,7 @@
 
 ghost use Rattle.std.specs.Prelude.{◌≡◌, IfOk, None, Some, false, string_bytes};
 ghost use Rattle.plist_base.specs.Date.{IsWhole};
-ghost use Rattle.plist_base.specs.DateTexts.{HasOtherYear, IsInUtc, IsRefused, second_of_text};
+ghost use Rattle.plist_base.specs.DateTexts.{HasTextYear, IsInUtc, IsRefused, second_of_text};
 ghost use Rattle.plist_base.specs.Faults.{FractionalDate, InvalidDateString, YearOutOfRange};
 
 use plist_base::{Date, Error, ErrorKind};
@@ -52,7 +52,7 @@ pub fn half_second(alloc: Global) -> Result<String, Error>
 /// Returns the error of printing a date with a year outside 0 to 9999.
 pub fn other_year(alloc: Global, date: &Date) -> Result<String, Error>
     requires whole { IsWhole date.now }
-    requires year { HasOtherYear date.now }
+    requires year { ¬ (HasTextYear date.now) }
     ensures { IsRefused YearOutOfRange result }
 {
     date.to_xml_format(alloc)

@@ -5,7 +5,7 @@ ghost use Rattle.plist_base.specs.Allowances.{iterator_of};
 ghost use Rattle.plist_base.specs.Budgets.{GivesWithinBudget, total_bytes};
 ghost use Rattle.plist_base.specs.Events.{event_of};
 ghost use Rattle.plist_base.specs.Limits.{GivesLimited};
-ghost use Rattle.plist_base.specs.declared.byte_budget.ByteBudget.{ByteBudget};
+ghost use Rattle.plist_base.specs.declared.limits.ByteBudget.{ByteBudget};
 ghost use Rattle.plist_base.specs.declared.limited_items.LimitedItems.{LimitedItems};
 ghost use Rattle.plist_reader.specs.Reader.{Gives, IsNewReader};
 ghost use Rattle.plist.specs.Collecting.{CollectsWithin, built_tree};

@@ -1,7 +1,7 @@
 //! Proved callers of reals: the number of a real value, and the real of a number.
 
 ghost use Rattle.std.specs.Prelude.{◌≡◌, Some, option_map};
-ghost use Rattle.plist_base.specs.Reals.{number_of_real, real_of};
+ghost use Rattle.plist_base.specs.Scalars.{number_of_real, real_of};
 ghost use Rattle.plist.specs.Accessors.{real_in};
 ghost use Rattle.plist.specs.ValueTrees.{tree_of};
 

@@ -7,7 +7,7 @@ ghost use Rattle.plist_commands.specs.Commands.{plain_failure_of, PlainMessage, 
 
 use crate::failure::Failure;
 use arrayvec::ArrayString;
-use plist_base::send::send;
+use plist_base::sink::send;
 use plist_base::{Error, ErrorKind};
 use std::fmt::Write as _;
 use std::io::Write;

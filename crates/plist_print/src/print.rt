@@ -7,7 +7,7 @@ ghost use Rattle.plist_print.specs.Printing.{CountsReads, PrintsKnown};
 ghost use Rattle.plist_print.specs.PrintRuns.{PrintsReader, PrintsRun, PrintsSource};
 
 use crate::printer::Printer;
-use plist_base::send::flush;
+use plist_base::sink::flush;
 use plist_base::{Error, EventSource, FixedBuffer, Sink, Source};
 use plist_binread::BinaryReader;
 use std::alloc::Global;

@@ -2,7 +2,7 @@
 
 use crate::support::{expect_taken, failing, must, sound};
 use plist_base::Error;
-use plist_base::send::{flush, send};
+use plist_base::sink::{flush, send};
 use plist_support::{Device, DeviceFault, expect_failure, expect_io};
 use std::io::{ErrorKind, Write};
 

@@ -1,7 +1,7 @@
 use Rattle.std.proofs.Common.{rules}
 use Rattle.std.proofs.lemmas.List.{take_rest}
 use Rattle.plist_base.proofs.WriterBytes.{Appends-part, front_kept, front_none}
-use Rattle.plist_base.proofs.send.send.Goals as goal
+use Rattle.plist_base.proofs.sink.send.Goals as goal
 
 pub loop-done-preserved : goal.loop-done-preserved
 loop-done-preserved g c = record {
