@@ -1,8 +1,8 @@
 -- Bytes that are tested in blocks.
-use Rattle.std.proofs.Common.{◌≡◌, ℕ, ◌+◌, ◌-◌, ◌%◌, ◌^◌, ◌<◌, ◌≤◌, inl, inr, zero, suc, Bool, true, false, cond, eqb, List, [], ◌∷◌, ◌++◌, map, length, get_or, take, drop, set, replicate, refl, sym, ap, subst, ◌∙◌, arith, eqb-true, leb, leb-false, take-add, w8, bit_or}
+use Rattle.std.proofs.Common.{◌≡◌, ℕ, ◌+◌, ◌-◌, ◌%◌, ◌^◌, ◌<◌, ◌≤◌, inl, inr, zero, suc, Bool, true, false, cond, eqb, List, [], ◌∷◌, ◌++◌, map, length, get_or, take, drop, replicate, refl, sym, ap, subst, ◌∙◌, arith, eqb-true, leb, leb-false, take-add, w8, bit_or}
 use Rattle.std.specs.Str.{IsAscii}
 use Rattle.std.proofs.lemmas.Bool.{cases_lt, false_from_ne_true}
-use Rattle.std.proofs.lemmas.List.{get_or-take, get_or-drop, get_or_past, length-take, length-take-le, length-drop, take-take, take_all, take_more, take_more_set}
+use Rattle.std.proofs.lemmas.List.{get_or-take, get_or-drop, get_or_past, length-take, length-take-le, length-drop, take-take, take_all}
 use Rattle.std.proofs.lemmas.Nat.{and_le_l, and_le_r}
 use Rattle.std.proofs.lemmas.Simd.{bitmask_splat, length-chunk, take_more_put_chunk}
 use lib.Bits.{or_add_and}
@@ -112,27 +112,6 @@ copies_more P bytes target at size le same before next =
           ∙ ap (λ front. front ++ block) before.copied ∙ sym (take-add at size bytes);
       passed = each_more P bytes at size le before.passed next;
     }
-
--- if the bytes before an index were copied, and the byte there has the property and is copied, so are
--- all bytes up to it
-pub copies_one : (P : ℕ → Type 0) (bytes target : List ℕ) (at : ℕ) → at < length bytes
-    → length target ≡ length bytes → CopiesPassing P at bytes target → P (get_or bytes at 0)
-    → CopiesPassing P (at + 1) bytes (set target at (get_or bytes at 0))
-copies_one P bytes target at within same before next = record {
-  copied = take_more_set target at (get_or bytes at 0) (omega (arith, same, within))
-      ∙ ap (λ front. front ++ get_or bytes at 0 ∷ []) before.copied
-      ∙ sym (take_more bytes at 0 within);
-  passed = λ i inside.
-      let long = length-take-le (at + 1) bytes (omega arith) in
-      elim (cases_lt i at) [
-        | inl below ↦
-            subst P (get_or-take at bytes i 0 below ∙ sym (get_or-take (at + 1) bytes i 0 (omega arith)))
-            (before.passed i (omega (arith, length-take-le at bytes (omega arith))))
-        | inr past ↦
-            subst P (ap (λ k. get_or bytes k 0) (omega (arith, long, inside))
-            ∙ sym (get_or-take (at + 1) bytes i 0 (omega (arith, long, inside)))) next
-      ];
-}
 
 -- if some bytes were copied, so were fewer
 pub copies_fewer : (P : ℕ → Type 0) (bytes target : List ℕ) (m n : ℕ) → m ≤ n

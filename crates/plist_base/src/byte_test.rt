@@ -47,33 +47,58 @@ impl ByteTest for Ascii {
     }
 }
 
-/// Returns `true` if all bytes pass a test.
+// Tests at least sixteen bytes. The last sixteen are tested together, even if the previous test
+// included some of them.
 #[inline(always)]
-pub fn all_pass<T: ByteTest>(bytes: &[u8]) -> bool
+fn many_pass<T: ByteTest>(bytes: &[u8]) -> bool
+    requires { 16 ≤ length bytes.now }
     ensures { result ≡ true → EachByte T.passes bytes.now }
 {
-    if bytes.len() > 16 {
-        // The last sixteen are tested together, even if the previous test included some of them.
-        let last = bytes.len() - 16;
-        let mut at = 0;
-        while at < last {
-            if !T::sixteen(u8x16::from_slice(&bytes[at..])) {
-                return false;
-            }
-            at += 16;
+    let last = bytes.len() - 16;
+    let mut at = 0;
+    while at < last {
+        if !T::sixteen(u8x16::from_slice(&bytes[at..])) {
+            return false;
         }
-        return T::sixteen(u8x16::from_slice(&bytes[last..]));
+        at += 16;
     }
-    if bytes.len() >= 8 {
-        return T::eight(u8x8::from_slice(bytes))
-            && T::eight(u8x8::from_slice(&bytes[bytes.len() - 8..]));
-    }
+    T::sixteen(u8x16::from_slice(&bytes[last..]))
+}
+
+// Tests eight to sixteen bytes: the first eight together, and then the last eight together.
+#[inline(always)]
+fn some_pass<T: ByteTest>(bytes: &[u8]) -> bool
+    requires { (8 ≤ length bytes.now) × (length bytes.now ≤ 16) }
+    ensures { result ≡ true → EachByte T.passes bytes.now }
+{
+    T::eight(u8x8::from_slice(bytes)) && T::eight(u8x8::from_slice(&bytes[bytes.len() - 8..]))
+}
+
+// Tests the bytes one by one.
+#[inline(always)]
+fn few_pass<T: ByteTest>(bytes: &[u8]) -> bool
+    ensures { result ≡ true → EachByte T.passes bytes.now }
+{
     for &byte in bytes {
         if !T::one(byte) {
             return false;
         }
     }
     true
+}
+
+/// Returns `true` if all bytes pass a test.
+#[inline(always)]
+pub fn all_pass<T: ByteTest>(bytes: &[u8]) -> bool
+    ensures { result ≡ true → EachByte T.passes bytes.now }
+{
+    if bytes.len() > 16 {
+        return many_pass::<T>(bytes);
+    }
+    if bytes.len() >= 8 {
+        return some_pass::<T>(bytes);
+    }
+    few_pass::<T>(bytes)
 }
 
 // Copies the sixteen bytes at an index, before which all bytes were copied, if they pass a test.
@@ -112,6 +137,60 @@ fn copy_eight<T: ByteTest>(bytes: &[u8], target: &mut [u8], at: usize) -> bool
     true
 }
 
+// Copies at least sixteen bytes if they pass a test, and returns whether they do. The last sixteen
+// are copied together, even if some of them were copied before.
+#[inline(always)]
+fn copy_many<T: ByteTest>(bytes: &[u8], target: &mut [u8]) -> bool
+    requires many { 16 ≤ length bytes.now }
+    requires same { length target.old ≡ length bytes.now }
+    ensures copied { result ≡ true
+        → CopiesPassing T.passes (length bytes.now) bytes.now target.new }
+    ensures size { length target.new ≡ length target.old }
+{
+    let last = bytes.len() - 16;
+    let mut at = 0;
+    while at < last {
+        if !copy_sixteen::<T>(bytes, target, at) {
+            return false;
+        }
+        at += 16;
+    }
+    copy_sixteen::<T>(bytes, target, last)
+}
+
+// Copies eight to sixteen bytes if they pass a test, and returns whether they do: the first eight
+// together, and then the last eight together.
+#[inline(always)]
+fn copy_some<T: ByteTest>(bytes: &[u8], target: &mut [u8]) -> bool
+    requires some { (8 ≤ length bytes.now) × (length bytes.now ≤ 16) }
+    requires same { length target.old ≡ length bytes.now }
+    ensures copied { result ≡ true
+        → CopiesPassing T.passes (length bytes.now) bytes.now target.new }
+    ensures size { length target.new ≡ length target.old }
+{
+    if !copy_eight::<T>(bytes, target, 0) {
+        return false;
+    }
+    copy_eight::<T>(bytes, target, bytes.len() - 8)
+}
+
+// Copies bytes one by one if they pass a test, and returns whether they do.
+#[inline(always)]
+fn copy_few<T: ByteTest>(bytes: &[u8], target: &mut [u8]) -> bool
+    requires { length target.old ≡ length bytes.now }
+    ensures copied { result ≡ true
+        → CopiesPassing T.passes (length bytes.now) bytes.now target.new }
+    ensures size { length target.new ≡ length target.old }
+{
+    for index in 0..bytes.len() {
+        if !T::one(bytes[index]) {
+            return false;
+        }
+        target[index] = bytes[index];
+    }
+    true
+}
+
 /// Copies bytes if all of them pass a test, and returns `true` if they do. Otherwise the target is
 /// unspecified. Testing and copying together loads every byte only once.
 #[inline(always)]
@@ -122,25 +201,10 @@ pub(crate) fn copy_passing<T: ByteTest>(bytes: &[u8], target: &mut [u8]) -> bool
     ensures size { length target.new ≡ length target.old }
 {
     if bytes.len() > 16 {
-        // The last sixteen are copied together, even if some of them were copied before.
-        let last = bytes.len() - 16;
-        let mut at = 0;
-        while at < last {
-            if !copy_sixteen::<T>(bytes, target, at) {
-                return false;
-            }
-            at += 16;
-        }
-        return copy_sixteen::<T>(bytes, target, last);
+        return copy_many::<T>(bytes, target);
     }
     if bytes.len() >= 8 {
-        return copy_eight::<T>(bytes, target, 0) && copy_eight::<T>(bytes, target, bytes.len() - 8);
+        return copy_some::<T>(bytes, target);
     }
-    for index in 0..bytes.len() {
-        if !T::one(bytes[index]) {
-            return false;
-        }
-        target[index] = bytes[index];
-    }
-    true
+    copy_few::<T>(bytes, target)
 }

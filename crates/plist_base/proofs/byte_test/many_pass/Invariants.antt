@@ -1,12 +1,9 @@
 use Rattle.std.proofs.Common.{◌-◌, take}
 use Rattle.plist_base.specs.ByteTests.{EachByte}
-use Rattle.plist_base.proofs.byte_test.all_pass.Given as goal
+use Rattle.plist_base.proofs.byte_test.many_pass.Given as goal
 
 abbrev pub decreases-loop-at : goal.decreases-loop-at
 decreases-loop-at g l = l.last - l.at
 
 abbrev pub invariant-loop-at : goal.invariant-loop-at
 invariant-loop-at g l = EachByte g.T.ByteTest.passes (take l.at l.bytes)
-
-abbrev pub invariant-loop-byte : goal.invariant-loop-byte
-invariant-loop-byte g l = EachByte g.T.ByteTest.passes (take l.byte-index l.bytes)
