@@ -1,6 +1,6 @@
 -- The buffered events after scalars that waited were appended to the table, after another scalar
 -- waits, and after another event was appended.
-use Rattle.std.proofs.Common.{◌≡◌, ◌≢◌, ℕ, ◌<◌, List, [], ◌∷◌, ◌++◌, Option, Some, true, length, take, drop, refl, sym, ap, ◌∙◌, append_assoc, append-nil, arith, rules}
+use Rattle.std.proofs.Common.{◌≡◌, ◌≢◌, ℕ, ◌<◌, List, [], ◌∷◌, ◌++◌, Option, Some, Result, Ok, Err, IsErrAnd, true, length, take, drop, refl, sym, ap, ◌∙◌, append_assoc, append-nil, arith, rules}
 use Rattle.std.proofs.lemmas.List.{map-append, take-append-drop}
 use Rattle.std.proofs.Math.ListN.{get_or-append}
 use Rattle.std.specs.Option.{is_none}
@@ -10,8 +10,9 @@ use Rattle.plist_base.specs.PackedScalars.{scalar_of_packed}
 use Rattle.plist_base.specs.Trees.{Scalar}
 use Rattle.plist_buffer.specs.StoredScalars.{event_of_small, events_of_small}
 use Rattle.plist_buffer.specs.EventTable.{event_at, plain_events, table_event}
-use Rattle.plist_buffer.specs.EventBuffers.{buffered_events, BuffersSame, RejectsEvent, TestsWhole}
+use Rattle.plist_buffer.specs.EventBuffers.{buffered_events, Buffers, BuffersSame, CanTake, TestsWhole}
 use Rattle.plist_buffer.specs.declared.event_buffer.EventBuffer.{EventBuffer}
+use Rattle.plist_buffer.specs.declared.event_buffer.PushError.{PushError}
 use Rattle.plist_buffer.specs.declared.event_buffer.PushError.TheVariants.{OutOfMemory}
 use Rattle.plist_buffer.specs.declared.event_table.EventTable.{EventTable}
 use Rattle.plist_buffer.specs.declared.expects.Expect.{Expect}
@@ -36,6 +37,15 @@ still_buffered {waiting} held k same grown rest = grind (
   take-append-drop k waiting,
 )
 
+-- an allocation failed in the table, which is unchanged
+pub still_same : (s t u : EventBuffer) → BuffersSame s t
+    → plain_events u.held ≡ plain_events t.held → u.waiting ≡ t.waiting → u.expects ≡ t.expects
+    → BuffersSame s u
+still_same s t u same held waiting expects = record {
+  events = (λ i. held i ++ events_of_small (waiting i)) ∙ same.events;
+  expects = expects ∙ same.expects;
+}
+
 -- an event of the table is a buffered one
 pub event_in_table : (s : EventBuffer) (index : ℕ) → index < length (plain_events s.held)
     → event_at (buffered_events s) index ≡ table_event s.held index
@@ -48,15 +58,21 @@ pub record Holds (s : EventBuffer) (e : PlainEvent) (table : List PlainEvent)
     wanted : ExpectsNext (table ++ events_of_small waiting) next;
     items : 0 < length waiting → next ≡ Some Items;
   }
-  pub taken : (table ++ events_of_small waiting ≡ buffered_events s ++ without_length e ∷ [])
-      × TestsWhole (is_none next) (buffered_events s ++ e ∷ [])
+  pub taken : CanTake s e
+      × ((table ++ events_of_small waiting ≡ buffered_events s ++ without_length e ∷ [])
+      × TestsWhole (is_none next) (buffered_events s ++ e ∷ []))
 
 -- `t` has the events of `s`, and expects the same
 module _ (s t : EventBuffer) (same : BuffersSame s t) (e : PlainEvent) {c : Transition}
     (is : c ≡ change_on s.expects e) (allowed : c ≢ Refused) where
   -- an allocation failed
-  pub failed : RejectsEvent s e t OutOfMemory
-  failed = (can_take s e is allowed, same.events, ap is_none same.expects)
+  pub failed : (r : Result (Unit {0}) PushError) → IsErrAnd r (λ error. error ≡ OutOfMemory)
+      → Buffers s e r t
+  failed (Ok done) out = absurd out
+  failed (Err error) out = record {
+    taken = tt;
+    refused = rw out (can_take s e is allowed, same.events, ap is_none same.expects);
+  }
 
   -- an event was appended to the table, and no scalar waits
   pub after_appending : {table : List PlainEvent} {next : Option Expect} → t.waiting ≡ []
@@ -75,7 +91,7 @@ module _ (s t : EventBuffer) (same : BuffersSame s t) (e : PlainEvent) {c : Tran
           wanted = expects_next s e is allowed more found_after;
           items = λ some. absurd (omega (arith, some, ap length none));
         };
-        taken = (more, tests_next s e is allowed more found_after);
+        taken = (can_take s e is allowed, (more, tests_next s e is allowed more found_after));
       }
 
 -- another scalar waits, which is an item of an array
@@ -93,7 +109,10 @@ after_waiting s t same x is kept grown =
         wanted = expects_next s (event_of_small x) is (λ refused. cc) more (rw kept same.expects);
         items = λ some. same.expects ∙ items s.expects (scalar_of_packed x) (sym is ∙ kept);
       };
-      taken = (more, tests_next s (event_of_small x) is (λ refused. cc) more (rw kept same.expects));
+      taken = (
+        can_take s (event_of_small x) is (λ refused. cc),
+        (more, tests_next s (event_of_small x) is (λ refused. cc) more (rw kept same.expects)),
+      );
     }
   where
     items : (next : Option Expect) (x : Scalar) → change_on next (ScalarEvent x) ≡ Kept

@@ -9,7 +9,6 @@ use Rattle.plist_buffer.specs.declared.entries.EventEntry.TheVariants as entry
 use Rattle.plist_buffer.specs.declared.entries.EntryKind.{EntryKind}
 use Rattle.plist_buffer.specs.declared.entries.EntryKind.TheVariants as kind
 use Rattle.plist_buffer.specs.declared.entries.ScalarNumber.{ScalarNumber}
-use Rattle.plist_buffer.specs.declared.entries.ScalarNumber.TheVariants.{Small}
 use Rattle.plist_buffer.specs.inner.Columns.{AreColumns, ends_before, ends_in, kind_in, number_in, number_named, index_of_number, one_if_end, scalar_named, entry_of, entries_from, IsEntryNumber}
 use Rattle.plist_buffer.specs.inner.Entries.{ScalarLists, closed_at, ended_at, entry_at, index_after_at, index_after_entry, is_leaf, is_start, event_of_entry}
 

@@ -12,7 +12,8 @@ use Rattle.plist_base.proofs.Lengths.{alike_last}
 use Rattle.plist_buffer.proofs.Grammar.{none_is, wanted_alike, can_continue, continues, bracketed, all_taken, complete_of_whole, steps_snoc}
 use Rattle.plist_buffer.specs.declared.event_buffer.EventBuffer.{EventBuffer}
 use Rattle.plist_buffer.specs.EventBuffers.{buffered_events, is_whole, TestsWhole}
-use Rattle.plist_buffer.specs.inner.Expected.{OpenKind, OpenArray, OpenDictionary, open_after_event, open_after, expects_in, expected_inside, innermost, all_expected, ExpectsNext, change_on, next_expected}
+use Rattle.plist_buffer.specs.inner.Expected.{expected_inside, innermost, all_expected, ExpectsNext, change_on, next_expected}
+use Rattle.plist_buffer.proofs.Innermost.{OpenKind, OpenArray, OpenDictionary, open_after_event, open_after, expects_in, inside_is}
 
 -- ---- open collections
 
@@ -109,13 +110,17 @@ module _ (s : EventBuffer) (e : PlainEvent) where
   abbrev kinds : List OpenKind
   kinds = open_after held []
 
+  wanted : (expected_after held ≡ Some (all_expected s.expects (map expects_in kinds)))
+      × (s.expects ≡ innermost (all_expected s.expects (map expects_in kinds)))
+  wanted = rw (sym (inside_is held)) (s.wanted.all, s.wanted.first)
+
   after : expected_after (held ++ e ∷ []) ≡ step (all_expected s.expects (map expects_in kinds)) e
-  after = steps_snoc held (OneValue ∷ []) e ∙ ap (option_and_then (λ t. step t e)) s.wanted.all
+  after = steps_snoc held (OneValue ∷ []) e ∙ ap (option_and_then (λ t. step t e)) wanted.0
 
   pub cannot_take : change_on s.expects e ≡ Refused → CanContinue held e → ⊥
   cannot_take r can =
       let g = continues _ e can in
-      none_is _ g.0 (after ∙ rejected _ e (ap (λ o. change_on o e) (sym s.wanted.first) ∙ r)) g.1
+      none_is _ g.0 (after ∙ rejected _ e (ap (λ o. change_on o e) (sym wanted.1) ∙ r)) g.1
 
   module _ {c : Transition} (is : c ≡ change_on s.expects e) (allowed : c ≢ Refused) where
     accepted : change_on s.expects e ≢ Refused
@@ -125,7 +130,7 @@ module _ (s : EventBuffer) (e : PlainEvent) where
         × (step (all_expected s.expects (map expects_in kinds)) e ≡ Some new)
         × Goes (next_expected (change_on s.expects e) s.expects
         (innermost (map expects_in (open_after_event e kinds)))) (open_after_event e kinds) new
-    went = stepped s.expects _ e kinds s.wanted.first (inside_all s.expects e kinds accepted) accepted
+    went = stepped s.expects _ e kinds wanted.1 (inside_all s.expects e kinds accepted) accepted
 
     abbrev new : List Expect
     new = went.0
@@ -145,10 +150,10 @@ module _ (s : EventBuffer) (e : PlainEvent) where
           ∙ open_alike e kinds
 
       is_next : next ≡ innermost new
-      is_next = cc (ap (map expects_in) now_open, went.2.1)
+      is_next = cc (inside_is events, ap (map expects_in) now_open, went.2.1)
 
       all_new : all_expected next (expected_inside events) ≡ new
-      all_new = cc (is_next, now_open, went.2.0, all_again new)
+      all_new = cc (inside_is events, is_next, now_open, went.2.0, all_again new)
 
       pub expects_next : ExpectsNext events next
       expects_next = record {

@@ -4,7 +4,6 @@ use Rattle.plist_base.specs.Bracketing.{bracketing, lengthless, without_length, 
 use Rattle.plist_base.specs.Trees.{Tree}
 use Rattle.plist_base.proofs.Lengths.{lengthless-is, without_length-twice}
 use Rattle.plist_buffer.specs.declared.entries.EventEntry.{EventEntry}
-use Rattle.plist_buffer.specs.declared.entries.EventEntry.TheVariants as entry
 use Rattle.plist_buffer.specs.declared.event_table.EventTable.{EventTable}
 use Rattle.plist_buffer.specs.EventTable.{plain_events, IsBracketed}
 use Rattle.plist_buffer.specs.inner.Entries.{ScalarLists, event_of_entry, events_of_entries}

@@ -1,5 +1,5 @@
 -- The buffered events of the open property list, as contracts describe them.
-use Rattle.std.specs.Prelude.{◌≡◌, Bool, List, [], ◌∷◌, ◌++◌, MatchBool}
+use Rattle.std.specs.Prelude.{◌≡◌, Bool, List, [], ◌∷◌, ◌++◌, Option, None, Some, Result, IfErr, OnOk, MatchBool}
 use Rattle.std.specs.Option.{is_none}
 use Rattle.plist_base.specs.declared.error.EventKind.{EventKind}
 use Rattle.plist_base.specs.declared.error.EventKind.TheVariants as event_kind
@@ -59,8 +59,9 @@ CanTake pending event = CanContinue (buffered_events pending) event
 abbrev pub Accepts : (before : EventBuffer) → PlainEvent → (after : EventBuffer) → Type 0
 Accepts before event after = CanTake before event × BuffersNext before event after
 
--- a misplaced event can't follow the buffered ones, and nothing has changed; `OutOfMemory` is
--- returned only for an event that can follow them, and the buffered events haven't changed
+-- why an event wasn't buffered: a misplaced one can't follow the buffered ones, and nothing has
+-- changed; `OutOfMemory` is returned only for an event that can follow them, and the buffered events
+-- haven't changed
 abbrev pub RejectsEvent : (before : EventBuffer) → PlainEvent → (after : EventBuffer) → PushError
     → Type 0
 RejectsEvent before event after (push_error.Misplaced expected found) =
@@ -69,3 +70,15 @@ RejectsEvent before event after (push_error.Misplaced expected found) =
 RejectsEvent before event after push_error.OutOfMemory =
     CanTake before event × (buffered_events after ≡ buffered_events before)
     × (is_whole after ≡ is_whole before)
+
+-- what a call does that buffers an event, given its result
+pub record Buffers (before : EventBuffer) (event : PlainEvent) (answer : Result (Unit {0}) PushError)
+    (after : EventBuffer) : Type 0 where
+  pub taken : OnOk answer (Accepts before event after)
+  pub refused : IfErr answer (RejectsEvent before event after)
+
+-- what a call does that buffers an event, or returns `None` and changes nothing
+abbrev pub MayBuffer : (before : EventBuffer) → PlainEvent → Option (Result (Unit {0}) PushError)
+    → (after : EventBuffer) → Type 0
+MayBuffer before event None after = after ≡ before
+MayBuffer before event (Some answer) after = Buffers before event answer after

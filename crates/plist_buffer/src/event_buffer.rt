@@ -5,7 +5,7 @@
 //! and data of more than eight bytes don't wait.
 
 ghost use Rattle.std.proofs.Props.{props};
-ghost use Rattle.std.specs.Prelude.{◌≡◌, ◌<◌, ◌++◌, ℕ, List, Some, length, IfSome, ◌≢◌, [], false, true, None, IfErr, OnOk, OnErr};
+ghost use Rattle.std.specs.Prelude.{◌≡◌, ◌<◌, ◌++◌, ℕ, List, Some, length, IfSome, ◌≢◌, [], false, true, None, OnOk};
 ghost use Rattle.plist_base.specs.Events.{ScalarEvent, event_of};
 ghost use Rattle.plist_base.specs.Trees.{String};
 ghost use Rattle.plist_buffer.specs.EventTable.{plain_events, event_at, table_event};
@@ -86,13 +86,6 @@ fn change_by_scalar(expects: Option<Expect>, scalar: PackedScalar) -> Transition
     }
 }
 
-// Returns how a string changes what is expected next.
-fn change_by_string(expects: Option<Expect>) -> Transition
-    ensures { (text : List ℕ) → result ≡ change_on expects (ScalarEvent (String text)) }
-{
-    change_on(expects, &Event::String(CowStr::Borrowed("")))
-}
-
 // Returns what is expected next. The event that made this change is already in `held`.
 #[inline(always)]
 fn next_expected(
@@ -114,7 +107,7 @@ impl EventBuffer {
     ghost use Rattle.plist_base.specs.PackedScalars.{IsUnpackable};
     ghost use Rattle.plist_base.specs.Utf16Strings.{string_of_utf16};
     ghost use Rattle.plist_base.specs.ByteTests.{EachByte};
-    ghost use Rattle.plist_buffer.specs.EventBuffers.{buffered_events, expected_instead, is_whole, Accepts, BuffersNext, BuffersSame, CanTake, RejectsEvent};
+    ghost use Rattle.plist_buffer.specs.EventBuffers.{buffered_events, expected_instead, is_whole, Buffers, BuffersSame, CanTake, MayBuffer};
     ghost use Rattle.plist_buffer.specs.inner.Entries.{is_leaf};
 
     /// Creates a buffer without events. It allocates no memory.
@@ -194,11 +187,10 @@ impl EventBuffer {
 
     // Buffers a scalar, given how it changes what is expected next. An item of an array waits.
     #[inline(always)]
-    fn hold_scalar(&mut self, scalar: PackedScalar, change: Transition) -> Result<(), AllocError>
+    fn hold_scalar(&mut self, scalar: PackedScalar, change: Transition) -> Result<(), PushError>
         requires change { change ≡ change_on self.old.expects (event_of_small scalar) }
         requires accepted { change ≢ Refused }
-        ensures taken { OnOk result (BuffersNext self.old (event_of_small scalar) self.new) }
-        ensures same { OnErr result (BuffersSame self.old self.new) }
+        ensures { Buffers self.old (event_of_small scalar) result self.new }
     {
         if let Transition::Kept = change {
             self.append_if_full()?;
@@ -219,12 +211,11 @@ impl EventBuffer {
         alloc: Global,
         event: Event<'_>,
         change: Transition,
-    ) -> Result<(), AllocError>
+    ) -> Result<(), PushError>
         requires change { change ≡ change_on self.old.expects (event_of event) }
         requires accepted { change ≢ Refused }
         requires large { IsUnpackable (event_of event) }
-        ensures taken { OnOk result (BuffersNext self.old (event_of event.entry) self.new) }
-        ensures same { OnErr result (BuffersSame self.old self.new) }
+        ensures { Buffers self.old (event_of event.entry) result self.new }
     {
         self.append_if_any()?;
         self.held.push_copy(alloc, event)?;
@@ -232,24 +223,21 @@ impl EventBuffer {
         Ok(())
     }
 
-    // Buffers a string or data of more than eight bytes, given how it changes what is expected
-    // next.
+    // Buffers a string of more than eight bytes, given how it changes what is expected next.
     #[inline(always)]
     fn hold_long(
         &mut self,
         alloc: Global,
-        scalar: LongRef<'_>,
+        text: LongRef<'_>,
         change: Transition,
-    ) -> Result<(), AllocError>
+    ) -> Result<(), PushError>
         requires change { change
-            ≡ change_on self.old.expects (ScalarEvent (scalar_of_long_ref scalar)) }
+            ≡ change_on self.old.expects (ScalarEvent (scalar_of_long_ref text)) }
         requires accepted { change ≢ Refused }
-        ensures taken { OnOk result (BuffersNext self.old
-            (ScalarEvent (scalar_of_long_ref scalar.entry)) self.new) }
-        ensures same { OnErr result (BuffersSame self.old self.new) }
+        ensures { Buffers self.old (ScalarEvent (scalar_of_long_ref text.entry)) result self.new }
     {
         self.append_if_any()?;
-        self.held.copy_long(alloc, scalar)?;
+        self.held.copy_long(alloc, text)?;
         self.expects = next_expected(change, self.expects, &self.held);
         Ok(())
     }
@@ -287,11 +275,8 @@ impl EventBuffer {
         requires still { is_whole self.old ≡ false }
         ensures scalar { IfSome result (λ _.
             is_leaf (event_at (buffered_events self.old) index) ≡ true) }
-        ensures taken { IfSome result (λ answer. OnOk answer (Accepts self.old
-            (event_at (buffered_events self.old) index) self.new)) }
-        ensures refused { IfSome result (λ answer. IfErr answer (RejectsEvent self.old
-            (event_at (buffered_events self.old) index) self.new)) }
-        ensures declined { result ≡ None → self.new ≡ self.old }
+        ensures buffers { MayBuffer self.old (event_at (buffered_events self.old) index) result
+            self.new }
     {
         if index >= self.held.len() || !self.waiting.is_empty() {
             return None;
@@ -300,38 +285,25 @@ impl EventBuffer {
         if let Transition::Refused = change {
             return None;
         }
-        match self.held.repeat_at(index) {
-            Ok(()) => {
-                self.expects = next_expected(change, self.expects, &self.held);
-                Some(Ok(()))
-            }
-            Err(error) => Some(Err(PushError::from(error))),
+        if let Err(error) = self.held.repeat_at(index) {
+            return Some(Err(PushError::from(error)));
         }
+        self.expects = next_expected(change, self.expects, &self.held);
+        Some(Ok(()))
     }
 
-    // Buffers a string or data of more than eight bytes if it can follow the buffered events, given
-    // how it changes what is expected next. Otherwise returns `None` and changes nothing.
+    // Buffers a string of more than eight bytes if it can follow the buffered events. Otherwise
+    // returns `None` and changes nothing.
     #[inline(always)]
-    fn try_push_long(
-        &mut self,
-        alloc: Global,
-        scalar: LongRef<'_>,
-        change: Transition,
-    ) -> Option<Result<(), PushError>>
-        requires { change ≡ change_on self.old.expects (ScalarEvent (scalar_of_long_ref scalar)) }
-        ensures taken { IfSome result (λ answer. OnOk answer (Accepts self.old
-            (ScalarEvent (scalar_of_long_ref scalar.entry)) self.new)) }
-        ensures refused { IfSome result (λ answer. IfErr answer (RejectsEvent self.old
-            (ScalarEvent (scalar_of_long_ref scalar.entry)) self.new)) }
-        ensures declined { result ≡ None → self.new ≡ self.old }
+    fn try_push_long(&mut self, alloc: Global, text: LongRef<'_>) -> Option<Result<(), PushError>>
+        requires { (content : List ℕ) × (scalar_of_long_ref text ≡ String content) }
+        ensures { MayBuffer self.old (ScalarEvent (scalar_of_long_ref text.entry)) result self.new }
     {
+        let change = change_on(self.expects, &Event::String(CowStr::Borrowed("")));
         if let Transition::Refused = change {
             return None;
         }
-        match self.hold_long(alloc, scalar, change) {
-            Ok(()) => Some(Ok(())),
-            Err(error) => Some(Err(PushError::from(error))),
-        }
+        Some(self.hold_long(alloc, text, change))
     }
 
     /// Buffers a scalar, which may be a key, if it can follow the buffered events, which must not
@@ -343,21 +315,14 @@ impl EventBuffer {
     #[inline(always)]
     pub fn try_push_packed(&mut self, scalar: PackedScalar) -> Option<Result<(), PushError>>
         requires still { is_whole self.old ≡ false }
-        ensures taken { IfSome result (λ answer. OnOk answer (Accepts self.old
-            (event_of_small scalar) self.new)) }
-        ensures refused { IfSome result (λ answer. IfErr answer (RejectsEvent self.old
-            (event_of_small scalar) self.new)) }
-        ensures declined { result ≡ None → self.new ≡ self.old }
+        ensures buffers { MayBuffer self.old (event_of_small scalar) result self.new }
         ensures misplaced { result ≡ None → CanTake self.old (event_of_small scalar) → ⊥ }
     {
         let change = change_by_scalar(self.expects, scalar);
         if let Transition::Refused = change {
             return None;
         }
-        match self.hold_scalar(scalar, change) {
-            Ok(()) => Some(Ok(())),
-            Err(error) => Some(Err(PushError::from(error))),
-        }
+        Some(self.hold_scalar(scalar, change))
     }
 
     /// Buffers a string in ASCII, which may be a key, given its bytes, if it can follow the
@@ -372,14 +337,10 @@ impl EventBuffer {
     pub fn try_push_ascii(&mut self, alloc: Global, bytes: &[u8]) -> Option<Result<(), PushError>>
         requires still { is_whole self.old ≡ false }
         ensures ascii { IfSome result (λ _. EachByte (λ byte. byte < 128) bytes.now) }
-        ensures taken { IfSome result (λ answer. OnOk answer (Accepts self.old
-            (ScalarEvent (String bytes.now)) self.new)) }
-        ensures refused { IfSome result (λ answer. IfErr answer (RejectsEvent self.old
-            (ScalarEvent (String bytes.now)) self.new)) }
-        ensures declined { result ≡ None → self.new ≡ self.old }
+        ensures buffers { MayBuffer self.old (ScalarEvent (String bytes.now)) result self.new }
     {
         let text = LongRef::of_ascii(bytes)?;
-        self.try_push_long(alloc, text, change_by_string(self.expects))
+        self.try_push_long(alloc, text)
     }
 
     /// Buffers a string in UTF-16, which may be a key, if it can follow the buffered events, which
@@ -396,14 +357,11 @@ impl EventBuffer {
         text: Utf16Str<'_>,
     ) -> Option<Result<(), PushError>>
         requires still { is_whole self.old ≡ false }
-        ensures taken { IfSome result (λ answer. OnOk answer (Accepts self.old
-            (ScalarEvent (String (string_of_utf16 text.entry))) self.new)) }
-        ensures refused { IfSome result (λ answer. IfErr answer (RejectsEvent self.old
-            (ScalarEvent (String (string_of_utf16 text.entry))) self.new)) }
-        ensures declined { result ≡ None → self.new ≡ self.old }
+        ensures { MayBuffer self.old (ScalarEvent (String (string_of_utf16 text.entry))) result
+            self.new }
     {
         let wide = LongRef::of_utf16(text)?;
-        self.try_push_long(alloc, wide, change_by_string(self.expects))
+        self.try_push_long(alloc, wide)
     }
 
     /// Buffers an event if it can follow the buffered ones, which must not form a whole property
@@ -417,18 +375,16 @@ impl EventBuffer {
     #[inline(always)]
     pub fn try_push(&mut self, alloc: Global, event: Event<'_>) -> Result<(), PushError>
         requires still { is_whole self.old ≡ false }
-        ensures taken { OnOk result (Accepts self.old (event_of event.entry) self.new) }
-        ensures refused { IfErr result (RejectsEvent self.old (event_of event.entry) self.new) }
+        ensures { Buffers self.old (event_of event.entry) result self.new }
     {
         let change = change_on(self.expects, &event);
         if let Transition::Refused = change {
             return Err(self.error_of_kind(EventKind::of_event(&event)));
         }
         match PackedScalar::of_event(&event) {
-            Some(scalar) => self.hold_scalar(scalar, change)?,
-            None => self.hold_large(alloc, event, change)?,
+            Some(scalar) => self.hold_scalar(scalar, change),
+            None => self.hold_large(alloc, event, change),
         }
-        Ok(())
     }
 
     /// Returns the number of buffered events.

@@ -1,39 +1,23 @@
 -- What is expected after buffered events: the innermost open collection decides whether that is an
 -- item or a pair, unless the last event is a key.
 use Rattle.std.specs.Prelude.{◌≡◌, List, [], ◌∷◌, Option, None, Some, map}
-use Rattle.plist_base.specs.Events.{PlainEvent, StartArray, StartDictionary, EndCollection, ScalarEvent}
+use Rattle.plist_base.specs.Events.{PlainEvent, StartDictionary}
+use Rattle.plist_buffer.specs.EventTable.{event_at}
 use Rattle.plist_buffer.specs.Expects.{transition_of, expected_after}
 use Rattle.plist_buffer.specs.declared.expects.Expect.{Expect}
 use Rattle.plist_buffer.specs.declared.expects.Expect.TheVariants.{OneValue, Items, Pairs}
 use Rattle.plist_buffer.specs.declared.expects.Transition.{Transition}
 use Rattle.plist_buffer.specs.declared.expects.Transition.TheVariants.{Refused, Closed, Kept, Pushed, Replaced}
+use Rattle.plist_buffer.specs.inner.UnclosedStarts.{unclosed_after}
 
--- an open collection
-pub data OpenKind : Type 0 where
-  OpenArray : OpenKind
-  OpenDictionary : OpenKind
-
--- the open collections after an event, innermost first
-abbrev pub open_after_event : PlainEvent → List OpenKind → List OpenKind
-open_after_event (StartArray hint) kinds = OpenArray ∷ kinds
-open_after_event (StartDictionary hint) kinds = OpenDictionary ∷ kinds
-open_after_event EndCollection [] = []
-open_after_event EndCollection (kind ∷ outer) = outer
-open_after_event (ScalarEvent x) kinds = kinds
-
--- the open collections after these events, innermost first
-abbrev pub open_after : List PlainEvent → List OpenKind → List OpenKind
-open_after [] kinds = kinds
-open_after (event ∷ events) kinds = open_after events (open_after_event event kinds)
-
--- what is expected in a collection
-abbrev pub expects_in : OpenKind → Expect
-expects_in OpenArray = Items
-expects_in OpenDictionary = Pairs
+-- what is expected in the collection that begins with a start
+abbrev pub expected_in : PlainEvent → Expect
+expected_in (StartDictionary hint) = Pairs
+expected_in start = Items
 
 -- what is expected in each open collection after these events, innermost first
 abbrev pub expected_inside : List PlainEvent → List Expect
-expected_inside events = map expects_in (open_after events [])
+expected_inside events = map (λ start. expected_in (event_at events start)) (unclosed_after events)
 
 -- the first item, which belongs to the innermost collection, or `None` if there is none
 abbrev pub innermost : {A : Type 0} → List A → Option A

@@ -10,5 +10,5 @@ returns-clause-taken c = λ event has.
     (still_buffered c.args.token event c.args.self.now has) c.in_ok-taken.ensures.scalar in (
       scalar,
       c.after.ensures old event (subst (λ e. OnOk c.in_ok-taken.taken (Accepts old e c.try_repeat.new.self))
-          same c.in_ok-taken.ensures.taken),
+          same c.in_ok-taken.ensures.buffers.taken),
     )
