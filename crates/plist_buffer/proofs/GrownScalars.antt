@@ -1,5 +1,5 @@
 -- The scalars of a table after one was inserted into one of its two sets.
-use Rattle.std.proofs.Common.{◌≡◌, ◌⊎◌, ℕ, Bool, true, if◌then◌else◌, List, [], ◌∷◌, ◌++◌, map, Some, sym, ◌∙◌, rules}
+use Rattle.std.proofs.Common.{◌≡◌, ◌⊎◌, ℕ, Bool, true, if◌then◌else◌, List, [], ◌∷◌, ◌++◌, map, position, Some, sym, ◌∙◌, rules}
 use Rattle.std.specs.Prelude.{slice_get}
 use Rattle.std.specs.List.{IsDistinct}
 use Rattle.plist_base.specs.Events.{PlainEvent}
@@ -10,10 +10,10 @@ use Rattle.plist_buffer.specs.declared.event_table.EventTable.{EventTable}
 use Rattle.plist_buffer.specs.declared.entries.ScalarNumber.TheVariants.{Small, Long}
 use Rattle.plist_buffer.specs.declared.long_scalar.LongScalar.{LongScalar}
 use Rattle.plist_base.specs.declared.packed_scalar.PackedScalar.{PackedScalar}
-use Rattle.plist_buffer.specs.inner.Entries.{AreDistinct, ScalarLists, all_scalars, lists_of}
-use Rattle.plist_buffer.proofs.EntryEvents.{Grown}
+use Rattle.plist_buffer.specs.inner.Entries.{AreDistinct, ScalarLists, all_scalars, event_numbered, lists_of}
+use Rattle.plist_buffer.proofs.EntryEvents.{Grown, numbered_is}
 use Rattle.plist_buffer.proofs.SameScalars.{small_same, same_small, long_eq, long_same, same_long, small_or_long}
-use Rattle.plist_buffer.proofs.SetKeys.{distinct_both, distinct_first, distinct_second, grown, key_at, keys_apart, mapped}
+use Rattle.plist_buffer.proofs.SetKeys.{distinct_both, distinct_first, distinct_second, grown, key_at, key_found, keys_apart, mapped}
 
 -- all scalars are different if those of each set are
 both_apart : (small : List PackedScalar) (long : List LongScalar)
@@ -29,6 +29,13 @@ both_apart small long first second =
 added : {a b c : List PlainEvent} (lists : List PlainEvent → ScalarLists)
     → (a ≡ b) ⊎ (a ≡ c) → (lists a ≡ lists b) ⊎ (lists a ≡ lists c)
 added lists is = search rules
+
+-- a long scalar was found
+pub found_long : (held : EventTable) (x : LongScalar) (i : ℕ)
+    → Some i ≡ position (long_eq x) held.long.keys
+    → event_numbered (lists_in held) (Long i) ≡ event_of_long x
+found_long held x i is = numbered_is (lists_in held) (Long i) _
+    (key_found long_eq event_of_long x (long_same x) held.long.keys (Some i) is)
 
 -- a small scalar was inserted, unless it was there
 pub grown_small : (held : EventTable) {new : List PackedScalar} (x : PackedScalar) (b : Bool)

@@ -86,19 +86,6 @@ fn one_if_end(kind: EntryKind) -> usize
     }
 }
 
-// Returns how an event with an entry of this kind affects the open collections.
-#[inline(always)]
-fn shape_of_kind(kind: EntryKind) -> EventShape
-    ensures { result ≡ shape_of_kind kind }
-{
-    match kind {
-        EntryKind::Array => EventShape::StartArray,
-        EntryKind::Dictionary => EventShape::StartDictionary,
-        EntryKind::End => EventShape::EndCollection,
-        EntryKind::Small | EntryKind::Long => EventShape::Scalar,
-    }
-}
-
 /// A list of entries, stored as a list of kinds and a list of numbers. The number of an end is the
 /// number of ends before it.
 #[derive(Drop)]
@@ -150,7 +137,12 @@ impl Entries {
         requires { index < length self.now }
         ensures { result ≡ shape_of_kind (kind_in (entry_at self.now index)) }
     {
-        shape_of_kind(self.kind_at(index))
+        match self.kind_at(index) {
+            EntryKind::Array => EventShape::StartArray,
+            EntryKind::Dictionary => EventShape::StartDictionary,
+            EntryKind::End => EventShape::EndCollection,
+            EntryKind::Small | EntryKind::Long => EventShape::Scalar,
+        }
     }
 
     // Returns the number of the entry at an index. For an end it is unspecified.
@@ -234,17 +226,13 @@ impl Entries {
     {
         self.kinds.reserve(1)?;
         self.numbers.push(self.ends)?;
-        match self.numbers.set(start, self.kinds.len() + 1) {
-            Ok(()) => {
-                self.kinds.push_reserved(EntryKind::End);
-                self.ends += 1;
-                Ok(())
-            }
-            Err(error) => {
-                self.numbers.pop();
-                Err(error)
-            }
+        if let Err(error) = self.numbers.set(start, self.kinds.len() + 1) {
+            self.numbers.pop();
+            return Err(error);
         }
+        self.kinds.push_reserved(EntryKind::End);
+        self.ends += 1;
+        Ok(())
     }
 
     /// Removes all entries. The allocated memory is kept.

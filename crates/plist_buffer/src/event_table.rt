@@ -194,13 +194,7 @@ impl<'e> EventTable<'e> {
         ensures yes { result ≡ true → HasItem (plain_events self.now) index }
         ensures no { result ≡ false → LacksItem (plain_events self.now) index }
     {
-        if index >= self.len() {
-            return false;
-        }
-        match self.kind_at(index) {
-            EventShape::EndCollection => false,
-            EventShape::StartArray | EventShape::StartDictionary | EventShape::Scalar => true,
-        }
+        index < self.len() && !matches!(self.kind_at(index), EventShape::EndCollection)
     }
 
     /// Returns the index after the tree that begins at `index`. For an end, and for a collection
@@ -264,13 +258,10 @@ impl<'e> EventTable<'e> {
     pub(crate) fn innermost_expect(&self) -> Option<Expect>
         ensures { result ≡ innermost (expected_inside (plain_events self.now)) }
     {
-        match self.unclosed.last() {
-            Some(start) => match self.kind_at(start) {
-                EventShape::StartArray => Some(Expect::Items),
-                EventShape::StartDictionary => Some(Expect::Pairs),
-                EventShape::Scalar | EventShape::EndCollection => None,
-            },
-            None => None,
+        match self.kind_at(self.unclosed.last()?) {
+            EventShape::StartArray => Some(Expect::Items),
+            EventShape::StartDictionary => Some(Expect::Pairs),
+            EventShape::Scalar | EventShape::EndCollection => None,
         }
     }
 
@@ -284,13 +275,11 @@ impl<'e> EventTable<'e> {
         ensures unchanged { OnErr result (plain_events self.new ≡ plain_events self.old) }
     {
         self.unclosed.push(self.entries.len())?;
-        match self.entries.push(entry) {
-            Ok(()) => Ok(()),
-            Err(error) => {
-                self.unclosed.pop();
-                Err(error)
-            }
+        if let Err(error) = self.entries.push(entry) {
+            self.unclosed.pop();
+            return Err(error);
         }
+        Ok(())
     }
 
     // Appends an end, which closes the innermost open collection, if one is open.
@@ -298,23 +287,12 @@ impl<'e> EventTable<'e> {
         ensures events { OnOk result (GrowsBy self.old EndCollection self.new) }
         ensures unchanged { OnErr result (plain_events self.new ≡ plain_events self.old) }
     {
-        match self.unclosed.last() {
-            Some(start) => {
-                self.entries.close(start)?;
-                self.unclosed.pop();
-                Ok(())
-            }
-            None => self.entries.push(EventEntry::End),
-        }
-    }
-
-    // Returns the index of a scalar among the long ones, or `None` if no equal one is stored.
-    #[inline(always)]
-    fn find_long(&self, scalar: &LongScalar<'_>) -> Option<usize>
-        ensures { IfSome result (λ index. scalar_numbered (lists_in self.now)
-            (ScalarNumber.Long index) ≡ Some (event_of_long scalar.now)) }
-    {
-        self.long.get_index_of(scalar)
+        let Some(start) = self.unclosed.last() else {
+            return self.entries.push(EventEntry::End);
+        };
+        self.entries.close(start)?;
+        self.unclosed.pop();
+        Ok(())
     }
 
     // Appends a scalar that is already stored, given its number.
@@ -352,21 +330,15 @@ impl<'e> EventTable<'e> {
     {
         self.make_room();
         let before = self.small.len();
-        match self.small.insert_full(scalar) {
-            Ok((index, _)) => {
-                match self
-                    .entries
-                    .push(EventEntry::Scalar(ScalarNumber::Small(index)))
-                {
-                    Ok(()) => Ok(()),
-                    Err(error) => {
-                        self.small.truncate(before);
-                        Err(error)
-                    }
-                }
-            }
-            Err(_) => Err(AllocError),
+        let Ok((index, _)) = self.small.insert_full(scalar) else {
+            return Err(AllocError);
+        };
+        let entry = EventEntry::Scalar(ScalarNumber::Small(index));
+        if let Err(error) = self.entries.push(entry) {
+            self.small.truncate(before);
+            return Err(error);
         }
+        Ok(())
     }
 
     // Appends a long scalar, and stores it unless an equal one is stored already. If the
@@ -377,21 +349,15 @@ impl<'e> EventTable<'e> {
     {
         self.make_room();
         let before = self.long.len();
-        match self.long.insert_full(scalar) {
-            Ok((index, _)) => {
-                match self
-                    .entries
-                    .push(EventEntry::Scalar(ScalarNumber::Long(index)))
-                {
-                    Ok(()) => Ok(()),
-                    Err(error) => {
-                        self.long.truncate(before);
-                        Err(error)
-                    }
-                }
-            }
-            Err(_) => Err(AllocError),
+        let Ok((index, _)) = self.long.insert_full(scalar) else {
+            return Err(AllocError);
+        };
+        let entry = EventEntry::Scalar(ScalarNumber::Long(index));
+        if let Err(error) = self.entries.push(entry) {
+            self.long.truncate(before);
+            return Err(error);
         }
+        Ok(())
     }
 
     // Appends a string of more than eight bytes. It remains borrowed or owned if it is ASCII.

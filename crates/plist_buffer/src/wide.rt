@@ -34,38 +34,16 @@ pub fn is_ascii_text(text: &str) -> bool
     all_pass::<Ascii>(text.as_bytes()) || has_ascii_greatest(text)
 }
 
-// Returns whether a character isn't ASCII, or one before it isn't.
-#[inline(always)]
-fn is_wide_with(c: char, is_wide: bool) -> bool
-    ensures { result ≡ true → (is_wide ≡ true) ⊎ (128 ≤ c) }
-{
-    is_wide || c as u32 >= 128
-}
-
-// Adds the number of bytes of a character in UTF-8 to those before it, unless these are more than
-// eight.
-#[inline(always)]
-fn add_bytes(c: char, count: usize) -> usize
-    requires { count ≤ 12 }
-    ensures few { result ≤ 12 }
-    ensures bytes { result ≤ count + len_utf8 c }
-{
-    if count > 8 {
-        return count;
-    }
-    count + c.len_utf8()
-}
-
 /// Returns `true` if a string isn't ASCII and has more than eight bytes in UTF-8.
 pub(crate) fn is_long_wide(text: Utf16Str<'_>) -> bool
     ensures wide { result ≡ true → is_ascii_text (string_of_utf16 text.entry) ≡ false }
     ensures long { result ≡ true → 8 < length (string_of_utf16 text.entry) }
 {
     let mut is_wide = false;
-    let mut count = 0;
+    let mut count = 0usize;
     for c in text.chars() {
-        is_wide = is_wide_with(c, is_wide);
-        count = add_bytes(c, count);
+        is_wide |= c as u32 >= 128;
+        count = c.len_utf8().saturating_add(count);
         if is_wide && count > 8 {
             return true;
         }

@@ -26,7 +26,7 @@ impl EventTable<'static> {
     {
         // A short one is inserted without a look-up first, since its copy allocates no memory.
         if !scalar.is_short() {
-            if let Some(index) = self.find_long(&LongScalar::borrowed(scalar)) {
+            if let Some(index) = self.long.get_index_of(&LongScalar::borrowed(scalar)) {
                 return self.repeat(ScalarNumber::Long(index));
             }
         }

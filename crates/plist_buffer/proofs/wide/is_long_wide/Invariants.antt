@@ -8,7 +8,6 @@ use Rattle.plist_buffer.proofs.wide.is_long_wide.Given as goal
 -- has the bytes that were counted, and those of the characters that are left
 abbrev pub invariant-loop-c : goal.invariant-loop-c
 invariant-loop-c l = record {
-  few : l.count ≤ 12;
   long : l.count + length (encode_utf8_all (chars_left l.c-iterator))
       ≤ length (string_of_utf16 l.text);
   wide : l.is_wide ≡ true → is_ascii_text (string_of_utf16 l.text) ≡ false;

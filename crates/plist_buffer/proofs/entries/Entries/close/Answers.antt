@@ -10,28 +10,28 @@ pub overflow_add-self : goal.overflow_add-self
 overflow_add-self c =
     omega (arith, ends_below c.self.invariant c.self.view_is)
 
-pub invariant_of-self-in-Ok : goal.invariant_of-self-in-Ok
-invariant_of-self-in-Ok c =
+pub invariant_of-self-2 : goal.invariant_of-self-2
+invariant_of-self-2 c =
     rw (
       c.push_reserved.ensures.items,
       c.in_ok-reserve.ensures.items,
-      c.in-Ok.ensures.set,
+      c.in_default.ensures.set,
       c.in_ok-push.ensures.pushed,
     ) (columns_closed c.self.invariant c.self.view_is c.args.start c.requires.within
     c.requires.starts _)
 
-pub returns-in-Ok-clause-closed : goal.returns-in-Ok-clause-closed
-returns-in-Ok-clause-closed c =
+pub returns-clause-closed : goal.returns-clause-closed
+returns-clause-closed c =
     let counted : c.len.result ≡ length c.self.inside.kinds.items =
     omega (arith, ap length c.in_ok-reserve.ensures.items) in
     rw (
       c.push_reserved.ensures.items,
       c.in_ok-reserve.ensures.items,
-      c.in-Ok.ensures.set,
+      c.in_default.ensures.set,
       c.in_ok-push.ensures.pushed,
       counted,
     ) (entries_closed c.self.invariant c.self.view_is c.args.start c.requires.within c.requires.starts)
 
-pub returns-in-Ok-clause-small : goal.returns-in-Ok-clause-small
-returns-in-Ok-clause-small c =
-    omega (arith, (long_columns (invariant_of-self-in-Ok c) refl).0)
+pub returns-clause-small : goal.returns-clause-small
+returns-clause-small c =
+    omega (arith, (long_columns (invariant_of-self-2 c) refl).0)

@@ -12,17 +12,17 @@ pub close-requires-clause-starts : goal.close-requires-clause-starts
 close-requires-clause-starts c =
     start_stored c.args.self.now.kept.entries_are _ _ c.in-Some.ensures.some
 
-pub invariant_of-self-in-Some : goal.invariant_of-self-in-Some
-invariant_of-self-in-Some c = record {
-  kept = rw (c.in_ok-close-in-Some.ensures.closed, c.pop.ensures.rest)
+pub invariant_of-self-2 : goal.invariant_of-self-2
+invariant_of-self-2 c = record {
+  kept = rw (c.in_ok-close.ensures.closed, c.pop.ensures.rest)
       (kept_end c.args.self.now.kept _ _ c.in-Some.ensures.some);
-  few = c.in_ok-close-in-Some.ensures.small;
+  few = c.in_ok-close.ensures.small;
 }
 
-pub invariant_of-self-in-None : goal.invariant_of-self-in-None
-invariant_of-self-in-None c =
+pub invariant_of-self : goal.invariant_of-self
+invariant_of-self c =
     let s = c.args.self.now in
-    let none = c.in-None.ensures.none refl in
+    let none = c.in_default.ensures.none refl in
     record {
       kept = rw none (either c.push.result (λ l. IsValidTable (lists_in s) l [])
           c.push.ensures.pushed c.push.ensures.unchanged (kept_stray s.kept none)
@@ -30,7 +30,7 @@ invariant_of-self-in-None c =
       few = either_few c.push.result _ _ c.push.ensures.small c.push.ensures.unchanged s.few;
     }
 
-pub returns-in_ok-close-in-Some-clause-events : goal.returns-in_ok-close-in-Some-clause-events
-returns-in_ok-close-in-Some-clause-events c =
-    rw c.in_ok-close-in-Some.ensures.closed
+pub returns-clause-events : goal.returns-clause-events
+returns-clause-events c =
+    rw c.in_ok-close.ensures.closed
     (end_shown c.args.self.now.kept.entries_are _ _ c.in-Some.ensures.some)
