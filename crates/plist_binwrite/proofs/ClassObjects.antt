@@ -10,8 +10,8 @@ use Rattle.plist_binwrite.specs.EventClasses.{class_in, events_in, bound_in}
 use Rattle.plist_binwrite.specs.declared.classes.Classed.{Classed}
 use Rattle.plist_binwrite.specs.declared.plan.Numbering.{Numbering}
 use Rattle.plist_binwrite.specs.inner.Numbering.{IsNumberingOfEvents, object_number, size_below, total_below}
-use Rattle.plist_buffer.specs.Occurrences.{event_count, OccursAt, ItemsOccurAt, PairsOccurAt, positions}
-use Rattle.plist_buffer.proofs.TreeOccurrences.{occurs_items, occurs_pairs, occurs_item, occurs_next, occurs_key, occurs_value, occurs_next_pair, occurs_whole}
+use Rattle.plist_buffer.specs.Occurrences.{event_count, OccursAt, positions}
+use Rattle.plist_buffer.proofs.TreeOccurrences.{ItemsOccurAt, PairsOccurAt, occurs_items, occurs_pairs, occurs_item, occurs_next, occurs_key, occurs_value, occurs_next_pair, occurs_whole}
 use Rattle.plist_binwrite.proofs.NumberingSteps.{numbers_below, known_number}
 use Rattle.plist_buffer.proofs.TreeStarts.{begins, occurs_in}
 use Rattle.plist_binwrite.proofs.TreeObjects.{references, pairs}

@@ -21,7 +21,7 @@ use Rattle.std.proofs.lemmas.Grind.{flat_map-append}
 use Rattle.std.proofs.lemmas.Str.{is_utf8-from_IsUtf8}
 use Rattle.plist_base.specs.declared.marker.CountedKind.TheVariants as kind
 use Rattle.plist_base.specs.Utf16.{units_of}
-use Rattle.plist_buffer.specs.AsciiTexts.{is_ascii_text}
+use Rattle.plist_buffer.specs.inner.LongContents.{is_ascii_text}
 use Rattle.std.proofs.Math.Utf8.{scalar, scalars, scalar_cases}
 use Rattle.plist_base.specs.declared.real.RealBits.TheVariants.{Four, Eight}
 use Rattle.plist_base.proofs.Utf16Forms.{text_of_chars}

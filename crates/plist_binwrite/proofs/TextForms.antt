@@ -13,7 +13,7 @@ use Rattle.std.proofs.lemmas.Str.{len_utf8_bounds, length-encode}
 use Rattle.plist_base.specs.Trees.{String}
 use Rattle.plist_base.specs.declared.marker.CountedKind.TheVariants as kind
 use Rattle.plist_base.proofs.Utf16Units.{len_of_unit}
-use Rattle.plist_buffer.specs.AsciiTexts.{is_ascii_text}
+use Rattle.plist_buffer.specs.inner.LongContents.{is_ascii_text}
 use Rattle.plist_binwrite.specs.Forms.{length_form, scalar_form}
 
 -- ---- units counted by bytes in UTF-8

@@ -15,15 +15,15 @@ use Rattle.plist_base.specs.Object.{children_of}
 use Rattle.plist_base.specs.Unfolding.{TableEntry, items_of, until_fault, unfolding_of, visits_within, visits_of}
 use Rattle.plist_binwrite.specs.Sizes.{collection_of, object_size}
 use Rattle.plist_buffer.specs.EventTable.{item_indices, key_indices, value_indices, HasItem, LacksItem, is_end, event_at}
-use Rattle.plist_buffer.specs.Occurrences.{event_count, OccursAt, ItemsOccurAt, PairsOccurAt, positions, positions_in_items, positions_in_pairs}
+use Rattle.plist_buffer.specs.Occurrences.{event_count, OccursAt, positions, positions_in_items, positions_in_pairs}
+use Rattle.plist_buffer.proofs.TreeOccurrences.{ItemsOccurAt, PairsOccurAt, occurs_items, occurs_pairs, occurs_item, occurs_next, occurs_key, occurs_value, occurs_next_pair}
 use Rattle.plist_binwrite.specs.Classes.{object_of}
 use Rattle.plist_buffer.proofs.Uniques.{all_from}
-use Rattle.plist_buffer.proofs.TreeOccurrences.{occurs_items, occurs_pairs, occurs_item, occurs_next, occurs_key, occurs_value, occurs_next_pair}
 use Rattle.plist_base.specs.declared.marker.CountedKind.TheVariants as kind
 use Rattle.plist_base.specs.declared.event.EventShape.{EventShape}
 use Rattle.plist_base.specs.declared.event.EventShape.TheVariants as shape
 use Rattle.plist_base.specs.Utf16.{units_of}
-use Rattle.plist_buffer.specs.AsciiTexts.{is_ascii_text}
+use Rattle.plist_buffer.specs.inner.LongContents.{is_ascii_text}
 use Rattle.plist_binwrite.specs.Forms.{length_form, scalar_form, form, key_numbers, value_numbers, IsWritable, IsWritableScalar, AllFit}
 use Rattle.std.specs.Int.{bytes_high_first}
 use Rattle.plist_buffer.specs.Children.{half_of}

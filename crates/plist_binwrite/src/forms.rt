@@ -11,7 +11,7 @@ ghost use Rattle.plist_binwrite.specs.Forms.{IsWritableScalar, integer_marker, u
 ghost use Rattle.plist_binwrite.specs.inner.Numbering.{IsCapped};
 ghost use Rattle.std.specs.Int.{bytes_high_first};
 ghost use Rattle.plist_base.specs.Utf16.{utf8_of_utf16};
-ghost use Rattle.plist_buffer.specs.AsciiTexts.{is_ascii_text};
+ghost use Rattle.plist_buffer.specs.inner.LongContents.{is_ascii_text};
 ghost use Rattle.plist_buffer.specs.StoredScalars.{IsStored, IsWide, scalar_of_ref};
 ghost use Rattle.plist_base.specs.Object.{byte_of};
 ghost use Rattle.plist_base.specs.PackedScalars.{scalar_of_packed};

@@ -20,7 +20,7 @@ use Rattle.plist_buffer.specs.declared.expects.Expect.TheVariants.{Items}
 use Rattle.plist_buffer.specs.declared.expects.Transition.{Transition}
 use Rattle.plist_buffer.specs.declared.expects.Transition.TheVariants.{Kept, Refused}
 use Rattle.plist_base.specs.declared.packed_scalar.PackedScalar.{PackedScalar}
-use Rattle.plist_buffer.specs.inner.Expected.{ExpectsNext, expected_inside, innermost, change_on, next_expected}
+use Rattle.plist_buffer.specs.Expects.{ExpectsNext, expected_inside, innermost, change_on, next_expected}
 use Rattle.plist_buffer.specs.inner.Entries.{is_leaf}
 use Rattle.plist_buffer.proofs.EntryEvents.{leaf_without_length}
 use Rattle.plist_buffer.proofs.Expectations.{can_take, expects_next, tests_next}

@@ -6,7 +6,8 @@ use Rattle.plist_base.specs.Events.{PlainEvent, EndCollection}
 use Rattle.plist_base.specs.Trees.{Tree, Leaf, Array, Dictionary, Trees, NoTrees, TreeAnd, Members, NoMembers, MemberAnd}
 use Rattle.plist_buffer.specs.Children.{child_at, last_at, children_within, children_from, children_after, half_of}
 use Rattle.plist_buffer.specs.EventTable.{HasItem, is_end, event_at, item_indices, key_indices, lists_in, plain_events, value_indices, keys_in, values_in}
-use Rattle.plist_buffer.specs.Occurrences.{event_count, OccursAt, ItemsOccurAt, PairsOccurAt}
+use Rattle.plist_buffer.specs.Occurrences.{event_count, OccursAt}
+use Rattle.plist_buffer.proofs.TreeOccurrences.{ItemsOccurAt, PairsOccurAt, occurs_items, occurs_pairs, occurs_item, occurs_next, occurs_key, occurs_value, occurs_next_pair}
 use Rattle.plist_buffer.specs.declared.children.Child.{Child}
 use Rattle.plist_buffer.specs.declared.children.Child.TheVariants.{Item, Key, Value}
 use Rattle.plist_buffer.specs.declared.children.Half.{Half}
@@ -14,7 +15,6 @@ use Rattle.plist_buffer.specs.declared.children.Half.TheVariants.{Keys, Values}
 use Rattle.plist_buffer.specs.declared.event_table.EventTable.{EventTable}
 use Rattle.plist_buffer.specs.inner.UnclosedStarts.{skip_after}
 use Rattle.plist_buffer.proofs.EntryEvents.{long_shown}
-use Rattle.plist_buffer.proofs.TreeOccurrences.{occurs_items, occurs_pairs, occurs_item, occurs_next, occurs_key, occurs_value, occurs_next_pair}
 use Rattle.plist_buffer.proofs.OpenStarts.{skip_ends, skip_forward}
 use Rattle.plist_buffer.proofs.TreeStarts.{begins, first_event, stands_single, starts_array, starts_dictionary}
 

@@ -7,7 +7,8 @@ use Rattle.plist_base.specs.Bracketing.{lengthless, lengthless_items, lengthless
 use Rattle.plist_base.specs.Events.{PlainEvent, EndCollection, StartArray, StartDictionary}
 use Rattle.plist_base.specs.Trees.{Tree, Leaf, Array, Dictionary, Trees, NoTrees, TreeAnd, Members, NoMembers, MemberAnd}
 use Rattle.plist_buffer.specs.EventTable.{EndsCollection, HasItem, IsBracketed, collection_number, count_collections, event_at, is_end, lists_in, plain_events}
-use Rattle.plist_buffer.specs.Occurrences.{event_count, OccursAt, ItemsOccurAt, PairsOccurAt}
+use Rattle.plist_buffer.specs.Occurrences.{event_count, OccursAt}
+use Rattle.plist_buffer.proofs.TreeOccurrences.{ItemsOccurAt, PairsOccurAt, occurs_items, occurs_item, occurs_key, occurs_next, occurs_next_pair, occurs_pairs, occurs_value, occurs_whole, past}
 use Rattle.plist_buffer.specs.declared.entries.EntryKind.{EntryKind}
 use Rattle.plist_buffer.specs.declared.entries.EntryKind.TheVariants as kind
 use Rattle.plist_buffer.specs.declared.event_table.EventTable.{EventTable}
@@ -15,12 +16,11 @@ use Rattle.plist_buffer.specs.declared.entries.EventEntry.{EventEntry}
 use Rattle.plist_buffer.specs.declared.entries.EventEntry.TheVariants as entry
 use Rattle.plist_buffer.specs.declared.entries.ScalarNumber.TheVariants.{Small}
 use Rattle.plist_buffer.specs.inner.Columns.{ends_before, ends_in, kind_in, one_if_end}
-use Rattle.plist_buffer.specs.inner.Expected.{innermost}
+use Rattle.plist_buffer.specs.Expects.{innermost}
 use Rattle.plist_buffer.specs.inner.UnclosedStarts.{skip_after, skip_after_event, skip_from, unclosed_after_event}
 use Rattle.plist_buffer.proofs.OpenStarts.{skip_ends, skip_forward}
 use Rattle.plist_buffer.proofs.EntryEvents.{end_there, long_shown, lt}
 use Rattle.plist_buffer.specs.inner.Entries.{entry_at, event_of_entry, is_leaf}
-use Rattle.plist_buffer.proofs.TreeOccurrences.{occurs_items, occurs_item, occurs_key, occurs_next, occurs_next_pair, occurs_pairs, occurs_value, occurs_whole, past}
 use Rattle.plist_buffer.proofs.TreePositions.{Stands, positions_all, positions_stand}
 use Rattle.plist_buffer.proofs.TreeStarts.{begins, first_event, occurs_in, stands_single}
 use Rattle.plist_buffer.proofs.Uniques.{all_from}

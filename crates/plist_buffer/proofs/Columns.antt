@@ -9,7 +9,7 @@ use Rattle.plist_buffer.specs.declared.entries.EventEntry.TheVariants as entry
 use Rattle.plist_buffer.specs.declared.entries.EntryKind.{EntryKind}
 use Rattle.plist_buffer.specs.declared.entries.EntryKind.TheVariants as kind
 use Rattle.plist_buffer.specs.declared.entries.ScalarNumber.{ScalarNumber}
-use Rattle.plist_buffer.specs.inner.Columns.{AreColumns, ends_before, ends_in, kind_in, number_in, number_named, index_of_number, one_if_end, scalar_named, entry_of, entries_from, IsEntryNumber}
+use Rattle.plist_buffer.specs.inner.Columns.{AreColumns, ends_before, ends_in, kind_in, number_in, number_named, index_of_number, one_if_end, scalar_named, entry_of, entries_from}
 use Rattle.plist_buffer.specs.inner.Entries.{ScalarLists, closed_at, ended_at, entry_at, index_after_at, index_after_entry, is_leaf, is_start, event_of_entry}
 
 -- an entry is made up of its kind and its number
@@ -147,7 +147,8 @@ module _ {kinds : List EntryKind} {numbers : List ℕ} {ends : ℕ} {es : List E
       ap (λ l. get_or l p d) lent
       ∙ get_or_default kinds p d kind.End (omega (arith, long_columns.0)) ∙ sym (kind_is p)
 
-  pub number_read : (p : ℕ) → IsEntryNumber es p (get_or numbers p 0)
+  pub number_read : (p : ℕ)
+      → entry_of (kind_in (entry_at es p)) (get_or numbers p 0) ≡ entry_at es p
   number_read p = ap (λ k. entry_of k (get_or numbers p 0)) (kind_is p) ∙ sym (entry_is p)
 
   pub start_number : (p : ℕ) → is_start (entry_at es p) ≡ true

@@ -3,7 +3,7 @@ use Rattle.std.proofs.Common.{◌≡◌, ◌≢◌, List, [], ◌∷◌, ◌++�
 use Rattle.std.specs.Option.{is_none}
 use Rattle.plist_base.specs.Bracketing.{without_length, AreTreeEvents, CanContinue}
 use Rattle.plist_base.specs.Events.{PlainEvent, EndCollection}
-use Rattle.plist_buffer.specs.Expects.{transition_of, changed, step, expected_after}
+use Rattle.plist_buffer.specs.Expects.{transition_of, changed, step, expected_after, expected_inside, innermost, all_expected, ExpectsNext, change_on, next_expected}
 use Rattle.plist_buffer.specs.declared.expects.Expect.{Expect}
 use Rattle.plist_buffer.specs.declared.expects.Expect.TheVariants.{OneValue}
 use Rattle.plist_buffer.specs.declared.expects.Transition.{Transition}
@@ -12,7 +12,6 @@ use Rattle.plist_base.proofs.Lengths.{alike_last}
 use Rattle.plist_buffer.proofs.Grammar.{none_is, wanted_alike, can_continue, continues, bracketed, all_taken, complete_of_whole, steps_snoc}
 use Rattle.plist_buffer.specs.declared.event_buffer.EventBuffer.{EventBuffer}
 use Rattle.plist_buffer.specs.EventBuffers.{buffered_events, is_whole, TestsWhole}
-use Rattle.plist_buffer.specs.inner.Expected.{expected_inside, innermost, all_expected, ExpectsNext, change_on, next_expected}
 use Rattle.plist_buffer.proofs.Innermost.{OpenKind, OpenArray, OpenDictionary, open_after_event, open_after, expects_in, inside_is}
 
 -- ---- open collections

@@ -7,7 +7,7 @@ use Rattle.plist_buffer.specs.declared.event_table.EventTable.{EventTable}
 use Rattle.plist_base.specs.declared.event.EventShape.{EventShape}
 use Rattle.plist_base.specs.declared.event.EventShape.TheVariants as shape
 use Rattle.plist_buffer.specs.EventTable.{event_at, plain_events}
-use Rattle.plist_buffer.specs.inner.Expected.{expected_in, expected_inside, innermost}
+use Rattle.plist_buffer.specs.Expects.{expected_after_start, expected_inside, innermost}
 use Rattle.plist_buffer.specs.inner.UnclosedStarts.{unclosed_after_event, unclosed_from}
 use Rattle.plist_buffer.proofs.EntryEvents.{below, unclosed_is, was_start}
 use Rattle.plist_buffer.proofs.TreeOccurrences.{past_one}
@@ -40,7 +40,7 @@ expects_in OpenDictionary = Pairs
 
 module _ (all : List PlainEvent) where
   abbrev expect_at : ℕ → Expect
-  expect_at q = expected_in (event_at all q)
+  expect_at q = expected_after_start (event_at all q)
 
   one_inside : (e : PlainEvent) (p : ℕ) (unclosed : List ℕ) (kinds : List OpenKind)
       → event_at all p ≡ e → map expect_at unclosed ≡ map expects_in kinds
@@ -66,7 +66,7 @@ expect_of_kind shape.StartDictionary = Some Pairs
 expect_of_kind other = None
 
 start_expects : (e : PlainEvent) → is_start e ≡ true
-    → expect_of_kind (shape_of e) ≡ Some (expected_in e)
+    → expect_of_kind (shape_of e) ≡ Some (expected_after_start e)
 start_expects e is = search rules
 
 module _ (table : EventTable) where

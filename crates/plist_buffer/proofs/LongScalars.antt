@@ -5,10 +5,9 @@ use Rattle.std.proofs.lemmas.Bool.{and_parts, ltb-true}
 use Rattle.std.proofs.lemmas.Str.{IsUtf8-from_ascii}
 use Rattle.plist_base.specs.Utf16.{utf16_form}
 use Rattle.plist_base.proofs.Utf16Forms.{form_back, form_valid}
-use Rattle.plist_buffer.specs.AsciiTexts.{is_ascii_text}
+use Rattle.plist_buffer.specs.inner.LongContents.{is_ascii_text, IsLongIn}
 use Rattle.plist_buffer.specs.declared.long_scalar.Form.{Form}
 use Rattle.plist_buffer.specs.declared.long_scalar.Form.TheVariants as form
-use Rattle.plist_buffer.specs.inner.LongContents.{IsLongIn}
 
 -- each byte of a string in ASCII is ASCII
 ascii_bytes : (text : List ℕ) → is_ascii_text text ≡ true → IsAscii text

@@ -16,7 +16,7 @@ use Rattle.std.proofs.lemmas.List.Sums.{list_all-from_AllPass}
 use Rattle.std.proofs.lemmas.Str.{chars_past_char, chars-nil, length-encode, chars-encodes}
 use Rattle.plist_base.specs.ByteTests.{EachByte}
 use Rattle.plist_base.specs.Utf16.{units_of, utf16_form}
-use Rattle.plist_buffer.specs.AsciiTexts.{is_ascii_text}
+use Rattle.plist_buffer.specs.inner.LongContents.{is_ascii_text}
 
 pub units_empty : (text : List ℕ) → length text ≡ 0 → units_of text ≡ []
 unfolding units_of

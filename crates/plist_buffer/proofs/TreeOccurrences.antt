@@ -6,7 +6,17 @@ use Rattle.plist_base.specs.Trees as trees
 use Rattle.plist_base.specs.Events.{PlainEvent, EndCollection}
 use Rattle.plist_base.specs.Trees.{Tree, Leaf, Array, Dictionary, Trees, TreeAnd, Members, MemberAnd}
 use Rattle.plist_base.specs.Bracketing.{lengthless, lengthless_items, lengthless_pairs}
-use Rattle.plist_buffer.specs.Occurrences.{event_count, OccursAt, ItemsOccurAt, PairsOccurAt}
+use Rattle.plist_buffer.specs.Occurrences.{event_count, OccursAt}
+
+-- the remaining items of an array, and its end, occur from index p on
+pub record ItemsOccurAt (es : List PlainEvent) (ts : Trees) (p : ℕ) : Type 0 where
+  pub rest : List PlainEvent
+  pub is : drop p es ≡ lengthless_items ts ++ EndCollection ∷ rest
+
+-- the remaining pairs of a dictionary, and its end, occur from index p on
+pub record PairsOccurAt (es : List PlainEvent) (ms : Members) (p : ℕ) : Type 0 where
+  pub rest : List PlainEvent
+  pub is : drop p es ≡ lengthless_pairs ms ++ EndCollection ∷ rest
 
 drop_twice : (n p : ℕ) (es : List PlainEvent) → drop (p + n) es ≡ drop n (drop p es)
 drop_twice n p es = simp drop-drop

@@ -36,12 +36,6 @@ misplaced_fault held event =
 abbrev pub TestsWhole : Bool → List PlainEvent → Type 0
 TestsWhole answer events = MatchBool answer (AreComplete events) (AreTreeEvents events → ⊥)
 
--- the event was appended without its length, and `is_whole` says whether the events are a tree's
-abbrev pub BuffersNext : (before : EventBuffer) → PlainEvent → (after : EventBuffer) → Type 0
-BuffersNext before event after =
-    (buffered_events after ≡ buffered_events before ++ without_length event ∷ [])
-    × TestsWhole (is_whole after) (buffered_events before ++ event ∷ [])
-
 -- the buffered events and what is expected next are unchanged
 pub record BuffersSame (before after : EventBuffer) : Type 0 where
   pub events : buffered_events after ≡ buffered_events before
@@ -55,9 +49,12 @@ IsMisplaced held event fault = (CanContinue held event → ⊥) × (fault ≡ mi
 abbrev pub CanTake : EventBuffer → PlainEvent → Type 0
 CanTake pending event = CanContinue (buffered_events pending) event
 
--- the event can follow the buffered ones, and was buffered
+-- the event can follow the buffered ones, and was appended without its length, and `is_whole` says
+-- whether the events are a tree's
 abbrev pub Accepts : (before : EventBuffer) → PlainEvent → (after : EventBuffer) → Type 0
-Accepts before event after = CanTake before event × BuffersNext before event after
+Accepts before event after = CanTake before event
+    × ((buffered_events after ≡ buffered_events before ++ without_length event ∷ [])
+    × TestsWhole (is_whole after) (buffered_events before ++ event ∷ []))
 
 -- why an event wasn't buffered: a misplaced one can't follow the buffered ones, and nothing has
 -- changed; `OutOfMemory` is returned only for an event that can follow them, and the buffered events

@@ -1,13 +1,16 @@
--- What is expected after some events. It is a stack, which decides what event is accepted next.
-use Rattle.std.specs.Prelude.{List, [], ◌∷◌, Option, Some, None, option_and_then}
-use Rattle.plist_base.specs.Events.{PlainEvent, EndCollection, ScalarEvent, shape_of}
+-- What is expected after some events. It is a stack, which decides what event is accepted next. The
+-- innermost open collection decides whether that is an item or a pair, unless the last event is a key.
+use Rattle.std.specs.Prelude.{◌≡◌, List, [], ◌∷◌, Option, Some, None, map, option_and_then}
+use Rattle.plist_base.specs.Events.{PlainEvent, StartDictionary, EndCollection, ScalarEvent, shape_of}
 use Rattle.plist_base.specs.Trees.{String}
 use Rattle.plist_base.specs.declared.event.EventShape.{EventShape}
 use Rattle.plist_base.specs.declared.event.EventShape.TheVariants as shape
+use Rattle.plist_buffer.specs.EventTable.{event_at}
 use Rattle.plist_buffer.specs.declared.expects.Expect.{Expect}
 use Rattle.plist_buffer.specs.declared.expects.Expect.TheVariants.{OneValue, Items, Pairs}
 use Rattle.plist_buffer.specs.declared.expects.Transition.{Transition}
 use Rattle.plist_buffer.specs.declared.expects.Transition.TheVariants.{Refused, Closed, Kept, Pushed, Replaced}
+use Rattle.plist_buffer.specs.inner.UnclosedStarts.{unclosed_after}
 
 -- how an event of this shape changes the expectation of a value
 abbrev pub transition_of_value : EventShape → Transition
@@ -56,3 +59,41 @@ steps expects (event ∷ events) = option_and_then (λ after. steps after events
 -- the stack after these events, which begin a tree, or `None` if one is rejected
 abbrev pub expected_after : List PlainEvent → Option (List Expect)
 expected_after events = steps (OneValue ∷ []) events
+
+-- what is expected in the collection that begins with a start
+abbrev pub expected_after_start : PlainEvent → Expect
+expected_after_start (StartDictionary hint) = Pairs
+expected_after_start start = Items
+
+-- what is expected in each open collection after these events, innermost first
+abbrev pub expected_inside : List PlainEvent → List Expect
+expected_inside events = map (λ start. expected_after_start (event_at events start)) (unclosed_after events)
+
+-- the first item, which belongs to the innermost collection, or `None` if there is none
+abbrev pub innermost : {A : Type 0} → List A → Option A
+innermost [] = None
+innermost (first ∷ outer) = Some first
+
+-- the stack of expectations, given the next one and those of the open collections, innermost first
+abbrev pub all_expected : (next : Option Expect) → (inside : List Expect) → List Expect
+all_expected None inside = []
+all_expected (Some OneValue) inside = OneValue ∷ inside
+all_expected (Some expect) inside = inside
+
+-- `next` is expected after these events, and is `None` if nothing can follow them
+pub record ExpectsNext (events : List PlainEvent) (next : Option Expect) : Type 0 where
+  pub all : expected_after events ≡ Some (all_expected next (expected_inside events))
+  pub first : next ≡ innermost (all_expected next (expected_inside events))
+
+-- how an event changes what is expected next
+abbrev pub change_on : (next : Option Expect) → PlainEvent → Transition
+change_on None event = Refused
+change_on (Some expect) event = transition_of expect event
+
+-- what is expected next after a change
+abbrev pub next_expected : Transition → (next inside : Option Expect) → Option Expect
+next_expected Refused next inside = next
+next_expected Kept next inside = next
+next_expected Closed next inside = inside
+next_expected (Pushed expect) next inside = Some expect
+next_expected (Replaced expect) next inside = Some expect

@@ -1,6 +1,5 @@
 pub mod Expects
 pub mod Occurrences
-pub mod AsciiTexts
 pub mod StoredScalars
 pub mod EventTable
 pub mod Children

@@ -1,7 +1,7 @@
 -- Where trees occur among events.
 use Rattle.std.specs.Prelude.{◌≡◌, ℕ, ◌+◌, List, [], ◌∷◌, ◌++◌, length, drop}
-use Rattle.plist_base.specs.Bracketing.{lengthless, lengthless_items, lengthless_pairs}
-use Rattle.plist_base.specs.Events.{PlainEvent, EndCollection}
+use Rattle.plist_base.specs.Bracketing.{lengthless}
+use Rattle.plist_base.specs.Events.{PlainEvent}
 use Rattle.plist_base.specs.Trees.{Tree, Leaf, Array, Dictionary, Trees, NoTrees, TreeAnd, Members, NoMembers, MemberAnd, String}
 
 -- the number of a tree's events
@@ -12,16 +12,6 @@ event_count t = length (lengthless t)
 pub record OccursAt (es : List PlainEvent) (t : Tree) (p : ℕ) : Type 0 where
   pub rest : List PlainEvent
   pub is : drop p es ≡ lengthless t ++ rest
-
--- the remaining items of an array, and its end, occur from index p on
-pub record ItemsOccurAt (es : List PlainEvent) (ts : Trees) (p : ℕ) : Type 0 where
-  pub rest : List PlainEvent
-  pub is : drop p es ≡ lengthless_items ts ++ EndCollection ∷ rest
-
--- the remaining pairs of a dictionary, and its end, occur from index p on
-pub record PairsOccurAt (es : List PlainEvent) (ms : Members) (p : ℕ) : Type 0 where
-  pub rest : List PlainEvent
-  pub is : drop p es ≡ lengthless_pairs ms ++ EndCollection ∷ rest
 
 -- a tree and all trees in it, each with the index of its first event; a key is a string
 abbrev mutual

@@ -4,13 +4,12 @@ use Rattle.plist_base.specs.Events.{PlainEvent, ScalarEvent}
 use Rattle.plist_base.specs.Trees.{Scalar, Data, String}
 use Rattle.plist_base.specs.PackedScalars.{scalar_of_packed}
 use Rattle.plist_base.specs.Utf16.{IsUtf16, utf8_of_utf16}
-use Rattle.plist_buffer.specs.AsciiTexts.{is_ascii_text}
+use Rattle.plist_buffer.specs.inner.LongContents.{is_ascii_text, bytes_stored, form_in, scalar_from}
 use Rattle.plist_buffer.specs.declared.stored_scalar.ScalarRef.{ScalarRef}
 use Rattle.plist_buffer.specs.declared.stored_scalar.ScalarRef.TheVariants as lent
 use Rattle.plist_base.specs.declared.packed_scalar.PackedScalar.{PackedScalar}
 use Rattle.plist_buffer.specs.declared.long_scalar.LongRef.{LongRef}
 use Rattle.plist_buffer.specs.declared.long_scalar.LongScalar.{LongScalar}
-use Rattle.plist_buffer.specs.inner.LongContents.{bytes_stored, form_in, scalar_from}
 
 -- the scalar that a `ScalarRef` refers to
 abbrev pub scalar_of_ref : ScalarRef → Scalar

@@ -3,7 +3,7 @@
 
 ghost use Rattle.std.specs.Prelude.{List, ◌≡◌, ◌-◌, ◌^◌, ◌<◌, ◌≤◌, ◌++◌, ◌∷◌, [], length, map, true, OnOk, OnErr};
 ghost use Rattle.plist_buffer.specs.declared.entries.EventEntry.{EventEntry};
-ghost use Rattle.plist_buffer.specs.inner.Columns.{AreColumns, ends_before, ends_in, entries_from, kind_in, number_in, number_named, one_if_end, shape_of_kind, IsEntryNumber};
+ghost use Rattle.plist_buffer.specs.inner.Columns.{AreColumns, ends_before, ends_in, entries_from, kind_in, number_in, number_named, one_if_end, shape_of_kind, entry_of};
 ghost use Rattle.plist_buffer.specs.inner.Entries.{index_after_at, ended_at, entry_at, is_start};
 
 use plist_base::{CompactNumbers, EventShape};
@@ -148,7 +148,7 @@ impl Entries {
     // Returns the number of the entry at an index. For an end it is unspecified.
     fn number_at(&self, index: usize) -> usize
         requires { index < length self.now }
-        ensures { IsEntryNumber self.now index result }
+        ensures { entry_of (kind_in (entry_at self.now index)) result ≡ entry_at self.now index }
     {
         self.numbers.get(index)
     }

@@ -5,14 +5,14 @@
 //! and data of more than eight bytes don't wait.
 
 ghost use Rattle.std.proofs.Props.{props};
-ghost use Rattle.std.specs.Prelude.{◌≡◌, ◌<◌, ◌++◌, ℕ, List, Some, length, IfSome, ◌≢◌, [], false, true, None, OnOk};
+ghost use Rattle.std.specs.Prelude.{◌≡◌, ◌<◌, ◌++◌, ℕ, List, Some, length, IfSome, ◌≢◌, [], false, true, None, OnOk, OnErr};
 ghost use Rattle.plist_base.specs.Events.{ScalarEvent, event_of};
 ghost use Rattle.plist_base.specs.Trees.{String};
 ghost use Rattle.plist_buffer.specs.EventTable.{plain_events, event_at, table_event};
 ghost use Rattle.plist_buffer.specs.StoredScalars.{event_of_small, events_of_small, scalar_of_long_ref};
 ghost use Rattle.plist_buffer.specs.declared.expects.Expect.TheVariants.{Items};
 ghost use Rattle.plist_buffer.specs.declared.expects.Transition.TheVariants.{Refused};
-ghost use Rattle.plist_buffer.specs.inner.Expected.{ExpectsNext, change_on, expected_inside, innermost, next_expected};
+ghost use Rattle.plist_buffer.specs.Expects.{ExpectsNext, change_on, expected_inside, innermost, next_expected};
 
 use crate::event_table::EventTable;
 use crate::expects::{Expect, Transition};
@@ -107,7 +107,7 @@ impl EventBuffer {
     ghost use Rattle.plist_base.specs.PackedScalars.{IsUnpackable};
     ghost use Rattle.plist_base.specs.Utf16Strings.{string_of_utf16};
     ghost use Rattle.plist_base.specs.ByteTests.{EachByte};
-    ghost use Rattle.plist_buffer.specs.EventBuffers.{buffered_events, expected_instead, is_whole, Buffers, BuffersSame, CanTake, MayBuffer};
+    ghost use Rattle.plist_buffer.specs.EventBuffers.{buffered_events, expected_instead, is_whole, Accepts, Buffers, BuffersSame, CanTake, MayBuffer};
     ghost use Rattle.plist_buffer.specs.inner.Entries.{is_leaf};
 
     /// Creates a buffer without events. It allocates no memory.
@@ -187,10 +187,11 @@ impl EventBuffer {
 
     // Buffers a scalar, given how it changes what is expected next. An item of an array waits.
     #[inline(always)]
-    fn hold_scalar(&mut self, scalar: PackedScalar, change: Transition) -> Result<(), PushError>
+    fn hold_scalar(&mut self, scalar: PackedScalar, change: Transition) -> Result<(), AllocError>
         requires change { change ≡ change_on self.old.expects (event_of_small scalar) }
         requires accepted { change ≢ Refused }
-        ensures { Buffers self.old (event_of_small scalar) result self.new }
+        ensures taken { OnOk result (Accepts self.old (event_of_small scalar) self.new) }
+        ensures same { OnErr result (BuffersSame self.old self.new) }
     {
         if let Transition::Kept = change {
             self.append_if_full()?;
@@ -211,11 +212,12 @@ impl EventBuffer {
         alloc: Global,
         event: Event<'_>,
         change: Transition,
-    ) -> Result<(), PushError>
+    ) -> Result<(), AllocError>
         requires change { change ≡ change_on self.old.expects (event_of event) }
         requires accepted { change ≢ Refused }
         requires large { IsUnpackable (event_of event) }
-        ensures { Buffers self.old (event_of event.entry) result self.new }
+        ensures taken { OnOk result (Accepts self.old (event_of event.entry) self.new) }
+        ensures same { OnErr result (BuffersSame self.old self.new) }
     {
         self.append_if_any()?;
         self.held.push_copy(alloc, event)?;
@@ -230,11 +232,13 @@ impl EventBuffer {
         alloc: Global,
         text: LongRef<'_>,
         change: Transition,
-    ) -> Result<(), PushError>
+    ) -> Result<(), AllocError>
         requires change { change
             ≡ change_on self.old.expects (ScalarEvent (scalar_of_long_ref text)) }
         requires accepted { change ≢ Refused }
-        ensures { Buffers self.old (ScalarEvent (scalar_of_long_ref text.entry)) result self.new }
+        ensures taken { OnOk result (Accepts self.old
+            (ScalarEvent (scalar_of_long_ref text.entry)) self.new) }
+        ensures same { OnErr result (BuffersSame self.old self.new) }
     {
         self.append_if_any()?;
         self.held.copy_long(alloc, text)?;
@@ -303,7 +307,10 @@ impl EventBuffer {
         if let Transition::Refused = change {
             return None;
         }
-        Some(self.hold_long(alloc, text, change))
+        match self.hold_long(alloc, text, change) {
+            Ok(()) => Some(Ok(())),
+            Err(error) => Some(Err(PushError::from(error))),
+        }
     }
 
     /// Buffers a scalar, which may be a key, if it can follow the buffered events, which must not
@@ -322,7 +329,10 @@ impl EventBuffer {
         if let Transition::Refused = change {
             return None;
         }
-        Some(self.hold_scalar(scalar, change))
+        match self.hold_scalar(scalar, change) {
+            Ok(()) => Some(Ok(())),
+            Err(error) => Some(Err(PushError::from(error))),
+        }
     }
 
     /// Buffers a string in ASCII, which may be a key, given its bytes, if it can follow the
@@ -382,9 +392,10 @@ impl EventBuffer {
             return Err(self.error_of_kind(EventKind::of_event(&event)));
         }
         match PackedScalar::of_event(&event) {
-            Some(scalar) => self.hold_scalar(scalar, change),
-            None => self.hold_large(alloc, event, change),
+            Some(scalar) => self.hold_scalar(scalar, change)?,
+            None => self.hold_large(alloc, event, change)?,
         }
+        Ok(())
     }
 
     /// Returns the number of buffered events.

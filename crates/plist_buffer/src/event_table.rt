@@ -73,7 +73,7 @@ impl<'e> EventTable<'e> {
     ghost use Rattle.plist_base.specs.Trees.{String as StringScalar};
     ghost use Rattle.plist_buffer.specs.EventTable.{plain_event, plain_events, scalars_of, lists_in, collection_number, count_collections, EndsCollection, GrowsBy, HasItem, IsScalarAt, LacksItem, table_event};
     ghost use Rattle.plist_buffer.specs.inner.Columns.{scalar_named};
-    ghost use Rattle.plist_buffer.specs.inner.Expected.{expected_inside, innermost};
+    ghost use Rattle.plist_buffer.specs.Expects.{expected_inside, innermost};
     ghost use Rattle.plist_buffer.specs.inner.UnclosedStarts.{skip_after};
 
     /// Creates an empty table. It allocates no memory.

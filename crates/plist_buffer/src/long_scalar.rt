@@ -154,7 +154,7 @@ pub struct LongScalar<'e> {
 
 impl<'e> LongScalar<'e> {
     ghost use Rattle.std.specs.Cow.{cow_slice_items};
-    ghost use Rattle.plist_buffer.specs.AsciiTexts.{is_ascii_text};
+    ghost use Rattle.plist_buffer.specs.inner.LongContents.{is_ascii_text};
     ghost use Rattle.plist_buffer.specs.StoredScalars.{IsStored, scalar_of_long, scalar_of_long_ref, scalar_of_ref};
 
     /// Stores a string or data, given its form and its bytes. More than 38 bytes remain borrowed or
@@ -228,7 +228,7 @@ impl PartialEq for LongScalar<'_> {
     ghost use Rattle.std.specs.Cmp.{on_equiv, partial_equiv_from_equiv};
     ghost use Rattle.plist_base.specs.Scalars.{scalar_eq};
     ghost use Rattle.plist_buffer.specs.StoredScalars.{scalar_of_long};
-    ghost use Rattle.plist_buffer.specs.inner.StoredEquality.{scalars_equiv};
+    ghost use Rattle.plist_buffer.specs.inner.LongContents.{scalars_equiv};
 
     ghost eq = { λ a b. scalar_eq (scalar_of_long a) (scalar_of_long b) };
 
@@ -242,7 +242,7 @@ impl PartialEq for LongScalar<'_> {
 impl Eq for LongScalar<'_> {
     ghost use Rattle.std.specs.Cmp.{on_equiv};
     ghost use Rattle.plist_buffer.specs.StoredScalars.{scalar_of_long};
-    ghost use Rattle.plist_buffer.specs.inner.StoredEquality.{scalars_equiv};
+    ghost use Rattle.plist_buffer.specs.inner.LongContents.{scalars_equiv};
 
     ghost laws = { on_equiv scalar_of_long scalars_equiv };
 }
@@ -251,8 +251,7 @@ impl Eq for LongScalar<'_> {
 impl Hash for LongScalar<'_> {
     ghost use Rattle.std.specs.Prelude.{◌∷◌, []};
     ghost use Rattle.plist_buffer.specs.StoredScalars.{scalar_of_long};
-    ghost use Rattle.plist_buffer.specs.inner.LongContents.{bytes_of_scalar};
-    ghost use Rattle.plist_buffer.specs.inner.StoredEquality.{equal_long_write_same};
+    ghost use Rattle.plist_buffer.specs.inner.LongContents.{bytes_of_scalar, equal_long_write_same};
 
     ghost hash_input = { λ scalar. bytes_of_scalar (scalar_of_long scalar) ∷ [] };
 

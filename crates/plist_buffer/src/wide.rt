@@ -7,7 +7,7 @@ ghost use Rattle.std.specs.Int.{bytes_high_first};
 ghost use Rattle.std.specs.List.{flat_map};
 ghost use Rattle.plist_base.specs.Utf16.{utf16_form};
 ghost use Rattle.plist_base.specs.Utf16Strings.{string_of_utf16};
-ghost use Rattle.plist_buffer.specs.AsciiTexts.{is_ascii_text};
+ghost use Rattle.plist_buffer.specs.inner.LongContents.{is_ascii_text};
 
 use plist_base::{Ascii, Utf16Str, all_pass};
 use std::alloc::{AllocError, Global};

@@ -10,7 +10,7 @@ use Rattle.plist_binwrite.specs.SendingAs.{FileKind, IsOfTree}
 use Rattle.plist_buffer.specs.EventBuffers.{buffered_events, expected_instead, is_whole, misplaced_fault}
 use Rattle.plist_buffer.specs.declared.event_buffer.EventBuffer.{EventBuffer}
 use Rattle.plist_buffer.specs.declared.expects.Expect.{Expect}
-use Rattle.plist_buffer.specs.inner.Expected.{all_expected, expected_inside}
+use Rattle.plist_buffer.specs.Expects.{all_expected, expected_inside}
 use Rattle.plist_buffer.proofs.Expectations.{whole_of_tree}
 use Rattle.plist_buffer.proofs.Grammar.{bracketed}
 use Rattle.plist_c.specs.declared.flat.FlatEvent.{FlatEvent}

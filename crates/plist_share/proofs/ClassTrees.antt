@@ -13,7 +13,8 @@ use Rattle.plist_binwrite.specs.Forms.{key_numbers, value_numbers}
 use Rattle.plist_binwrite.specs.declared.classes.ClassList.{ClassList}
 use Rattle.plist_buffer.specs.EventTable.{HasItem, IsBracketed, collection_number, is_end, item_indices, key_indices, value_indices, event_at, plain_events, scalars_of}
 use Rattle.plist_binwrite.proofs.TreeObjects.{pairs, references, keys_are, values_are}
-use Rattle.plist_buffer.specs.Occurrences.{event_count, OccursAt, ItemsOccurAt, PairsOccurAt}
+use Rattle.plist_buffer.specs.Occurrences.{event_count, OccursAt}
+use Rattle.plist_buffer.proofs.TreeOccurrences.{ItemsOccurAt, PairsOccurAt, occurs_items, occurs_pairs, occurs_item, occurs_next, occurs_key, occurs_value, occurs_next_pair}
 use Rattle.plist_base.specs.declared.event.EventShape.{EventShape}
 use Rattle.plist_base.specs.declared.event.EventShape.TheVariants as shape
 use Rattle.plist_buffer.specs.declared.event_table.EventTable.{EventTable}
@@ -22,7 +23,6 @@ use Rattle.plist_buffer.proofs.CollectionNumbers.{IsCollectionAt, array_at, coll
 use Rattle.plist_binwrite.proofs.ClassObjects.{sound}
 use Rattle.plist_binwrite.proofs.ScalarClasses.{collection_class, leaf_any, leaf_below, leaf_used, leaves_same}
 use Rattle.plist_binwrite.proofs.Reading.{dictionary_is}
-use Rattle.plist_buffer.proofs.TreeOccurrences.{occurs_items, occurs_pairs, occurs_item, occurs_next, occurs_key, occurs_value, occurs_next_pair}
 use Rattle.plist_buffer.proofs.TreeStarts.{begins, occurs_in, starts_array, starts_dictionary}
 use Rattle.plist_share.specs.inner.Nodes.{AreClassesFrom, Node, node_at, node_by, IsClass, IsClassAt, Extends, SeparatesAll}
 

@@ -1,7 +1,7 @@
 -- Entries as two lists, one of their kinds and one of their numbers.
 use Rattle.std.specs.Prelude.{◌≡◌, ℕ, ◌+◌, ◌<◌, List, [], ◌∷◌, length, map, slice_index, slice_index_or, take, Option, None, Some}
 use Rattle.std.specs.Option.{option_map}
-use Rattle.plist_buffer.specs.inner.Entries.{entry_at, ScalarLists}
+use Rattle.plist_buffer.specs.inner.Entries.{ScalarLists}
 use Rattle.plist_buffer.specs.declared.entries.EventEntry.{EventEntry}
 use Rattle.plist_buffer.specs.declared.entries.EventEntry.TheVariants as entry
 use Rattle.plist_buffer.specs.declared.entries.EntryKind.{EntryKind}
@@ -56,11 +56,6 @@ entry_of kind.Dictionary number = entry.Dictionary number
 entry_of kind.Small number = entry.Scalar (Small number)
 entry_of kind.Long number = entry.Scalar (Long number)
 entry_of kind.End number = entry.End
-
--- the entry at an index has this number, or is an end
-abbrev pub IsEntryNumber : List EventEntry → (index number : ℕ) → Type 0
-IsEntryNumber entries index number =
-    entry_of (kind_in (entry_at entries index)) number ≡ entry_at entries index
 
 -- the entries with these kinds and these numbers
 abbrev pub entries_from : List EntryKind → List ℕ → List EventEntry

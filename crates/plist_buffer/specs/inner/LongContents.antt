@@ -1,13 +1,21 @@
--- The forms and bytes of long scalars.
-use Rattle.std.specs.Prelude.{◌≡◌, ℕ, ◌<◌, List, [], length, take, if◌then◌else◌}
+-- The forms and bytes of long scalars, and their equality.
+use Rattle.std.proofs.Common.{ap, subst}
+use Rattle.std.specs.Cmp.{IsEquivalence, decided}
+use Rattle.std.specs.List.{list_all}
+use Rattle.std.specs.Prelude.{◌≡◌, ℕ, ◌<◌, Bool, true, List, [], ◌∷◌, length, nat_lt, take, if◌then◌else◌}
+use Rattle.plist_base.proofs.ScalarTests.{scalar_is, scalar_refl}
+use Rattle.plist_base.specs.Scalars.{scalar_eq}
 use Rattle.plist_base.specs.Trees.{Scalar, Data, String}
 use Rattle.plist_base.specs.Utf16.{IsUtf16, utf16_form, utf8_of_utf16}
-use Rattle.plist_buffer.specs.AsciiTexts.{is_ascii_text}
 use Rattle.plist_buffer.specs.declared.short_bytes.ShortBytes.{ShortBytes}
 use Rattle.plist_buffer.specs.declared.long_scalar.LongContent.{LongContent}
 use Rattle.plist_buffer.specs.declared.long_scalar.LongContent.TheVariants as content
 use Rattle.plist_buffer.specs.declared.long_scalar.Form.{Form}
 use Rattle.plist_buffer.specs.declared.long_scalar.Form.TheVariants as form
+
+-- is each byte ASCII?
+abbrev pub is_ascii_text : List ℕ → Bool
+is_ascii_text text = list_all (λ byte. nat_lt byte 128) text
 
 -- the bytes that are stored in a value itself
 abbrev pub short_bytes : ShortBytes → List ℕ
@@ -57,3 +65,13 @@ pub record IsLongIn (stored : Form) (bytes : List ℕ) : Type 0 where
   pub long : 8 < bytes_in_scalar (scalar_from stored bytes)
   pub own : stored ≡ form_of_scalar (scalar_from stored bytes)
   pub valid : stored ≡ form.Wide → IsUtf16 bytes
+
+-- the equality of scalars is an equivalence
+pub scalars_equiv : IsEquivalence scalar_eq
+scalars_equiv = decided scalar_eq
+    (λ a b. (scalar_is a b, λ same. subst (λ c. scalar_eq a c ≡ true) same (scalar_refl a)))
+
+-- equal scalars write the same to a hasher
+pub equal_long_write_same : (a b : Scalar) → scalar_eq a b ≡ true
+    → bytes_of_scalar a ∷ [] ≡ bytes_of_scalar b ∷ []
+equal_long_write_same a b h = ap (λ scalar. bytes_of_scalar scalar ∷ []) (scalar_is a b h)

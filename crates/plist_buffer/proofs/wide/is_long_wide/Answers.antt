@@ -1,7 +1,7 @@
 use Rattle.std.proofs.Common.{◌≡◌, ◌≤◌, ◌+◌, ◌||◌, leb, false, true, length, ap, arith}
 use Rattle.std.specs.Str.{encode_utf8_all}
 use Rattle.plist_base.specs.Utf16Strings.{chars_left, string_of_utf16}
-use Rattle.plist_buffer.specs.AsciiTexts.{is_ascii_text}
+use Rattle.plist_buffer.specs.inner.LongContents.{is_ascii_text}
 use Rattle.plist_buffer.proofs.TextUnits.{bytes_step, wide_first, wide_later}
 use Rattle.plist_buffer.proofs.wide.is_long_wide.Goals as goal
 use Rattle.plist_buffer.proofs.wide.is_long_wide.Goals.{After-saturating_add-count}

@@ -1,7 +1,7 @@
 use Rattle.std.proofs.Common.{◌≡◌, ◌+◌, ◌≤◌, length, false, true}
 use Rattle.std.specs.Str.{encode_utf8_all}
 use Rattle.plist_base.specs.Utf16Strings.{chars_left, string_of_utf16}
-use Rattle.plist_buffer.specs.AsciiTexts.{is_ascii_text}
+use Rattle.plist_buffer.specs.inner.LongContents.{is_ascii_text}
 use Rattle.plist_buffer.proofs.wide.is_long_wide.Given as goal
 
 -- the string isn't ASCII if a character so far isn't, or the characters that are left aren't; it

@@ -1,6 +1,6 @@
 use Rattle.std.proofs.Common.{refl, sym, subst, arith, ap, length}
 use Rattle.std.proofs.lemmas.List.{length-drop}
-use Rattle.plist_buffer.specs.inner.Expected.{ExpectsNext}
+use Rattle.plist_buffer.specs.Expects.{ExpectsNext}
 use Rattle.plist_buffer.proofs.BufferedEvents.{still_buffered}
 use Rattle.plist_buffer.proofs.event_buffer.EventBuffer.append_waiting.Goals as goal
 
