@@ -1,5 +1,5 @@
 -- The tokens of a visitor stay valid, and stand for the scalars of their objects.
-use Rattle.std.proofs.Common.{◌≡◌, inl, inr, ℕ, zero, suc, ◌<◌, true, false, List, [], ◌∷◌, get_or, Option, None, Some, Result, Ok, IfSome, refl, ap, sym, subst, ◌∙◌, arith}
+use Rattle.std.proofs.Common.{◌≡◌, ◌⊎◌, inl, inr, ℕ, zero, suc, ◌<◌, true, false, List, [], ◌∷◌, get_or, Option, None, Some, Result, Ok, IfSome, refl, ap, sym, subst, ◌∙◌, arith}
 use Rattle.std.proofs.lemmas.Option.{IfSome_then}
 use Rattle.std.specs.List.{slice_get}
 use Rattle.std.specs.declared.ops.ControlFlow.TheVariants.{Continue}
@@ -19,7 +19,7 @@ use Rattle.plist_decode.specs.declared.step_fault.StepFault.{StepFault}
 use Rattle.plist_binread.specs.Handovers.{HandsItem, TakesIfAny}
 use Rattle.plist_binread.specs.Remaining.{entries_of}
 use Rattle.plist_binread.specs.Step.{YieldsCurrent, YieldsResult}
-use Rattle.plist_binread.specs.Tokens.{HasNoTokens, HoldsTokens, IsEventOf, IsTokenOf, KeepsCached, StoresToken, first_event}
+use Rattle.plist_binread.specs.Tokens.{HasNoTokens, HoldsTokens, IsEventOf, IsTokenOf, KeepsCached, first_event, stored_token}
 use Rattle.plist_binread.specs.Walking.{IsCachedIfSmall, IsKnownWalk, IsWalkOf, open_in, remaining_entering, remaining_in, walk_objects}
 use Rattle.plist_binread.specs.declared.references.Reference.{Reference}
 use Rattle.plist_binread.specs.declared.tokens.Tokens.{Tokens}
@@ -89,7 +89,10 @@ module _ {V : Type 0} (step : V → PlainEvent → Flow → V → Type 0)
   -- the token of the event that the visitor took last was stored
   pub tokens_stored : (tokens now : Tokens) (number token : ℕ) (event : PlainEvent)
       (of_object : ℕ → PlainEvent → Type 0) (visitor : V)
-      → HoldsTokens step names tokens of_object visitor → StoresToken tokens number token now
+      → HoldsTokens step names tokens of_object visitor
+      → ((other : ℕ) → 0 < stored_token now other
+      → (stored_token now other ≡ stored_token tokens other)
+      ⊎ ((other ≡ number) × (stored_token now other ≡ token)))
       → (0 < token → names visitor token event) → of_object number event
       → HoldsTokens step names now of_object visitor
   tokens_stored tokens now number token event of_object visitor holds stores named is other some =

@@ -12,35 +12,37 @@ use Rattle.plist_binread.specs.declared.visitors.Relay.{Relay}
 use Rattle.plist_binread.specs.declared.visitors.Within.{Within}
 
 -- the walk yielded an event that exceeds a limit, with this error
-pub record Reached {V : Type 0} (old new : Within V)
+pub record Reached {V : Type 0} (limits : LimitCounter) (before after : V)
     (P : Option (Result Flow StepFault) → PlainEvent → Type 0) (error : Error) : Type 0 where
   pub flow : Flow
   pub event : PlainEvent
   pub is : P (Some (Ok flow)) event
-  pub refused : Refuses old.limiter.now event (fault_of error)
-  pub untaken : new.visitor.now ≡ old.visitor.now
+  pub refused : Refuses limits event (fault_of error)
+  pub untaken : after ≡ before
 
 pub reached_limit : {V : Type 0} (step : V → PlainEvent → Flow → V → Type 0) (old new : Within V)
     (item : Option (Result Flow StepFault)) (P : Option (Result Flow StepFault) → PlainEvent → Type 0)
-    (error : Error)
+    (error : Error) (limits : LimitCounter) (before : V)
+    → old.limiter.now ≡ limits → old.visitor.now ≡ before
     → old.reached.now ≡ Ok tt → new.reached.now ≡ Err error
-    → HandsItem (TakesWithin step) old new item (P item) → Reached old new P error
-reached_limit step old new None P error before after h =
+    → HandsItem (TakesWithin step) old new item (P item) → Reached limits before new.visitor.now P error
+reached_limit step old new None P error limits before at inner unreached after h =
     let same = h.taken in absurd (cc)
-reached_limit step old new (Some (Err refused)) P error before after h =
+reached_limit step old new (Some (Err refused)) P error limits before at inner unreached after h =
     let same = h.taken in absurd (cc)
-reached_limit step old new (Some (Ok flow)) P error before after h = elim h.taken.takes [
-  | inl admitted ↦ let same = admitted.reached in absurd (cc)
-  | inr limit ↦
-      let same : limit.error ≡ error = let is = limit.reached in cc in
-      record {
-        flow = flow;
-        event = h.event;
-        is = h.is;
-        refused = rw same at limit.refused;
-        untaken = limit.untaken;
-      }
-]
+reached_limit step old new (Some (Ok flow)) P error limits before at inner unreached after h =
+    elim h.taken.takes [
+      | inl admitted ↦ let same = admitted.reached in absurd (cc)
+      | inr limit ↦
+          let same : limit.error ≡ error = let is = limit.reached in cc in
+          record {
+            flow = flow;
+            event = h.event;
+            is = h.is;
+            refused = subst (λ l. Refuses l h.event (fault_of error)) at (rw same at limit.refused);
+            untaken = limit.untaken ∙ inner;
+          }
+    ]
 
 -- a reader's limiter rejects the event that the visitor's copy of it rejected
 pub refuses_any : (limiter : Option LimitCounter) (limits now : LimitCounter) (event : PlainEvent)

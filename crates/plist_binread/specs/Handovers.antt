@@ -4,9 +4,11 @@ use Rattle.std.specs.declared.ops.ControlFlow.TheVariants.{Break}
 use Rattle.plist_base.specs.declared.error.Error.{Error}
 use Rattle.plist_base.specs.Events.{PlainEvent, event_of, IsTextOrDataEvent}
 use Rattle.plist_base.specs.Faults.{fault_of}
+use Rattle.plist_base.specs.Object.{Object}
 use Rattle.plist_base.specs.Limits.{Admits, Refuses}
 use Rattle.plist_base.specs.Visits.{Flow}
 use Rattle.plist_decode.specs.declared.step_fault.StepFault.{StepFault}
+use Rattle.plist_binread.specs.ObjectEvents.{SetsUnread}
 use Rattle.plist_binread.specs.declared.visitors.FirstEvent.{FirstEvent}
 use Rattle.plist_binread.specs.declared.visitors.Relay.{Relay}
 use Rattle.plist_binread.specs.declared.visitors.Within.{Within}
@@ -30,6 +32,10 @@ module _ {V : Type 0} (step : V → PlainEvent → Flow → V → Type 0) (old n
       pub taken : TakesIfAny item event
 
 module _ {V : Type 0} (step : V → PlainEvent → Flow → V → Type 0) where
+  -- the first event of the object was handed over, or the object is faulty
+  abbrev pub HandsUnread : (old : V) → Object → Result Flow StepFault → (new : V) → Type 0
+  HandsUnread old object answer new = HandsItem step old new (Some answer) (SetsUnread object answer)
+
   -- an event is passed on to the inner visitor
   pub record PassesOn (old : Relay V) (event : PlainEvent) (flow : Flow) (new : Relay V) : Type 0
     where

@@ -51,14 +51,11 @@ abbrev pub KeepsCached : (old new : Walk) → Type 0
 KeepsCached old new = (number : ℕ) → 0 < unmarked (slice_index old.tags.items number)
     → 0 < unmarked (slice_index new.tags.items number)
 
--- each token is one that was stored before, or the new one of this object
-abbrev pub StoresToken : (old : Tokens) → (number token : ℕ) → (new : Tokens) → Type 0
-StoresToken old number token new = (other : ℕ) → 0 < stored_token new other
-    → (stored_token new other ≡ stored_token old other)
-    ⊎ ((other ≡ number) × (stored_token new other ≡ token))
-
--- a token that names the event which the visitor took last was stored for this object, or none was
+-- each token was stored before, or was stored for this object now and names the event which the
+-- visitor took last
 abbrev pub StoresTokenOf : {V : Type 0} → (names_last : (token : ℕ) → V → Type 0) → (old : Tokens)
     → (number : ℕ) → V → (new : Tokens) → Type 0
-StoresTokenOf names_last old number visitor new =
-    (token : ℕ) × names_last token visitor × StoresToken old number token new
+StoresTokenOf names_last old number visitor new = (token : ℕ) × names_last token visitor
+    × ((other : ℕ) → 0 < stored_token new other
+    → (stored_token new other ≡ stored_token old other)
+    ⊎ ((other ≡ number) × (stored_token new other ≡ token)))

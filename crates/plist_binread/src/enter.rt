@@ -9,7 +9,6 @@ ghost use Rattle.plist_decode.specs.FaultOffsets.{ErrWithin};
 ghost use Rattle.plist_decode.specs.Decoded.{small_count};
 ghost use Rattle.plist_binread.specs.ObjectEvents.{FitsWalk};
 ghost use Rattle.plist_binread.specs.Handovers.{HandsItem};
-ghost use Rattle.plist_decode.specs.declared.decoded.Decoded.TheVariants.{Collection as OpenCollection};
 ghost use Rattle.plist_base.specs.Sources.{CountsIo};
 ghost use Rattle.plist_binread.specs.Tokens.{KeepsCached};
 ghost use Rattle.plist_decode.specs.StepFaults.{result_with};
@@ -19,7 +18,7 @@ use crate::references::Reference;
 use crate::walk::Walk;
 use plist_base::{EventVisitor, PackedScalar, Source};
 use plist_decode::counter::DecodeCounter;
-use plist_decode::decoded::{CollectionKind, Content, Decoded};
+use plist_decode::decoded::{Content, Decoded};
 use plist_decode::decoder::Decoder;
 use plist_decode::object::{buffered_front, decode_front, read_object};
 use plist_decode::packed::{cache, is_open, mark_open};
@@ -72,32 +71,6 @@ fn look_up(
     Ok(Known::Small(tag, content))
 }
 
-// Opens a collection of `count` items or pairs, whose references begin `start` bytes after its
-// offset. Returns `false` if an allocation fails.
-#[inline(always)]
-fn open(walk: &mut Walk, number: u64, kind: CollectionKind, start: u8, count: u64) -> bool
-    requires below { number < walk_objects walk.old }
-    requires new { slice_index walk.old.tags.items number ≡ 0 }
-    requires fits { FitsWalk (OpenCollection kind start count) }
-    // Result.
-    ensures yields { result ≡ true
-        → OpensObject number (OpenCollection kind start count) walk.old walk.new }
-    // State afterwards.
-    ensures size { walk_objects walk.new ≡ walk_objects walk.old }
-    ensures counted { cached_in walk.new ≡ cached_in walk.old }
-    ensures falls { result ≡ true → IsLighterEntered walk.old walk.new }
-    ensures unchanged { result ≡ false → IsUnchanged walk.old walk.new }
-    ensures still_cached { KeepsCached walk.old walk.new }
-{
-    match walk.frames.push(number, kind.children(count)) {
-        Ok(()) => {
-            mark_open(&mut walk.tags, number as usize, kind, start);
-            true
-        }
-        Err(_) => false,
-    }
-}
-
 // Caches a small scalar that was decoded, or opens a collection. If an allocation for the
 // collection fails, this function returns `false` and changes nothing.
 #[inline(always)]
@@ -123,7 +96,15 @@ fn cache_or_open(walk: &mut Walk, number: u64, decoded: Decoded) -> bool
             cache(&mut walk.tags, &mut walk.contents, number, tag, content);
             true
         }
-        Decoded::Collection(kind, start, count) => open(walk, number, kind, start, count),
+        Decoded::Collection(kind, start, count) => {
+            match walk.frames.push(number, kind.children(count)) {
+                Ok(()) => {
+                    mark_open(&mut walk.tags, number as usize, kind, start);
+                    true
+                }
+                Err(_) => false,
+            }
+        }
         Decoded::Date(_) => true,
         Decoded::Long(..) => true,
         Decoded::Faulty(..) => true,

@@ -5,12 +5,11 @@ ghost use Rattle.plist_base.specs.Object.{Scalar, date, text, wide_text};
 ghost use Rattle.plist_base.specs.Packing.{content_bytes};
 ghost use Rattle.plist_decode.specs.CountedContent.{AreUnits, content_means, unit_size};
 ghost use Rattle.plist_decode.specs.Decoded.{EndsIn64Bits, FailsInContent, FitsBefore};
-ghost use Rattle.plist_binread.specs.ObjectEvents.{SetsContentAt, SetsDecoded, SetsUnread, is_refused};
-ghost use Rattle.plist_decode.specs.Decoding.{start_event};
+ghost use Rattle.plist_binread.specs.ObjectEvents.{SetsContentAt, SetsDecoded, is_refused};
 ghost use Rattle.plist_decode.specs.FaultOffsets.{ErrWithin};
 ghost use Rattle.plist_base.specs.Trees.{String};
 ghost use Rattle.plist_base.specs.Utf16Strings.{string_of_utf16};
-ghost use Rattle.plist_binread.specs.Handovers.{HandsItem};
+ghost use Rattle.plist_binread.specs.Handovers.{HandsItem, HandsUnread};
 ghost use Rattle.plist_base.specs.Sources.{CountsIo};
 ghost use Rattle.plist_decode.specs.StepFaults.{result_with};
 
@@ -28,8 +27,7 @@ use std::ops::ControlFlow;
 // Hands over the date in these eight bytes, or returns a fault if the date is out of range.
 #[inline(never)]
 fn hand_date<V: EventVisitor>(content: u64, visitor: &mut V) -> Result<ControlFlow<()>, StepFault>
-    ensures { HandsItem V.step visitor.old visitor.new (Some result)
-        (SetsUnread (date (content_bytes content)) result) }
+    ensures { HandsUnread V.step visitor.old (date (content_bytes content)) result visitor.new }
 {
     match Date::from_plist_real(content.to_be_bytes()) {
         Ok(date) => Ok(visitor.date(date)),
@@ -41,8 +39,7 @@ fn hand_date<V: EventVisitor>(content: u64, visitor: &mut V) -> Result<ControlFl
 // inlined, since most strings are ASCII.
 #[inline(never)]
 fn hand_utf8<V: EventVisitor>(bytes: &[u8], visitor: &mut V) -> Result<ControlFlow<()>, StepFault>
-    ensures { HandsItem V.step visitor.old visitor.new (Some result)
-        (SetsUnread (text bytes.now) result) }
+    ensures { HandsUnread V.step visitor.old (text bytes.now) result visitor.new }
 {
     match str::from_utf8(bytes) {
         Ok(text) => Ok(visitor.string(CowStr::Borrowed(text))),
@@ -58,8 +55,7 @@ fn hand_utf8<V: EventVisitor>(bytes: &[u8], visitor: &mut V) -> Result<ControlFl
 // first.
 #[inline(always)]
 fn hand_text<V: EventVisitor>(bytes: &[u8], visitor: &mut V) -> Result<ControlFlow<()>, StepFault>
-    ensures { HandsItem V.step visitor.old visitor.new (Some result)
-        (SetsUnread (text bytes.now) result) }
+    ensures { HandsUnread V.step visitor.old (text bytes.now) result visitor.new }
 {
     if let Some(answer) = visitor.ascii_string(bytes) {
         return Ok(answer);
@@ -79,8 +75,7 @@ fn hand_in_utf8<V: EventVisitor>(
     visitor: &mut V,
 ) -> Result<ControlFlow<()>, StepFault>
     ensures { (bytes : List ℕ) → wide_text bytes ≡ Scalar (String (string_of_utf16 text.entry))
-        → HandsItem V.step visitor.old visitor.new (Some result)
-        (SetsUnread (wide_text bytes) result) }
+        → HandsUnread V.step visitor.old (wide_text bytes) result visitor.new }
 {
     let decoded = to_utf8(alloc, text)?;
     Ok(visitor.string(CowStr::Owned(decoded)))
@@ -94,8 +89,7 @@ fn hand_wide_text<V: EventVisitor>(
     visitor: &mut V,
 ) -> Result<ControlFlow<()>, StepFault>
     requires { AreUnits 2 bytes.now }
-    ensures { HandsItem V.step visitor.old visitor.new (Some result)
-        (SetsUnread (wide_text bytes.now) result) }
+    ensures { HandsUnread V.step visitor.old (wide_text bytes.now) result visitor.new }
 {
     let Some(text) = Utf16Str::new(bytes) else {
         return Err(StepFault::NotUtf16);
@@ -115,8 +109,7 @@ pub fn hand_bytes<V: EventVisitor>(
     visitor: &mut V,
 ) -> Result<ControlFlow<()>, StepFault>
     requires { AreUnits (unit_size kind) bytes.now }
-    ensures { HandsItem V.step visitor.old visitor.new (Some result)
-        (SetsUnread (content_means kind bytes.now) result) }
+    ensures { HandsUnread V.step visitor.old (content_means kind bytes.now) result visitor.new }
 {
     match kind {
         ContentKind::Data => Ok(visitor.data(CowSlice::Borrowed(bytes))),
@@ -131,8 +124,7 @@ fn hand_owned_text<V: EventVisitor>(
     bytes: Vec<u8>,
     visitor: &mut V,
 ) -> Result<ControlFlow<()>, StepFault>
-    ensures { HandsItem V.step visitor.old visitor.new (Some result)
-        (SetsUnread (text bytes.items) result) }
+    ensures { HandsUnread V.step visitor.old (text bytes.items) result visitor.new }
 {
     match String::from_utf8(bytes) {
         Ok(text) => Ok(visitor.string(CowStr::Owned(text))),
@@ -149,8 +141,7 @@ fn hand_owned<V: EventVisitor>(
     visitor: &mut V,
 ) -> Result<ControlFlow<()>, StepFault>
     requires { AreUnits (unit_size kind) bytes.items }
-    ensures { HandsItem V.step visitor.old visitor.new (Some result)
-        (SetsUnread (content_means kind bytes.items) result) }
+    ensures { HandsUnread V.step visitor.old (content_means kind bytes.items) result visitor.new }
 {
     match kind {
         ContentKind::Data => Ok(visitor.data(CowSlice::Owned(bytes))),
@@ -185,17 +176,6 @@ fn hand_far<S: Source, C: DecodeCounter, V: EventVisitor>(
 {
     let bytes = read_content(source, decoder, place, content)?;
     hand_owned(decoder.alloc, content.kind, bytes, visitor)
-}
-
-// Hands over the start of a collection of this many items or pairs.
-#[inline(always)]
-fn hand_start<V: EventVisitor>(kind: CollectionKind, count: u64, visitor: &mut V) -> ControlFlow<()>
-    ensures { V.step visitor.old (start_event kind count) result visitor.new }
-{
-    match kind {
-        CollectionKind::Array => visitor.start_array(Some(count)),
-        CollectionKind::Dictionary => visitor.start_dictionary(Some(count)),
-    }
 }
 
 /// Hands over the first event of the object at the given offset, or returns a fault. A long string
@@ -236,7 +216,12 @@ pub fn hand_decoded<S: Source, C: DecodeCounter, V: EventVisitor>(
             let content = Content { kind, start, count };
             hand_far(source, decoder, place, content, visitor)
         }
-        Decoded::Collection(kind, _, count) => Ok(hand_start(kind, count, visitor)),
+        Decoded::Collection(CollectionKind::Array, _, count) => Ok(visitor.start_array(Some(
+            count,
+        ))),
+        Decoded::Collection(CollectionKind::Dictionary, _, count) => {
+            Ok(visitor.start_dictionary(Some(count)))
+        }
         Decoded::Faulty(fault, marker) => {
             decoder.details.fail_at(place);
             decoder.details.marker = marker;

@@ -80,7 +80,7 @@ pub fn begin<S: Source, C: DecodeCounter, V: EventVisitor>(
         at: trailer,
         number: root,
     };
-    enter_object(source, decoder, walk, reference, &mut Relay::new(visitor))
+    enter_object(source, decoder, walk, reference, &mut Relay { visitor })
 }
 
 impl Tokens {

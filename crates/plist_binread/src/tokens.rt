@@ -31,7 +31,7 @@ pub struct Tokens {
 }
 
 impl Tokens {
-    ghost use Rattle.plist_binread.specs.Tokens.{HasNoTokens, HoldsTokens, IsEventOf, IsTokenOf, StoresToken, StoresTokenOf, stored_token};
+    ghost use Rattle.plist_binread.specs.Tokens.{HasNoTokens, HoldsTokens, IsEventOf, IsTokenOf, StoresTokenOf, stored_token};
     ghost use Rattle.plist_base.specs.VisitedItems.{NamesLast};
 
     /// Creates an empty list. It allocates no memory.
@@ -58,12 +58,18 @@ impl Tokens {
         self.list[number as usize]
     }
 
-    // Stores the token of an object, unless it is 0. If the allocation for the tokens fails, none is
-    // stored.
+    // Stores the token that the visitor gives for an object, unless it is 0, if the object's tag is
+    // still `before`, as it was before the object was entered. So the object isn't a collection, and
+    // it isn't a small scalar that was decoded now: a token serves a small scalar only if it comes a
+    // third time. If the allocation for the tokens fails, none is stored.
     #[inline(always)]
-    fn store(&mut self, walk: &Walk, number: u64, token: u32)
-        ensures { StoresToken self.old number token self.new }
+    fn remember<V: EventVisitor>(&mut self, walk: &Walk, number: u64, before: u8, visitor: &V)
+        ensures { StoresTokenOf (NamesLast V.step V.names) self.old number visitor.now self.new }
     {
+        if walk.tag_of(number) != before {
+            return;
+        }
+        let token = visitor.token();
         if token == 0 {
             return;
         }
@@ -72,18 +78,6 @@ impl Tokens {
         }
         if number < self.list.len() as u64 {
             self.list[number as usize] = token;
-        }
-    }
-
-    // Stores the token that the visitor gives for an object, if the object's tag is still `before`, as
-    // it was before the object was entered. So the object isn't a collection, and it isn't a small
-    // scalar that was decoded now: a token serves a small scalar only if it comes a third time.
-    #[inline(always)]
-    fn remember<V: EventVisitor>(&mut self, walk: &Walk, number: u64, before: u8, visitor: &V)
-        ensures { StoresTokenOf (NamesLast V.step V.names) self.old number visitor.now self.new }
-    {
-        if walk.tag_of(number) == before {
-            self.store(walk, number, visitor.token());
         }
     }
 

@@ -1,7 +1,6 @@
 //! Defines the visitors that a reader puts between itself and another visitor, or uses for one
 //! event.
 
-ghost use Rattle.std.specs.Prelude.{◌≡◌};
 ghost use Rattle.plist_base.specs.Events.{ScalarEvent};
 ghost use Rattle.plist_base.specs.Trees.{Data as DataScalar, String as StringScalar};
 
@@ -19,17 +18,7 @@ use std::ops::ControlFlow;
 /// the loop over the events only if no other code enters objects with the same type of visitor.
 #[derive(Drop)]
 pub struct Relay<'v, V> {
-    visitor: &'v mut V,
-}
-
-impl<'v, V: EventVisitor> Relay<'v, V> {
-    /// Creates a visitor that passes an event on to `visitor`.
-    pub fn new(visitor: &'v mut V) -> Relay<'v, V>
-        ensures visitor { result.visitor.ghost_name ≡ visitor.entry.ghost_name }
-        ensures unvisited { result.visitor.now ≡ visitor.old }
-    {
-        Relay { visitor }
-    }
+    pub visitor: &'v mut V,
 }
 
 impl<'v, V: EventVisitor> EventVisitor for Relay<'v, V> {
@@ -51,33 +40,10 @@ impl<'v, V: EventVisitor> EventVisitor for Relay<'v, V> {
 /// After the first event that isn't admitted, the visitor stops the walk.
 #[derive(Drop)]
 pub struct Within<'v, V> {
-    limiter: &'v mut LimitCounter,
-    // Receives the error of an event that isn't admitted.
-    reached: &'v mut Result<(), Error>,
-    visitor: &'v mut V,
-}
-
-impl<'v, V: EventVisitor> Within<'v, V> {
-    /// Creates a visitor that passes events on to `visitor`. If an event isn't admitted, its error
-    /// is stored in `reached`.
-    pub fn new(
-        limiter: &'v mut LimitCounter,
-        reached: &'v mut Result<(), Error>,
-        visitor: &'v mut V,
-    ) -> Within<'v, V>
-        ensures limiter { result.limiter.ghost_name ≡ limiter.entry.ghost_name }
-        ensures slot { result.reached.ghost_name ≡ reached.entry.ghost_name }
-        ensures visitor { result.visitor.ghost_name ≡ visitor.entry.ghost_name }
-        ensures limits { result.limiter.now ≡ limiter.old }
-        ensures unreached { result.reached.now ≡ reached.old }
-        ensures unvisited { result.visitor.now ≡ visitor.old }
-    {
-        Within {
-            limiter,
-            reached,
-            visitor,
-        }
-    }
+    pub limiter: &'v mut LimitCounter,
+    /// Receives the error of an event that isn't admitted.
+    pub reached: &'v mut Result<(), Error>,
+    pub visitor: &'v mut V,
 }
 
 impl<'v, V: EventVisitor> EventVisitor for Within<'v, V> {

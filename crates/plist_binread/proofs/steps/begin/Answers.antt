@@ -116,6 +116,6 @@ returns-clause-handed g c =
             (result_with c.enter_object.result c.enter_object.new.decoder.details) h.event c.enter_object.new.walk.tags.items
             c.read.ensures.unchanged refl (rw (← c.in_ok-head.ensures.answer) at c.read.ensures.value) h.is.1;
       };
-      taken = passed_on g.V.EventVisitor.step c.new.result c.enter_object.new.visitor _ _
-          c.enter_object.result h.event (search rules) (search rules) h.taken;
+      taken = passed_on g.V.EventVisitor.step _ c.enter_object.new.visitor _ _
+          c.enter_object.result h.event refl (search rules) h.taken;
     }

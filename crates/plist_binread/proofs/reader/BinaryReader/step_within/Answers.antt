@@ -14,13 +14,13 @@ use Rattle.plist_binread.proofs.reader.BinaryReader.step_within.Goals as goal
 use Rattle.plist_binread.proofs.reader.BinaryReader.step_within.Goals.{After-keep_error}
 
 -- the visitor received an event that exceeds a limit
-limit : (g : _) (c : After-keep_error g) → Reached c.new-within.result c.step-item.new.visitor
+limit : (g : _) (c : After-keep_error g) → Reached c.unwrap-limiter.result c.args.visitor.now c.step-item.new.visitor.visitor.now
     (λ item event. Walks c.args.self.now (item_with (item_kept item c.step-item.new.self.decoder.details) event) c.step-item.new.self)
     c.in-Err.error
 limit g c =
     reached_limit g.V.EventVisitor.step _ _ c.step-item.result
     (λ item event. Walks c.args.self.now (item_with (item_kept item c.step-item.new.self.decoder.details) event) c.step-item.new.self)
-    c.in-Err.error (search rules) (search rules) c.step-item.ensures.walks
+    c.in-Err.error _ _ refl refl refl (search rules) c.step-item.ensures.walks
 
 pub returns-in-Err : goal.returns-in-Err
 returns-in-Err g c =
@@ -32,7 +32,7 @@ returns-in-Err g c =
     let w = walks.gives in
     let r : RefusesAny old.limiter l.event (fault_of error) =
     refuses_any old.limiter c.unwrap-limiter.result _ l.event (fault_of error) (fault_of c.in-Err.error)
-    c.unwrap-limiter.ensures c.new-within.ensures.limits refl l.refused in
+    c.unwrap-limiter.ensures refl refl l.refused in
     rw c.keep_error.ensures.answer (
       record {
         gives = record {
@@ -62,6 +62,6 @@ returns-in-Err g c =
 pub returns-in-Ok : goal.returns-in-Ok
 returns-in-Ok g c =
     turns_within c.args.self.now c.step-item.new.self _ c.unwrap-limiter.result _ c.unwrap-limiter.ensures refl refl refl refl
-    refl g.V.EventVisitor.step c.new-within.result c.step-item.new.visitor _ _
-    c.step-item.new.self.decoder.details c.step-item.result c.new-within.ensures.limits (search rules)
+    refl g.V.EventVisitor.step _ c.step-item.new.visitor _ _
+    c.step-item.new.self.decoder.details c.step-item.result refl (search rules)
     (search rules) (search rules) (search rules) c.step-item.ensures.walks
