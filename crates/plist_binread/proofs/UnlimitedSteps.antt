@@ -9,7 +9,7 @@ use Rattle.plist_base.specs.Unfolding.{items_of_file, until_fault}
 use Rattle.plist_decode.specs.declared.counter.DecodeCounter.{Ghosts as CounterGhosts}
 use Rattle.plist_binread.specs.declared.reader.BinaryReader.{BinaryReader}
 use Rattle.plist_binread.specs.declared.reader.WalkState.{WalkState}
-use Rattle.plist_binread.specs.declared.reader.WalkState.TheVariants.{Fresh, Walking}
+use Rattle.plist_binread.specs.declared.reader.WalkState.TheVariants.{Ended, Fresh, Walking}
 use Rattle.plist_binread.specs.Walking.{IsBounded, IsCachedIfSmall, IsKnownWalk, cached_in, open_in, remaining_in, walk_objects, weight_in}
 use Rattle.plist_binread.specs.BinaryReader.{Walks}
 use Rattle.plist_binread.specs.Remaining.{CountsObjects, entries_of, is_fresh, is_walking, next_number, objects_in_head, state_after, walk_steps}
@@ -36,6 +36,12 @@ pub not_fresh : {E : Type 0} (item : Option (Result Flow E)) (after : WalkState)
 not_fresh None after is fresh = let no = ap is_fresh is in absurd (cc)
 not_fresh (Some (Ok value)) after is fresh = let no = ap is_fresh is in absurd (cc)
 not_fresh (Some (Err error)) after is fresh = let no = ap is_fresh is in absurd (cc)
+
+-- the state of a new reader
+pub new_state : (state : WalkState) → is_fresh state ≡ true → state ≡ Fresh
+new_state Fresh new = refl
+new_state Walking new = absurd (cc)
+new_state Ended new = absurd (cc)
 
 -- the reader is walking only after an event
 pub walks_on_ok : {E : Type 0} (answer : Result Flow E) (after : WalkState) (P : Type 0)

@@ -118,20 +118,6 @@ pub fn hand_bytes<V: EventVisitor>(
     }
 }
 
-// Hands over the string in these bytes, or returns a fault if they aren't UTF-8. The visitor may
-// keep the bytes.
-fn hand_owned_text<V: EventVisitor>(
-    bytes: Vec<u8>,
-    visitor: &mut V,
-) -> Result<ControlFlow<()>, StepFault>
-    ensures { HandsUnread V.step visitor.old (text bytes.items) result visitor.new }
-{
-    match String::from_utf8(bytes) {
-        Ok(text) => Ok(visitor.string(CowStr::Owned(text))),
-        Err(_) => Err(StepFault::NotUtf8),
-    }
-}
-
 // Hands over the string or data in these bytes, or returns a fault if a string is invalid. The
 // visitor may keep the bytes.
 fn hand_owned<V: EventVisitor>(
@@ -145,7 +131,10 @@ fn hand_owned<V: EventVisitor>(
 {
     match kind {
         ContentKind::Data => Ok(visitor.data(CowSlice::Owned(bytes))),
-        ContentKind::Text => hand_owned_text(bytes, visitor),
+        ContentKind::Text => match String::from_utf8(bytes) {
+            Ok(text) => Ok(visitor.string(CowStr::Owned(text))),
+            Err(_) => Err(StepFault::NotUtf8),
+        },
         ContentKind::WideText => hand_wide_text(alloc, &bytes, visitor),
     }
 }

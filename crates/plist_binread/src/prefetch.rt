@@ -102,16 +102,6 @@ impl Prefetcher {
         self.due = frame.next.saturating_add(STEP);
     }
 
-    // Returns whether sixteen children were entered since the last prefetch for this collection.
-    #[inline(always)]
-    fn is_due(&self, frame: Frame) -> bool {
-        if frame.object == self.last_entered {
-            frame.next >= self.due
-        } else {
-            frame.next % STEP == 0
-        }
-    }
-
     /// Prefetches the objects of the next items or values of a collection if objects seem to be
     /// scattered. This is done for every sixteenth child, if enough children are left.
     ///
@@ -132,7 +122,13 @@ impl Prefetcher {
             self.last_entered = frame.object;
             self.due = 0;
         }
-        if self.is_scattered && self.is_due(frame) {
+        // Sixteen children were entered since the last prefetch for this collection.
+        let is_due = if frame.object == self.last_entered {
+            frame.next >= self.due
+        } else {
+            frame.next % STEP == 0
+        };
+        if self.is_scattered && is_due {
             self.read_ahead(source, walk, frame, width);
         }
     }

@@ -101,18 +101,6 @@ impl Run {
         }
         self.find(place, width)
     }
-
-    /// Fills the run from the source's buffer, and returns the number in the `width` bytes at an
-    /// offset, or `None` if they aren't buffered.
-    #[inline(always)]
-    pub fn refill<S: Source>(&mut self, source: &S, place: u64, width: usize) -> Option<u64>
-        requires { width ≤ 8 }
-        ensures value { IsNumberAt result (S.known source.now) place width }
-        ensures run { IsRunOf (S.known source.now) self.new }
-    {
-        self.fill(source, place);
-        self.number_at(place, width)
-    }
 }
 
 /// A reference to an object.
@@ -244,19 +232,6 @@ impl ReferenceReader {
         }
     }
 
-    // Returns the number in the `width` bytes at an offset, or `None` if neither run contains them.
-    #[inline(always)]
-    fn number_at(&self, place: u64, width: usize) -> Option<u64>
-        requires { width ≤ 8 }
-        ensures { (known : Option (List ℕ)) → AreRunsOf known self.now
-            → IsNumberAt result known place width }
-    {
-        match self.near.number_at(place, width) {
-            Some(number) => Some(number),
-            None => self.values.number_at(place, width),
-        }
-    }
-
     // Fills a run from offset `at` on, and returns the reference there, or `None` if it isn't
     // buffered.
     #[inline(always)]
@@ -273,9 +248,11 @@ impl ReferenceReader {
         ensures runs { AreRunsOf (S.known source.now) self.new }
     {
         if is_value {
-            self.values.refill(source, at, width)
+            self.values.fill(source, at);
+            self.values.number_at(at, width)
         } else {
-            self.near.refill(source, at, width)
+            self.near.fill(source, at);
+            self.near.number_at(at, width)
         }
     }
 
@@ -310,7 +287,10 @@ impl ReferenceReader {
         let width = decoder.bounds.reference_width;
         let references = walk.references(frame);
         let at = references.reference_place(frame.next, width);
-        if let Some(number) = self.number_at(at, width) {
+        if let Some(number) = self.near.number_at(at, width) {
+            return Ok(number);
+        }
+        if let Some(number) = self.values.number_at(at, width) {
             return Ok(number);
         }
         if at >= decoder.bounds.trailer || decoder.bounds.trailer - at < width as u64 {

@@ -22,16 +22,7 @@ use plist_decode::counter::DecodeCounter;
 use plist_decode::decoder::Decoder;
 use plist_decode::head::{Bounds, Head};
 use plist_decode::step_fault::StepFault;
-use std::alloc::{AllocError, Global};
 use std::ops::ControlFlow;
-
-// Allocates a tag of zero for each object, since no object is cached or open at first.
-fn zero_tags(alloc: Global, count: usize) -> Result<Vec<u8>, AllocError>
-    ensures tags { IfOk result (λ tags. tags.items ≡ replicate count 0) }
-{
-    let tags = vec![in alloc; 0u8; count]?;
-    Ok(tags)
-}
 
 /// Reads the head of a file, and hands the file's first event to a visitor.
 #[cold]
@@ -63,7 +54,8 @@ pub fn begin<S: Source, C: DecodeCounter, V: EventVisitor>(
 {
     let alloc = decoder.alloc;
     let head = decoder.details.keep_error(Head::read(alloc, source))?;
-    let tags = zero_tags(alloc, head.places.len())?;
+    // No object is cached or open at first.
+    let tags = vec![in alloc; 0u8; head.places.len()]?;
     let Head {
         trailer,
         reference_width,

@@ -54,7 +54,7 @@ returns-in_err-tags-clause-objects g c =
 count : (g : _) (c : In_ok-tags g)
     → length c.in_ok-tags.tags.items ≡ length c.in_ok-head.head.places.items
 count g c =
-    ap length c.in_ok-tags.ensures.tags ∙ length-replicate c.len.result 0 ∙ c.len.ensures
+    ap length (c.in_ok-tags.ensures.items_if_clones_equal (λ _ is. is)) ∙ length-replicate c.len.result 0 ∙ c.len.ensures
     ∙ c.in_ok-head.head.places.ok.0
 
 pub returns-clause-objects : goal.returns-clause-objects
@@ -69,8 +69,8 @@ invariant_of-walk g c =
     let there = (goal.at.invariant_of-walk g c).In_ok-tags in
     record {
       same = sym (count g there);
-      path = IsOpen-none _ _ _ c.in_ok-tags.ensures.tags c.requires.empty.1;
-      packed = subst (λ tags. ArePacked tags c.in_ok-head.head.places.items) (sym c.in_ok-tags.ensures.tags)
+      path = IsOpen-none _ _ _ (c.in_ok-tags.ensures.items_if_clones_equal (λ _ is. is)) c.requires.empty.1;
+      packed = subst (λ tags. ArePacked tags c.in_ok-head.head.places.items) (sym (c.in_ok-tags.ensures.items_if_clones_equal (λ _ is. is)))
           (zeros_packed c.len.result _);
     }
 
@@ -80,14 +80,14 @@ enter_object-requires-clause-known g c =
     let within = rw (← c.in_ok-head.ensures.answer) at c.read.ensures.within in
     known_opens (g.S.Source.known c.args.source.now) (g.S.Source.known c.read.new.source)
     c.in_ok-head.head _ c.in_ok-tags.tags.items c.len.result c.args.walk.now.frames
-    c.read.ensures.unchanged value within refl refl c.in_ok-tags.ensures.tags
+    c.read.ensures.unchanged value within refl refl (c.in_ok-tags.ensures.items_if_clones_equal (λ _ is. is))
     (c.len.ensures ∙ c.in_ok-head.head.places.ok.0) c.requires.empty.1
 
 pub enter_object-requires-clause-counted : goal.enter_object-requires-clause-counted
 enter_object-requires-clause-counted g c = λ counts.
     c.requires.counted counts
     ∙ cached_count-empty c.args.walk.now.tags.items c.requires.empty.0
-    ∙ sym (cached_count-none c.len.result c.in_ok-tags.tags.items c.in_ok-tags.ensures.tags)
+    ∙ sym (cached_count-none c.len.result c.in_ok-tags.tags.items (c.in_ok-tags.ensures.items_if_clones_equal (λ _ is. is)))
 
 -- the bounds of the file
 abbrev bounds : (g : _) (c : In_ok-tags g) → Bounds

@@ -1,9 +1,10 @@
-use Rattle.std.proofs.Common.{◌∙◌}
+use Rattle.std.proofs.Common.{refl}
+use Rattle.plist_binread.specs.BinaryReader.{file_items}
+use Rattle.plist_binread.proofs.UnlimitedSteps.{new_state}
 use Rattle.plist_binread.proofs.reader.BinaryReader+R.with_limits.Goals as goal
 
 pub returns-clause-items : goal.returns-clause-items
+unfolding file_items
 returns-clause-items g c =
-    rw (← c.new.ensures.items) c.with_limiter.ensures.items
-
-pub returns-clause-limits : goal.returns-clause-limits
-returns-clause-limits g c = c.with_limiter.ensures.limits ∙ c.new.ensures.items
+    let fresh = new_state _ c.new-reader.ensures.new in
+    rw (fresh, c.new-reader.ensures.source, ← c.new.ensures.items) refl

@@ -38,7 +38,7 @@ returns-in-Fresh-clause-walks g c =
     record {
       event = h.event;
       is = first_walks c.args.self.now _ c.begin.ensures.unchanged c.begin.ensures.counted
-          refl c.begin.result h.event c.in-Fresh.is c.state_after-self.ensures h.is
+          refl c.begin.result h.event c.in-Fresh.is c.end_after.ensures h.is
           c.begin.ensures.fault c.begin.ensures.bounded c.begin.ensures.objects c.begin.ensures.known
           c.begin.ensures.falls c.begin.ensures.failures;
       taken = h.taken;
@@ -51,7 +51,7 @@ returns-in-Walking-clause-walks g c =
       event = h.event;
       is = item_walks c.args.self.now _ c.advance-item.ensures.kept.unchanged
           c.advance-item.ensures.kept.counted refl c.advance-item.result h.event c.in-Walking.is
-          c.end_after.ensures (rw c.advance-item.ensures.kept.bounds h.is.first)
+          c.end_after-in-Walking.ensures (rw c.advance-item.ensures.kept.bounds h.is.first)
           c.advance-item.ensures.fault c.advance-item.ensures.kept.size c.args.self.now.bounded
           (rw c.advance-item.ensures.kept.bounds c.advance-item.ensures.kept.known_walk)
           h.is.cached c.advance-item.ensures.falls c.advance-item.ensures.failures;
@@ -60,17 +60,17 @@ returns-in-Walking-clause-walks g c =
 
 pub invariant_of-self : goal.invariant_of-self
 invariant_of-self g c = record {
-  fresh = λ fresh. absurd (not_fresh (Some c.begin.result) _ c.state_after-self.ensures fresh);
+  fresh = λ fresh. absurd (not_fresh (Some c.begin.result) _ c.end_after.ensures fresh);
   counted = c.begin.ensures.counted;
   bounded = rw c.begin.ensures.unchanged c.begin.ensures.bounded;
   known = λ walking. rw c.begin.ensures.unchanged
-      (walks_on_ok c.begin.result _ _ c.state_after-self.ensures c.begin.ensures.known walking);
+      (walks_on_ok c.begin.result _ _ c.end_after.ensures c.begin.ensures.known walking);
   refers = rw c.begin.ensures.unchanged c.args.self.now.refers;
 }
 
 pub invariant_of-self-in-Walking : goal.invariant_of-self-in-Walking
 invariant_of-self-in-Walking g c = record {
-  fresh = λ fresh. absurd (not_fresh c.advance-item.result _ c.end_after.ensures
+  fresh = λ fresh. absurd (not_fresh c.advance-item.result _ c.end_after-in-Walking.ensures
       fresh);
   counted = c.advance-item.ensures.kept.counted;
   bounded = rw (c.advance-item.ensures.kept.unchanged, c.advance-item.ensures.kept.size, IsBounded)

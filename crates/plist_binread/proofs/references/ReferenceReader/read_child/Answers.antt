@@ -7,7 +7,13 @@ pub returns-in-Some-clause-child : goal.returns-in-Some-clause-child
 returns-in-Some-clause-child g c =
     known_slot _ c.args.decoder.now.bounds _ c.args.frame.next _ (Ok _) c.requires.references
     (rw c.references-references.ensures at c.reference_place-at.ensures)
-    (c.in-Some.ensures _ c.requires.runs) tt
+    (c.in-Some.ensures _ c.requires.runs.0) tt
+
+pub returns-in-Some-number_at-clause-child : goal.returns-in-Some-number_at-clause-child
+returns-in-Some-number_at-clause-child g c =
+    known_slot _ c.args.decoder.now.bounds _ c.args.frame.next _ (Ok _) c.requires.references
+    (rw c.references-references.ensures at c.reference_place-at.ensures)
+    (c.in-Some-number_at.ensures _ c.requires.runs.1) tt
 
 pub returns-in-Some-refill-clause-child : goal.returns-in-Some-refill-clause-child
 returns-in-Some-refill-clause-child g c =
