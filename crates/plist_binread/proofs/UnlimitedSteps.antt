@@ -13,7 +13,7 @@ use Rattle.plist_binread.specs.declared.reader.WalkState.TheVariants.{Ended, Fre
 use Rattle.plist_binread.specs.Walking.{IsBounded, IsCachedIfSmall, IsKnownWalk, cached_in, open_in, remaining_in, walk_objects, weight_in}
 use Rattle.plist_binread.specs.BinaryReader.{Walks}
 use Rattle.plist_binread.specs.Remaining.{CountsObjects, entries_of, is_fresh, is_walking, next_number, objects_in_head, state_after, walk_steps}
-use Rattle.plist_decode.specs.FaultOffsets.{ErrWithin, ItemWithin}
+use Rattle.plist_decode.specs.FaultOffsets.{ErrWithin, ItemGivenWithin}
 use Rattle.plist_binread.specs.Step.{LightensNext, YieldsNext, YieldsRoot}
 use Rattle.plist_base.specs.Events.{PlainEvent}
 use Rattle.plist_base.specs.Visits.{Flow, item_with}
@@ -123,7 +123,7 @@ module _ {R C : Type 0} {g : Ghosts R} {h : CounterGhosts C} (old new : BinaryRe
       → new.state ≡ state_after noted
       → IfSome (g.known old.source) (λ bytes. YieldsNext (remaining_in bytes old.decoder.bounds old.walk)
       (item_kept noted new.decoder.details) event (remaining_in bytes new.decoder.bounds new.walk))
-      → ItemWithin 0 old.decoder.bounds.trailer (item_kept noted new.decoder.details)
+      → ItemGivenWithin 0 old.decoder.bounds.trailer false (item_kept noted new.decoder.details)
       → walk_objects new.walk ≡ walk_objects old.walk
       → IfSome (g.known old.source) (IsBounded old.walk)
       → IsKnownWalk (g.known old.source) new.decoder.bounds new.walk

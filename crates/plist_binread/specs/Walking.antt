@@ -6,7 +6,7 @@ use Rattle.plist_base.specs.Faults.{Fault}
 use Rattle.plist_base.specs.Container.{Head}
 use Rattle.plist_base.specs.Unfolding.{unfolding_of}
 use Rattle.plist_decode.specs.Packed.{is_small_event, unmarked}
-use Rattle.plist_decode.specs.declared.decoder.Decoder.{Decoder}
+use Rattle.plist_decode.specs.declared.object.Decoder.{Decoder}
 use Rattle.plist_decode.specs.declared.head.Bounds.{Bounds}
 use Rattle.plist_binread.specs.declared.frames.Frame.{Frame}
 use Rattle.plist_binread.specs.declared.walk.Walk.{Walk}

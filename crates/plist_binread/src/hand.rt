@@ -1,10 +1,10 @@
 //! Hands decoded objects to a visitor.
 
-ghost use Rattle.std.specs.Prelude.{◌≡◌, ℕ, List, Some, false, OnOk};
+ghost use Rattle.std.specs.Prelude.{◌≡◌, ◌+◌, ◌<◌, ◌^◌, ℕ, List, Some, false, OnOk};
 ghost use Rattle.plist_base.specs.Object.{Scalar, date, text, wide_text};
 ghost use Rattle.plist_base.specs.Packing.{content_bytes};
 ghost use Rattle.plist_decode.specs.CountedContent.{AreUnits, content_means, unit_size};
-ghost use Rattle.plist_decode.specs.Decoded.{EndsIn64Bits, FailsInContent, FitsBefore};
+ghost use Rattle.plist_decode.specs.Decoded.{FitsBefore, content_size};
 ghost use Rattle.plist_binread.specs.ObjectEvents.{SetsContentAt, SetsDecoded, is_refused};
 ghost use Rattle.plist_decode.specs.FaultOffsets.{ErrWithin};
 ghost use Rattle.plist_base.specs.Trees.{String};
@@ -16,8 +16,7 @@ ghost use Rattle.plist_decode.specs.StepFaults.{result_with};
 use plist_base::{Ascii, Date, EventVisitor, PackedScalar, Source, Utf16Str, all_pass};
 use plist_decode::counter::DecodeCounter;
 use plist_decode::decoded::{CollectionKind, Content, ContentKind, Decoded};
-use plist_decode::decoder::Decoder;
-use plist_decode::long_content::read_content;
+use plist_decode::object::{Decoder, read_content};
 use plist_decode::step_fault::StepFault;
 use plist_decode::utf16::to_utf8;
 use std::alloc::Global;
@@ -149,13 +148,14 @@ fn hand_far<S: Source, C: DecodeCounter, V: EventVisitor>(
     content: Content,
     visitor: &mut V,
 ) -> Result<ControlFlow<()>, StepFault>
-    requires { EndsIn64Bits place content }
+    requires { place + content.start + content_size content < 2 ^ 64 }
     // Result.
     ensures handed { HandsItem V.step visitor.old visitor.new (Some result) (λ event.
         SetsContentAt (S.known source.old) place content
         (result_with result decoder.new.details) event) }
     // Errors.
-    ensures fault { FailsInContent place content (result_with result decoder.new.details) }
+    ensures fault { ErrWithin place (place + content.start + content_size content)
+        (result_with result decoder.new.details) }
     // State afterwards.
     ensures bounds { decoder.new.bounds ≡ decoder.old.bounds }
     ensures counter { decoder.new.counter ≡ decoder.old.counter }

@@ -13,8 +13,8 @@ use crate::walk::Walk;
 use plist_base::Source;
 use plist_decode::counter::DecodeCounter;
 use plist_decode::decoded::CollectionKind;
-use plist_decode::decoder::Decoder;
 use plist_decode::numbers::{number_from, read_number};
+use plist_decode::object::Decoder;
 use plist_decode::step_fault::{FaultDetails, StepFault};
 
 // The number of bytes in a run that isn't empty.

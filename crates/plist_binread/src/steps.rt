@@ -1,8 +1,8 @@
 //! Takes the steps of a walk: reads the head and enters the root, or advances by one event.
 
-ghost use Rattle.std.specs.Prelude.{◌≡◌, ◌^◌, ◌<◌, Ok, Some, replicate, IfOk, IfSome, OnOk};
+ghost use Rattle.std.specs.Prelude.{◌≡◌, ◌^◌, ◌<◌, Ok, Some, false, IfSome, OnOk};
 ghost use Rattle.plist_binread.specs.Remaining.{CountsObjects, walk_steps};
-ghost use Rattle.plist_decode.specs.FaultOffsets.{ErrWithin, ItemWithin};
+ghost use Rattle.plist_decode.specs.FaultOffsets.{ErrWithin, ItemGivenWithin};
 ghost use Rattle.plist_binread.specs.Handovers.{HandsItem};
 ghost use Rattle.plist_base.specs.Sources.{CountsIo};
 ghost use Rattle.plist_decode.specs.StepFaults.{item_kept, result_with};
@@ -19,8 +19,8 @@ use crate::visitors::Relay;
 use crate::walk::Walk;
 use plist_base::{EventVisitor, Source};
 use plist_decode::counter::DecodeCounter;
-use plist_decode::decoder::Decoder;
 use plist_decode::head::{Bounds, Head};
+use plist_decode::object::Decoder;
 use plist_decode::step_fault::StepFault;
 use std::ops::ControlFlow;
 
@@ -98,7 +98,8 @@ impl Tokens {
             YieldsItem (S.known source.old) decoder.old.bounds walk.old
             (item_kept result decoder.new.details) event walk.new) }
         // Errors.
-        ensures fault { ItemWithin 0 decoder.old.bounds.trailer (item_kept result decoder.new.details) }
+        ensures fault { ItemGivenWithin 0 decoder.old.bounds.trailer false
+            (item_kept result decoder.new.details) }
         // State afterwards.
         ensures kept { KeepsWalk S.known C.counts C.count (source.old, decoder.old, walk.old)
             (source.new, decoder.new, walk.new) }

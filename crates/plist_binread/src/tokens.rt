@@ -14,7 +14,7 @@ use crate::references::Reference;
 use crate::walk::Walk;
 use plist_base::{EventVisitor, Source};
 use plist_decode::counter::DecodeCounter;
-use plist_decode::decoder::Decoder;
+use plist_decode::object::Decoder;
 use plist_decode::packed::is_open;
 use plist_decode::step_fault::StepFault;
 use std::alloc::Global;

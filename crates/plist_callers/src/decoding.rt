@@ -1,12 +1,11 @@
 //! A proved caller of the decoder: each small object is counted as it is decoded.
 
 ghost use Rattle.std.specs.Prelude.{◌≡◌, ◌+◌, true};
-ghost use Rattle.plist_decode.specs.Front.{IsFront};
+ghost use Rattle.plist_decode.specs.Reading.{IsFront};
 
 use plist_decode::counter::DecodeCounter;
 use plist_decode::decoded::Decoded;
-use plist_decode::decoder::Decoder;
-use plist_decode::object::decode_front;
+use plist_decode::object::{Decoder, decode_front};
 
 /// Decodes the object at an offset from its first bytes, and returns `true` if it is small. If so,
 /// and if the decoder's counter counts, it has counted the object.

@@ -11,8 +11,7 @@ use Rattle.plist_base.specs.Object.{Array, Dictionary, Faulty, Object, Scalar, d
 use Rattle.plist_decode.specs.CountedContent.{content_means, counted_with, unit_size}
 use Rattle.plist_decode.specs.Decoded.{DecodesAt, DecodesSeen, FitsBefore, IsDecodedAs, MeansDecoded, small_count}
 use Rattle.plist_decode.specs.Decoding.{IsCollection, is_small_object}
-use Rattle.plist_decode.specs.Front.{IsFrontAt}
-use Rattle.plist_decode.specs.Reading.{object_with}
+use Rattle.plist_decode.specs.Reading.{IsFrontAt, object_with}
 use Rattle.plist_decode.specs.declared.decoded.ContentKind.{ContentKind}
 use Rattle.plist_decode.specs.declared.decoded.Decoded.{Decoded}
 use Rattle.plist_decode.specs.declared.decoded.Decoded.TheVariants as decoded

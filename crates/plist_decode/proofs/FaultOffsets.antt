@@ -1,11 +1,11 @@
 -- The offsets of a reader's errors.
-use Rattle.std.proofs.Common.{◌≡◌, ℕ, ◌+◌, ◌≤◌, Option, None, Some, Result, Ok, Err, arith, ap}
+use Rattle.std.proofs.Common.{◌≡◌, false, ℕ, ◌+◌, ◌≤◌, Option, None, Some, Result, Ok, Err, arith, ap}
 use Rattle.std.specs.Prelude.{⊤, IsErrAnd}
 use Rattle.plist_base.specs.declared.error.Error.{Error}
 use Rattle.plist_base.specs.Faults.{FaultKind, Fault, MatchFault, UnexpectedEof, Io, error_kind_of, kind_of}
 use Rattle.plist_base.specs.Sources.{CountsIo, FailsReading, IsOffsetWithin, IsReadFault}
 use Rattle.plist_base.proofs.Refusals.{MatchFault-weaker}
-use Rattle.plist_decode.specs.FaultOffsets.{MatchGiven, FailsWithin, ErrWithin}
+use Rattle.plist_decode.specs.FaultOffsets.{ErrWithin, IsGivenWithin, MatchGiven}
 
 place_wider : (offset : Option ℕ) (s e s' e' : ℕ) → s' ≤ s → e ≤ e' → IsOffsetWithin s e offset
     → IsOffsetWithin s' e' offset
@@ -20,8 +20,8 @@ MatchGiven-read Io B C D f h = f h
 MatchGiven-read kind B C D f h = h
 
 -- an error in a range is in each range that contains it
-pub from_within : (fault : Fault) (p q s e : ℕ) → FailsWithin p q fault → s ≤ p → q ≤ e
-    → FailsWithin s e fault
+pub from_within : (fault : Fault) (p q s e : ℕ) → IsGivenWithin p q false fault → s ≤ p → q ≤ e
+    → IsGivenWithin s e false fault
 from_within fault p q s e h low high = record {
   placed = MatchGiven-read fault.kind _ _ _ (place_wider fault.offset p q s e low high) h.placed;
 }
@@ -35,7 +35,7 @@ MatchGiven-from_read kind B C D h a = absurd h
 
 -- the error of a read within the range is in the range
 pub from_reading : (fault : Fault) (p n s e : ℕ) → FailsReading p n fault → s ≤ p → p + n ≤ e
-    → FailsWithin s e fault
+    → IsGivenWithin s e false fault
 from_reading fault p n s e h low high = record {
   placed = MatchGiven-from_read fault.kind _ _ _ h.kind
       (place_wider fault.offset p (p + n) s e low high h.at);

@@ -2,8 +2,8 @@
 use Rattle.std.specs.Prelude.{◌≡◌, ℕ, ◌+◌, ◌-◌, ◌*◌, ◌<◌, ◌≤◌, List, ◌++◌, length, drop, None, Some}
 use Rattle.std.specs.Borrow.{Bor}
 use Rattle.plist_base.specs.Faults.{ObjectOffsetTooLarge}
-use Rattle.plist_base.specs.Object.{Object, Faulty, length_in, meaning_counted, text, wide_text}
-use Rattle.plist_decode.specs.Reading.{data_of_content}
+use Rattle.plist_base.specs.Object.{Object, Scalar, Faulty, length_in, meaning_counted, text, wide_text}
+use Rattle.plist_base.specs.Trees.{Data}
 use Rattle.plist_decode.specs.declared.decoded.ContentKind.{ContentKind}
 use Rattle.plist_decode.specs.declared.decoded.ContentKind.TheVariants as kind
 
@@ -17,7 +17,7 @@ unit_size kind.WideText = 2
 
 -- the object whose content consists of these bytes
 abbrev pub content_means : ContentKind → List ℕ → Object
-content_means kind.Data = data_of_content
+content_means kind.Data = λ content. Scalar (Data content)
 content_means kind.Text = text
 content_means kind.WideText = wide_text
 

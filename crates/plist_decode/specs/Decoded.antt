@@ -1,5 +1,5 @@
 -- What is decoded from the bytes at an object's front, whatever follows them.
-use Rattle.std.specs.Prelude.{◌≡◌, ℕ, ◌+◌, ◌*◌, ◌^◌, ◌<◌, ◌≤◌, List, ◌∷◌, ◌++◌, length, take, drop, false, Option, Result, IfSome, MatchResult, ⊤}
+use Rattle.std.specs.Prelude.{◌≡◌, ℕ, ◌+◌, ◌*◌, ◌<◌, ◌≤◌, List, ◌∷◌, ◌++◌, length, take, drop, false, Option, Result, IfSome, MatchResult, ⊤}
 use Rattle.plist_base.specs.declared.error.Error.{Error}
 use Rattle.plist_base.specs.Faults.{kind_of}
 use Rattle.plist_base.specs.Packing.{IsPacked, content_bytes, unpacked}
@@ -7,12 +7,11 @@ use Rattle.plist_base.specs.Object.{Object, Scalar, Faulty, date, meaning_of_fro
 use Rattle.plist_decode.specs.CountedContent.{content_means, unit_size}
 use Rattle.plist_decode.specs.Decoding.{AreReferencesAt, IsCollection, IsRefusedAs, child_count, children_in, is_small_object, start_event}
 use Rattle.plist_decode.specs.Reading.{bytes_at, object_at}
-use Rattle.plist_decode.specs.FaultOffsets.{ErrWithin}
 use Rattle.plist_decode.specs.StepFaults.{HasPlace, fault_kind}
 use Rattle.plist_decode.specs.declared.decoded.Content.{Content}
 use Rattle.plist_decode.specs.declared.decoded.Decoded.{Decoded}
 use Rattle.plist_decode.specs.declared.decoded.Decoded.TheVariants as decoded
-use Rattle.plist_decode.specs.declared.after_marker.AfterMarker.{AfterMarker}
+use Rattle.plist_decode.specs.declared.decoded.AfterMarker.{AfterMarker}
 use Rattle.plist_decode.specs.declared.head.Bounds.{Bounds}
 
 -- ---- what is decoded
@@ -102,14 +101,3 @@ FitsBefore trailer place (decoded.Long kind start count) =
 FitsBefore trailer place (decoded.Collection kind start count) =
     (child_count kind count ≤ trailer) × (start < 16)
 FitsBefore trailer place (decoded.Faulty fault marker) = HasPlace fault
-
--- ---- a content that is read
-
--- the offset of the content's end is less than 2^64
-abbrev pub EndsIn64Bits : (place : ℕ) → Content → Type 0
-EndsIn64Bits place content = place + content.start + content_size content < 2 ^ 64
-
--- if a read fails, the error's offset lies between the object's offset and the content's end
-abbrev pub FailsInContent : {A : Type 0} → (place : ℕ) → Content → Result A Error → Type 0
-FailsInContent place content answer =
-    ErrWithin place (place + content.start + content_size content) answer

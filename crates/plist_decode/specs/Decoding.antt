@@ -18,8 +18,7 @@ use Rattle.plist_decode.specs.declared.decoded.CollectionKind.TheVariants as col
 abbrev pub children_in : Object → List ℕ
 children_in (Array items) = items
 children_in (Dictionary pairs) = children_of pairs
-children_in (Scalar scalar) = []
-children_in (Faulty kind) = []
+children_in object = []
 
 -- the object is a collection with this start and this many children
 abbrev pub IsCollection : Object → PlainEvent → (count : ℕ) → Type 0
@@ -27,8 +26,7 @@ IsCollection (Array items) start count =
     (start ≡ StartArray (Some (length items))) × (length items ≡ count)
 IsCollection (Dictionary pairs) start count =
     (start ≡ StartDictionary (Some (length pairs))) × (length (children_of pairs) ≡ count)
-IsCollection (Scalar scalar) start count = ⊥
-IsCollection (Faulty kind) start count = ⊥
+IsCollection object start count = ⊥
 
 -- the start of a collection of this many items or pairs
 abbrev pub start_event : CollectionKind → (count : ℕ) → PlainEvent
@@ -43,9 +41,7 @@ child_count collection.Dictionary count = 2 * count
 -- the scalar of the object, or `None` if the object isn't a scalar
 abbrev pub scalar_in : Object → Option trees.Scalar
 scalar_in (Scalar scalar) = Some scalar
-scalar_in (Array items) = None
-scalar_in (Dictionary pairs) = None
-scalar_in (Faulty kind) = None
+scalar_in object = None
 
 -- the event of the object, or `None` if the object isn't a scalar
 abbrev pub scalar_event_in : Object → Option PlainEvent
@@ -54,9 +50,7 @@ scalar_event_in object = option_map ScalarEvent (scalar_in object)
 -- whether the object is a small scalar
 abbrev pub is_small_object : Object → Bool
 is_small_object (Scalar scalar) = is_small scalar
-is_small_object (Array items) = false
-is_small_object (Dictionary pairs) = false
-is_small_object (Faulty kind) = false
+is_small_object object = false
 
 -- ---- the references of a collection
 
@@ -81,12 +75,11 @@ AreReferencesAt width bytes children kind start = (index : ℕ) → index < leng
 abbrev pub Allocates : Object → Type 0
 Allocates (Scalar (String text)) = ⊤
 Allocates (Scalar (Data bytes)) = ⊤
-Allocates (Scalar scalar) = ⊥
 Allocates (Array items) = ⊤
 Allocates (Dictionary pairs) = ⊤
 Allocates (Faulty InvalidUtf8String) = ⊤
 Allocates (Faulty InvalidUtf16String) = ⊤
-Allocates (Faulty kind) = ⊥
+Allocates object = ⊥
 
 -- the error is that of the object at this offset, or that of a failed read or allocation
 abbrev pub IsRefusedAs : Object → (place : ℕ) → Error → Type 0

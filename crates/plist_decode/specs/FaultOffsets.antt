@@ -5,34 +5,30 @@ use Rattle.plist_base.specs.Faults.{FaultKind, Fault, LimitReached, UnexpectedEo
 use Rattle.plist_base.specs.Sources.{IsOffsetWithin}
 
 -- the fact that belongs to the kind of error, which is false if a reader never returns this kind
-abbrev pub MatchReader : FaultKind → (read memory other : Type 0) → Type 0
-MatchReader Io read memory other = read
-MatchReader UnexpectedEof read memory other = read
-MatchReader OutOfMemory read memory other = memory
-MatchReader InvalidMagic read memory other = other
-MatchReader InvalidTrailerObjectOffsetSize read memory other = other
-MatchReader InvalidTrailerObjectReferenceSize read memory other = other
-MatchReader ObjectOffsetTooLarge read memory other = other
-MatchReader ObjectReferenceTooLarge read memory other = other
-MatchReader RecursiveObject read memory other = other
-MatchReader NullObjectUnimplemented read memory other = other
-MatchReader FillObjectUnimplemented read memory other = other
-MatchReader (UnknownObjectType marker) read memory other = other
-MatchReader IntegerOutOfRange read memory other = other
-MatchReader OverflowOrNanDate read memory other = other
-MatchReader InvalidUtf8String read memory other = other
-MatchReader InvalidUtf16String read memory other = other
-MatchReader kind read memory other = ⊥
+abbrev pub MatchGiven : FaultKind → (read memory other limit : Type 0) → Type 0
+MatchGiven (LimitReached reached) read memory other limit = limit
+MatchGiven Io read memory other limit = read
+MatchGiven UnexpectedEof read memory other limit = read
+MatchGiven OutOfMemory read memory other limit = memory
+MatchGiven InvalidMagic read memory other limit = other
+MatchGiven InvalidTrailerObjectOffsetSize read memory other limit = other
+MatchGiven InvalidTrailerObjectReferenceSize read memory other limit = other
+MatchGiven ObjectOffsetTooLarge read memory other limit = other
+MatchGiven ObjectReferenceTooLarge read memory other limit = other
+MatchGiven RecursiveObject read memory other limit = other
+MatchGiven NullObjectUnimplemented read memory other limit = other
+MatchGiven FillObjectUnimplemented read memory other limit = other
+MatchGiven (UnknownObjectType marker) read memory other limit = other
+MatchGiven IntegerOutOfRange read memory other limit = other
+MatchGiven OverflowOrNanDate read memory other limit = other
+MatchGiven InvalidUtf8String read memory other limit = other
+MatchGiven InvalidUtf16String read memory other limit = other
+MatchGiven kind read memory other limit = ⊥
 
 -- the error has an offset
 abbrev pub HasOffset : Option ℕ → Type 0
 HasOffset None = ⊥
 HasOffset (Some place) = ⊤
-
--- like `MatchReader`, with a further fact for `LimitReached`
-abbrev pub MatchGiven : FaultKind → (read memory other limit : Type 0) → Type 0
-MatchGiven (LimitReached reached) read memory other limit = limit
-MatchGiven kind read memory other limit = MatchReader kind read memory other
 
 -- the offset of a failed read lies within the range; `OutOfMemory` and the errors of limits, which
 -- only a limited reader has, have no offset; all other errors have one
@@ -46,14 +42,6 @@ abbrev pub ItemGivenWithin : {A : Type 0} → (start end : ℕ) → (limited : B
 ItemGivenWithin start end limited item =
     MatchOption item ⊤ (λ answer. IfErr answer (λ e. IsGivenWithin start end limited (fault_of e)))
 
--- like `IsGivenWithin`, for an error of a reader without limits
-abbrev pub FailsWithin : (start end : ℕ) → Fault → Type 0
-FailsWithin start end fault = IsGivenWithin start end false fault
-
--- if the result is an error, it has an offset as `FailsWithin` says
+-- if the result is an error, it has an offset as `IsGivenWithin` says of a reader without limits
 abbrev pub ErrWithin : {A : Type 0} → (start end : ℕ) → Result A Error → Type 0
-ErrWithin start end answer = IfErr answer (λ e. FailsWithin start end (fault_of e))
-
--- if the item is an error, it has an offset as `FailsWithin` says
-abbrev pub ItemWithin : {A : Type 0} → (start end : ℕ) → Option (Result A Error) → Type 0
-ItemWithin start end item = ItemGivenWithin start end false item
+ErrWithin start end answer = IfErr answer (λ e. IsGivenWithin start end false (fault_of e))

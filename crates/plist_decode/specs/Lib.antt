@@ -4,7 +4,6 @@ pub mod Decoding
 pub mod FaultOffsets
 pub mod Decoded
 pub mod CountedContent
-pub mod Front
 pub mod Packed
 pub mod StepFaults
 pub mod Utf16Writing

@@ -1,27 +1,22 @@
 -- The tag and the content of an object, which store its offset or a small scalar, or where the
 -- references of an open collection lie.
 use Rattle.std.specs.Prelude.{◌≡◌, ℕ, slice_index, nat_eq, ◌+◌, ◌%◌, Bool, true, false, List, length, nat_le, if◌then◌else◌}
-use Rattle.plist_base.specs.Events.{PlainEvent, StartArray, StartDictionary, EndCollection, ScalarEvent}
-use Rattle.plist_base.specs.Trees.{Scalar, Boolean, Data, Date, Integer, Real, String, Uid}
+use Rattle.plist_base.specs.Events.{PlainEvent, ScalarEvent}
+use Rattle.plist_base.specs.Trees.{Scalar, Data, Date, String}
 use Rattle.plist_decode.specs.declared.decoded.CollectionKind.{CollectionKind}
 use Rattle.plist_decode.specs.declared.decoded.CollectionKind.TheVariants as collection
 
 -- whether a tag and eight bytes can store the scalar
 abbrev pub is_small : Scalar → Bool
-is_small (Boolean value) = true
-is_small (Integer value) = true
-is_small (Real bits) = true
-is_small (Uid uid) = true
 is_small (Data bytes) = nat_le (length bytes) 8
 is_small (String text) = nat_le (length text) 8
 is_small (Date bytes) = false
+is_small scalar = true
 
 -- whether the event is that of a small scalar
 abbrev pub is_small_event : PlainEvent → Bool
-is_small_event (StartArray length) = false
-is_small_event (StartDictionary length) = false
-is_small_event EndCollection = false
 is_small_event (ScalarEvent scalar) = is_small scalar
+is_small_event event = false
 
 -- whether the high bit of a tag is set, which marks an open object
 abbrev pub is_marked : ℕ → Bool

@@ -1,11 +1,10 @@
 -- What is read from known bytes: numbers, bytes and objects.
-use Rattle.std.specs.Prelude.{◌≡◌, ℕ, ◌+◌, ◌*◌, ◌≤◌, List, length, map, take, drop, Option, IfSome}
+use Rattle.std.specs.Prelude.{◌≡◌, ℕ, ◌+◌, ◌*◌, ◌<◌, ◌≤◌, List, ◌++◌, length, map, take, drop, Option, IfSome}
 use Rattle.std.specs.List.{range_with_len}
 use Rattle.plist_base.specs.Faults.{Fault, IsIoOrMemory}
-use Rattle.plist_base.specs.declared.real.RealBits.TheVariants.{Four, Eight}
-use Rattle.plist_base.specs.Trees.{Data, Real, Uid}
+use Rattle.plist_base.specs.Sources.{LiesAt}
 use Rattle.plist_base.specs.Container.{number_at, number_of, numbers_spelled}
-use Rattle.plist_base.specs.Object.{Object, Scalar, counted_layout, layout_of, object_after_marker, object_in}
+use Rattle.plist_base.specs.Object.{Object, counted_layout, layout_of, meaning_of_front, object_after_marker, object_in}
 use Rattle.plist_base.specs.declared.marker.CountedKind.{CountedKind}
 use Rattle.plist_base.specs.declared.marker.CountedKind.TheVariants as counted
 use Rattle.plist_decode.specs.declared.decoded.CollectionKind.{CollectionKind}
@@ -36,23 +35,30 @@ AreNumbersAt place width count bytes numbers =
     place + count * width ≤ length bytes
     → numbers.items ≡ numbers_spelled width (take (count * width) (drop place bytes))
 
--- ---- what the content of an object of a fixed size means
+-- ---- what the bytes at an object's front say, whatever follows them
 
--- the real that has these four bytes
-abbrev pub short_real : List ℕ → Object
-short_real content = Scalar (Real (Four content))
+-- the content of an object of a fixed size is this number, whatever follows `rest`
+abbrev pub IsNumber : (width : ℕ) (rest : List ℕ) → ℕ → Type 0
+IsNumber width rest number = (more : List ℕ) (meaning : ℕ → Object) →
+    meaning_of_front width (λ content. meaning (number_of content)) (rest ++ more) ≡ meaning number
 
--- the real that has these eight bytes
-abbrev pub long_real : List ℕ → Object
-long_real content = Scalar (Real (Eight content))
+-- the content of an object of a fixed size is this, whatever follows `rest`
+abbrev pub IsContent : (size : ℕ) (rest content : List ℕ) → Type 0
+IsContent size rest content = (more : List ℕ) (meaning : List ℕ → Object) →
+    meaning_of_front size meaning (rest ++ more) ≡ meaning content
 
--- the Uid whose number these bytes encode
-abbrev pub uid_of_content : List ℕ → Object
-uid_of_content content = Scalar (Uid (number_of content))
+-- these bytes lie between an object's offset and the trailer, and reach up to the trailer or are at
+-- least 26
+pub record IsFront (bounds : Bounds) (place : ℕ) (seen : List ℕ) : Type 0 where
+  pub starts : place < bounds.trailer
+  pub within : place + length seen ≤ bounds.trailer
+  pub shown : length seen < 26 → bounds.trailer ≤ place + length seen
 
--- the data that consists of these bytes
-abbrev pub data_of_content : List ℕ → Object
-data_of_content content = Scalar (Data content)
+-- these are an object's first bytes in the file, as many as `IsFront` says
+pub record IsFrontAt (known : Option (List ℕ)) (bounds : Bounds) (place : ℕ) (seen : List ℕ) : Type 0
+  where
+    pub front : IsFront bounds place seen
+    pub lies : IfSome known (λ bytes. LiesAt bytes place seen)
 
 -- ---- an object whose marker was read
 

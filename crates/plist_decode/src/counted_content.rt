@@ -3,6 +3,7 @@
 //! Each function reads the bytes that follow the marker.
 
 ghost use Rattle.std.specs.Prelude.{◌≡◌, ◌+◌, ◌-◌, ◌*◌, ◌%◌, ◌^◌, ◌<◌, ◌≤◌, false, length, take, IfNone, IfSome, MatchOption};
+ghost use Rattle.std.specs.Str.{is_utf8};
 ghost use Rattle.plist_base.specs.Object.{text, wide_text};
 ghost use Rattle.plist_base.specs.Packing.{content_bytes, padded};
 ghost use Rattle.plist_decode.specs.CountedContent.{EndsBefore, IsCount, IsLength, IsLengthCut, LiesAfter, RefusesCounted, counted_with};
@@ -12,23 +13,13 @@ ghost use Rattle.plist_decode.specs.Reading.{counted_kind, object_counted};
 ghost use Rattle.plist_decode.specs.declared.decoded.ContentKind.TheVariants.{Data as KindData, Text as KindText, WideText as KindWideText};
 ghost use Rattle.plist_decode.specs.declared.decoded.Decoded.TheVariants.{Long as LongContent};
 
-use crate::after_marker::AfterMarker;
-use crate::decoded::{CollectionKind, ContentKind, Decoded};
+use crate::decoded::{AfterMarker, CollectionKind, ContentKind, Decoded};
 use crate::numbers::number_from;
 use crate::step_fault::StepFault;
-use crate::utf8::is_short_utf8;
 use crate::utf16::write_utf8;
 use plist_base::marker::LowHalf;
-use plist_base::{PackedScalar, Utf16Str};
-
-// Returns how many bytes a number has. The low two bits of the byte before the number encode this.
-#[inline(always)]
-fn number_width(byte: u64) -> u64
-    ensures value { result ≡ 2 ^ (byte % 4) }
-    ensures small { result ≤ 8 }
-{
-    1 << (byte % 4)
-}
+use plist_base::{Ascii, ByteTest, PackedScalar, Utf16Str};
+use std::simd::prelude::*;
 
 // Returns the length of an object and the bytes that follow it, or `None` if the length is cut
 // off.
@@ -44,7 +35,8 @@ fn split_length(low: LowHalf, rest: &[u8]) -> Option<(u64, &[u8])>
         return Some((length, rest));
     }
     let (byte, following) = rest.split_first()?;
-    let width = number_width(u64::from(*byte)) as usize;
+    // The low two bits of the byte encode how many bytes the number has.
+    let width = 1usize << (*byte % 4);
     if following.len() < width {
         return None;
     }
@@ -121,6 +113,27 @@ fn short_content(bytes: &[u8], count: usize) -> u64
         Some(eight) if count > 0 => first_of_eight(eight, count as u64),
         _ => PackedScalar::of_data(&bytes[..count]).unwrap().content(),
     }
+}
+
+// Returns `true` if the bytes are UTF-8. They needn't be ASCII.
+#[inline(never)]
+fn is_utf8(bytes: &[u8]) -> bool
+    ensures { result ≡ is_utf8 bytes.now }
+{
+    str::from_utf8(bytes).is_ok()
+}
+
+// Returns `true` if bytes are UTF-8, of which there are at most eight. They are given again in
+// `all`, where zeros follow them, so that one test of eight bytes is enough for ASCII.
+#[inline(always)]
+fn is_short_utf8(bytes: &[u8], all: [u8; 8]) -> bool
+    requires { all ≡ padded bytes.now }
+    ensures { result ≡ is_utf8 bytes.now }
+{
+    if Ascii::eight(u8x8::from_array(all)) {
+        return true;
+    }
+    is_utf8(bytes)
 }
 
 // Decodes a UTF-8 string that consists of the first `count` bytes.

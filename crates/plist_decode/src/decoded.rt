@@ -1,7 +1,6 @@
 //! Defines what an object's first bytes decode to, and how an object can be faulty.
 
-ghost use Rattle.std.specs.Prelude.{◌≡◌, ◌<◌, ◌≤◌};
-ghost use Rattle.plist_decode.specs.CountedContent.{unit_size};
+ghost use Rattle.std.specs.Prelude.{◌≡◌, ◌<◌, ◌≤◌, length};
 
 use crate::step_fault::StepFault;
 use plist_base::PackedScalar;
@@ -18,6 +17,8 @@ pub enum ContentKind {
 }
 
 impl ContentKind {
+    ghost use Rattle.plist_decode.specs.CountedContent.{unit_size};
+
     /// Returns the size of an element of the content in bytes.
     pub fn unit_size(self) -> u64
         ensures value { result ≡ unit_size self }
@@ -28,6 +29,19 @@ impl ContentKind {
             ContentKind::WideText => 2,
         }
     }
+}
+
+/// The bytes that follow an object's marker, as far as they were read. They reach up to the
+/// trailer, or there are at least 25 of them, which is enough for any object except a long string
+/// or long data.
+#[derive(Clone, Copy)]
+pub struct AfterMarker<'a> {
+    /// The bytes that were read.
+    pub bytes: &'a [u8],
+    /// The number of bytes between the marker and the trailer.
+    pub to_trailer: u64,
+    ghost within: { length bytes.now ≤ to_trailer },
+    ghost shown: { length bytes.now < 25 → to_trailer ≤ length bytes.now },
 }
 
 /// Describes the content of a string or data: how it is encoded, where it begins, and how long it

@@ -4,13 +4,14 @@
 //! they contain all of it.
 
 ghost use Rattle.std.specs.Prelude.{◌^◌, ◌<◌, ◌≤◌, length, IfNone, IfSome};
-ghost use Rattle.plist_base.specs.Object.{date, signed_integer, unsigned_integer, wide_integer};
+ghost use Rattle.plist_base.specs.Container.{number_of};
+ghost use Rattle.plist_base.specs.Object.{Scalar, date, signed_integer, unsigned_integer, wide_integer};
+ghost use Rattle.plist_base.specs.Trees.{Real, Uid as UidScalar};
+ghost use Rattle.plist_base.specs.declared.real.RealBits.TheVariants.{Eight, Four};
 ghost use Rattle.plist_decode.specs.Decoded.{DecodesFixed};
-ghost use Rattle.plist_decode.specs.Front.{IsContent, IsNumber};
-ghost use Rattle.plist_decode.specs.Reading.{short_real, long_real, uid_of_content};
+ghost use Rattle.plist_decode.specs.Reading.{IsContent, IsNumber};
 
-use crate::after_marker::AfterMarker;
-use crate::decoded::Decoded;
+use crate::decoded::{AfterMarker, Decoded};
 use crate::numbers::number_from;
 use crate::step_fault::StepFault;
 use plist_base::marker::UidWidth;
@@ -85,7 +86,7 @@ pub fn decode_wide_integer(rest: AfterMarker<'_>) -> Decoded
 /// Decodes a Uid.
 #[inline(always)]
 pub fn decode_uid(rest: AfterMarker<'_>, width: UidWidth) -> Decoded
-    ensures { DecodesFixed width uid_of_content rest.entry result }
+    ensures { DecodesFixed width (λ content. Scalar (UidScalar (number_of content))) rest.entry result }
 {
     match front_number(rest.bytes, width.get()) {
         Some(number) => Decoded::small(PackedScalar::of_uid(Uid::new(number))),
@@ -95,7 +96,7 @@ pub fn decode_uid(rest: AfterMarker<'_>, width: UidWidth) -> Decoded
 
 /// Decodes a real of eight bytes.
 pub fn decode_real(rest: AfterMarker<'_>) -> Decoded
-    ensures { DecodesFixed 8 long_real rest.entry result }
+    ensures { DecodesFixed 8 (λ content. Scalar (Real (Eight content))) rest.entry result }
 {
     match front_content(rest.bytes) {
         Some(bytes) => Decoded::small(PackedScalar::of_real(RealBits::Eight(bytes))),
@@ -105,7 +106,7 @@ pub fn decode_real(rest: AfterMarker<'_>) -> Decoded
 
 /// Decodes a real of four bytes.
 pub fn decode_short_real(rest: AfterMarker<'_>) -> Decoded
-    ensures { DecodesFixed 4 short_real rest.entry result }
+    ensures { DecodesFixed 4 (λ content. Scalar (Real (Four content))) rest.entry result }
 {
     match front_content(rest.bytes) {
         Some(bytes) => Decoded::small(PackedScalar::of_real(RealBits::Four(bytes))),

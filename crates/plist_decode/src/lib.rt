@@ -6,19 +6,15 @@
 //! first fault.
 #![tactic(auto)]
 
-mod after_marker;
 mod counted_content;
 pub mod counter;
 pub mod decoded;
-pub mod decoder;
 mod fixed_content;
 pub mod format;
 pub mod head;
-pub mod long_content;
 pub mod numbers;
 pub mod object;
 pub mod packed;
 pub mod step_fault;
 mod trailer;
 pub mod utf16;
-mod utf8;

@@ -1,4 +1,5 @@
-//! Decodes an object from its first bytes, which are buffered or read.
+//! Decodes an object from its first bytes, which are buffered or read, and reads the content of a
+//! long one.
 //!
 //! The bytes reach up to the trailer, or there are at least 26 of them, which is enough for any
 //! object except a long string or long data.
@@ -6,27 +7,55 @@
 //! If an object has several faults, the first of the following is reported: the marker is invalid,
 //! the object doesn't end before the trailer, or the content is invalid.
 
-ghost use Rattle.std.specs.Prelude.{◌≡◌, ◌-◌, ◌<◌, ◌≤◌, if◌then◌else◌, IfErr, IfOk, IfSome, Some};
-ghost use Rattle.plist_decode.specs.Decoded.{CountsSmall, DecodesAfter, DecodesSeen, small_count, CountsSmallRead, DecodesAt, FitsBefore, RefusesObjectAt};
-ghost use Rattle.plist_decode.specs.Front.{IsFront, IsFrontAt};
-ghost use Rattle.plist_decode.specs.Reading.{object_with};
+ghost use Rattle.std.specs.Prelude.{◌≡◌, ◌+◌, ◌-◌, ◌^◌, ◌<◌, ◌≤◌, IfErr, IfOk, IfSome, OnOk, Some};
+ghost use Rattle.plist_decode.specs.Decoded.{CountsSmall, DecodesAfter, DecodesSeen, content_size, CountsSmallRead, DecodesAt, FitsBefore, RefusesObjectAt};
+ghost use Rattle.plist_decode.specs.Reading.{AreBytesAt, IsFront, IsFrontAt, IsIoOrMemoryAt, object_with};
+ghost use Rattle.plist_decode.specs.CountedContent.{AreUnits, unit_size};
+ghost use Rattle.plist_base.specs.Outcomes.{IfRead, IfRefused};
 ghost use Rattle.plist_decode.specs.FaultOffsets.{ErrWithin};
 ghost use Rattle.plist_base.specs.Sources.{CountsIo};
 ghost use Rattle.plist_decode.specs.StepFaults.{error_of, result_with};
 
-use crate::after_marker::AfterMarker;
 use crate::counted_content::{decode_collection, decode_data, decode_text, decode_wide_text};
 use crate::counter::DecodeCounter;
-use crate::decoded::{CollectionKind, Decoded};
-use crate::decoder::Decoder;
+use crate::decoded::{AfterMarker, CollectionKind, Content, Decoded};
 use crate::fixed_content::{
     decode_date, decode_real, decode_short_real, decode_signed, decode_uid, decode_unsigned,
     decode_wide_integer,
 };
 use crate::head::Bounds;
-use crate::step_fault::StepFault;
+use crate::numbers::read_bytes;
+use crate::step_fault::{FaultDetails, StepFault};
 use plist_base::marker::{CountedKind, Marker};
 use plist_base::{PackedScalar, Source, read_exact_at};
+use std::alloc::Global;
+
+/// Everything that is needed to decode the objects of a file, except for the source.
+#[derive(Drop)]
+pub struct Decoder<C: DecodeCounter> {
+    /// Counts the small objects that are decoded.
+    pub counter: C,
+    /// Where the objects of the file end, and how wide its references are.
+    pub bounds: Bounds,
+    /// The allocator for strings and data.
+    pub alloc: Global,
+    /// What the error of a step that failed contains besides its fault.
+    pub details: FaultDetails,
+}
+
+impl<C: DecodeCounter> Decoder<C> {
+    /// Creates a decoder for a file. Its head hasn't been read yet.
+    pub fn new(alloc: Global, counter: C) -> Self
+        ensures { result.counter ≡ counter }
+    {
+        Decoder {
+            counter,
+            bounds: Bounds::new(),
+            alloc,
+            details: FaultDetails::new(),
+        }
+    }
+}
 
 // Decodes an object from its marker and the bytes that follow the marker.
 #[inline(always)]
@@ -60,24 +89,12 @@ fn decode_after_marker(marker: u8, rest: AfterMarker<'_>, width: usize) -> Decod
     }
 }
 
-// Returns whether the object can be cached.
-#[inline(always)]
-fn is_small(decoded: Decoded) -> bool
-    ensures { (if result then 1 else 0) ≡ small_count decoded }
-{
-    match decoded {
-        Decoded::Small(_, _) => true,
-        Decoded::Date(_) | Decoded::Long(..) | Decoded::Collection(..) | Decoded::Faulty(..) =>
-            false,
-    }
-}
-
 // Counts the object if it is small.
 #[inline(always)]
 fn count_small<C: DecodeCounter>(decoded: Decoded, counter: &mut C)
     ensures { CountsSmall C.counts C.count counter.old counter.new decoded }
 {
-    if is_small(decoded) {
+    if let Decoded::Small(..) = decoded {
         counter.raise();
     }
 }
@@ -170,4 +187,45 @@ pub fn read_object<S: Source, C: DecodeCounter>(
         .details
         .keep_error(read_exact_at(source, place, seen))?;
     Ok(decode_front(decoder, place, seen))
+}
+
+/// Reads the content of the object at the given offset, which is a string or data that isn't small.
+/// The details then have the object's offset, with which a fault of the content is reported.
+///
+/// # Errors
+///
+/// `Kept` if the bytes can't be read. The error is `Io` if a read fails, `UnexpectedEof` if the
+/// source ends before the content does, or `OutOfMemory` if memory for the bytes can't be
+/// allocated. The first two have the offset of the read that failed or returned no byte.
+pub fn read_content<S: Source, C: DecodeCounter>(
+    source: &mut S,
+    decoder: &mut Decoder<C>,
+    place: u64,
+    content: Content,
+) -> Result<Vec<u8>, StepFault>
+    requires { place + content.start + content_size content < 2 ^ 64 }
+    // Result.
+    ensures bytes { IfRead result (S.known source.old)
+        (AreBytesAt (place + content.start) (content_size content)) }
+    ensures units { IfOk result (λ bytes. AreUnits (unit_size content.kind) bytes.items) }
+    // Errors.
+    ensures refused { IfRefused (result_with result decoder.new.details) (S.known source.old)
+        (IsIoOrMemoryAt (place + content.start) (content_size content)) }
+    ensures fault { ErrWithin place (place + content.start + content_size content)
+        (result_with result decoder.new.details) }
+    // State afterwards.
+    ensures place { OnOk result (decoder.new.details.place ≡ place) }
+    ensures bounds { decoder.new.bounds ≡ decoder.old.bounds }
+    ensures counter { decoder.new.counter ≡ decoder.old.counter }
+    ensures unchanged { S.known source.new ≡ S.known source.old }
+    ensures failures { CountsIo (Some (result_with result decoder.new.details))
+        (S.failures source.old) (S.failures source.new) }
+{
+    let start = place + u64::from(content.start);
+    let size = content.count * content.kind.unit_size();
+    let bytes = decoder
+        .details
+        .keep_error(read_bytes(decoder.alloc, source, start, size as usize))?;
+    decoder.details.place = place;
+    Ok(bytes)
 }

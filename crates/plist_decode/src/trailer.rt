@@ -43,20 +43,6 @@ pub fn has_magic<S: Source>(source: &mut S) -> Result<bool, Error>
     Ok(MAGIC.as_slice() == found.as_slice())
 }
 
-// Decodes the trailer from the last 32 bytes of a file.
-fn trailer_from(last: &[u8]) -> Trailer
-    requires { length last.now ≡ 32 }
-    ensures { trailer_seen result ≡ trailer_in last.now }
-{
-    Trailer {
-        offset_width: number_from(&last[6..7]),
-        reference_width: number_from(&last[7..8]),
-        count: number_from(&last[8..16]),
-        root: number_from(&last[16..24]),
-        table: number_from(&last[24..32]),
-    }
-}
-
 /// Reads the trailer at the given offset.
 pub fn read_trailer<S: Source>(source: &mut S, trailer: u64) -> Result<Trailer, Error>
     requires { trailer + 32 < 2 ^ 64 }
@@ -71,7 +57,13 @@ pub fn read_trailer<S: Source>(source: &mut S, trailer: u64) -> Result<Trailer, 
 {
     let mut last = [0; 32];
     read_exact_at(source, trailer, &mut last)?;
-    Ok(trailer_from(&last))
+    Ok(Trailer {
+        offset_width: number_from(&last[6..7]),
+        reference_width: number_from(&last[7..8]),
+        count: number_from(&last[8..16]),
+        root: number_from(&last[16..24]),
+        table: number_from(&last[24..32]),
+    })
 }
 
 fn is_width(width: u64) -> bool

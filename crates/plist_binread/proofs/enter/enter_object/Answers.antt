@@ -8,7 +8,7 @@ use Rattle.plist_decode.proofs.UnknownBytes.{IfSome-all}
 use Rattle.plist_binread.proofs.WalkInvariant.{known_full}
 use Rattle.plist_binread.proofs.WalkSteps.{steps_positive}
 use Rattle.plist_decode.specs.Decoded.{DecodesAt, DecodesSeen, FitsBefore}
-use Rattle.plist_decode.specs.Front.{IsFrontAt}
+use Rattle.plist_decode.specs.Reading.{IsFrontAt}
 use Rattle.plist_decode.specs.declared.decoded.Content.{Content}
 use Rattle.plist_decode.specs.declared.decoded.Decoded.{Decoded}
 use Rattle.plist_decode.specs.declared.head.Bounds.{Bounds}

@@ -1,5 +1,5 @@
 use Rattle.std.proofs.Common.{Some, ap, rules}
-use Rattle.plist_decode.specs.Front.{IsFrontAt}
+use Rattle.plist_decode.specs.Reading.{IsFrontAt}
 use Rattle.plist_decode.proofs.Decoding.{seen_decodes, seen_fits}
 use Rattle.plist_decode.proofs.Markers.{object_in-beyond}
 use Rattle.plist_decode.proofs.UnknownBytes.{IfSome-all}

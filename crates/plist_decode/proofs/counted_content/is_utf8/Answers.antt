@@ -4,7 +4,7 @@ use Rattle.std.specs.Result.{is_ok}
 use Rattle.std.specs.Str.{IsUtf8, is_utf8}
 use Rattle.std.proofs.lemmas.Str.{is_utf8-from_IsUtf8}
 use Rattle.plist_decode.proofs.Contents.{not_utf8}
-use Rattle.plist_decode.proofs.utf8.is_utf8.Goals as goal
+use Rattle.plist_decode.proofs.counted_content.is_utf8.Goals as goal
 
 -- the call succeeds if and only if the bytes are UTF-8
 told : {A E : Type 0} (bytes : List ℕ) (P : A → Type 0) (Q : E → Type 0) (answer : Result A E)

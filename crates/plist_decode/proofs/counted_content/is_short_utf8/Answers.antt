@@ -3,7 +3,7 @@ use Rattle.std.specs.Str.{IsAscii}
 use Rattle.std.proofs.lemmas.Str.{IsAscii-take, IsUtf8-from_ascii, is_utf8-from_IsUtf8}
 use Rattle.std.proofs.Math.Seq.{take-append_seam}
 use Rattle.plist_base.proofs.ByteBlocks.{ascii_from_each}
-use Rattle.plist_decode.proofs.utf8.is_short_utf8.Goals as goal
+use Rattle.plist_decode.proofs.counted_content.is_short_utf8.Goals as goal
 
 pub returns-then-eight : goal.returns-then-eight
 returns-then-eight c =
