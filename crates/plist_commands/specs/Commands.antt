@@ -9,8 +9,8 @@ use Rattle.plist_keyed.specs.declared.error.KeyedError.{KeyedError}
 use Rattle.plist_keyed.specs.Archives.{text_of_error}
 use Rattle.plist_commands.specs.declared.commands.Command.{Command}
 use Rattle.plist_commands.specs.declared.commands.Command.TheVariants as command
-use Rattle.plist_commands.specs.declared.failure.Failure.{Failure}
-use Rattle.plist_commands.specs.declared.failure.Failure.TheVariants as failure
+use Rattle.plist_commands.specs.declared.messages.Failure.{Failure}
+use Rattle.plist_commands.specs.declared.messages.Failure.TheVariants as failure
 use Rattle.plist_commands.specs.declared.messages.Message.{Message}
 use Rattle.plist_commands.specs.declared.messages.Message.TheVariants as message
 

@@ -1,18 +1,58 @@
-//! The commands that the arguments ask for, and how they are run.
+//! The arguments of the program, the commands that they ask for, and how these are run.
 
 ghost use Rattle.std.specs.Prelude.{◌≡◌, ℕ, ◌↔◌, List, Option, Bool, map, string_bytes, IfSome, IsNone};
+ghost use Rattle.plist_base.specs.Outcomes.{OnlyMemory};
 ghost use Rattle.plist_commands.specs.Commands.{CommandOutcome, outcome_of, PlainCommand, plain_command_of, words_for, IsNoCommand, MayEnd, RunEnds, Usage};
 
 use crate::convert::convert_file;
-use crate::failure::Failure;
-use crate::keyed::keyed_file;
-use crate::messages::{Message, Messages};
-use crate::open::open_source;
-use plist_base::Error;
+use crate::messages::{Failure, Message, Messages};
+use crate::print::keyed_file;
+use plist_base::{Error, ErrorKind, Seeking};
 use plist_print::print_events;
 use std::alloc::Global;
+use std::env::{Env, FillError};
 use std::io::Write;
 use std::rt::Files;
+use std::{env, fs, io};
+
+// The environment of a program without its first argument, which is the program's name.
+#[derive(Drop)]
+struct ProgramWords<'a, R: Env> {
+    rt: &'a R,
+}
+
+impl<'a, R: Env> Env for ProgramWords<'a, R> {
+    fn arg(&self, i: usize, buf: &mut [u8]) -> Result<usize, FillError> {
+        match i.checked_add(1) {
+            Some(next) => self.rt.arg(next, buf),
+            None => Err(FillError::NotPresent),
+        }
+    }
+
+    fn var(&self, name: &str, buf: &mut [u8]) -> Result<usize, FillError> {
+        self.rt.var(name, buf)
+    }
+
+    fn var_at(&self, i: usize, buf: &mut [u8]) -> Result<usize, FillError> {
+        self.rt.var_at(i, buf)
+    }
+}
+
+/// Returns the arguments after the program's name, or an empty list if one of them isn't UTF-8,
+/// because no command has such an argument.
+///
+/// # Errors
+///
+/// `OutOfMemory`, without an offset, if an allocation fails.
+pub fn program_arguments<R: Env>(rt: &R, alloc: Global) -> Result<Vec<String>, Error>
+    ensures { OnlyMemory result }
+{
+    match env::args(&(ProgramWords { rt }, alloc)) {
+        Ok(all) => Ok(all.collect(alloc)?),
+        Err(error) if error.kind() == io::ErrorKind::InvalidData => Ok(Vec::new(alloc)),
+        Err(_) => Err(ErrorKind::OutOfMemory.without_position()),
+    }
+}
 
 /// A command of the program.
 #[derive(Clone, Copy)]
@@ -83,6 +123,22 @@ impl<R: Files> Commands for R {
             Command::Convert(from, to) => Ok(convert_file(self, alloc, from, to)?),
             Command::Keyed(path, key) => keyed_file(self, alloc, path, key, out),
         }
+    }
+}
+
+/// Opens a file as a source.
+///
+/// # Errors
+///
+/// `Io`, without an offset, if the file can't be opened.
+pub(crate) fn open_source<R: Files>(
+    rt: &R,
+    alloc: Global,
+    path: &str,
+) -> Result<Seeking<R::File>, Error> {
+    match fs::open(rt, path) {
+        Ok(file) => Ok(Seeking::with_windows(alloc, file)),
+        Err(failure) => Err(ErrorKind::Io(failure).without_position()),
     }
 }
 

@@ -14,7 +14,7 @@ ghost use Rattle.plist_commands.specs.CollectorSteps.{IsEmpty, collected};
 ghost use Rattle.plist_commands.specs.declared.convert.FastPath.TheVariants.{Sent};
 
 use crate::collector::Collector;
-use crate::open::open_source;
+use crate::commands::open_source;
 use plist::{LazyFile, Value};
 use plist_base::{Error, EventSource, Source};
 use plist_binwrite::write_file;
@@ -132,14 +132,10 @@ fn stream_to<R: Files, S: Source>(
 fn convert_value<R: Files>(rt: &R, alloc: Global, from: &str, to: &str) -> Result<(), Error>
     ensures read { ConvertsValue R.File (answer_of result) }
 {
-    match Value::from_file(rt, alloc, from) {
-        Ok(value) => {
-            let stored = value.to_file_binary(rt, alloc, to);
-            value.destroy();
-            stored
-        }
-        Err(error) => Err(error),
-    }
+    let value = Value::from_file(rt, alloc, from)?;
+    let stored = value.to_file_binary(rt, alloc, to);
+    value.destroy();
+    stored
 }
 
 /// Writes the property list of a file to another one, or to the same file. The other file is

@@ -1,16 +1,50 @@
-//! The messages that the program writes to standard error.
+//! Why a command fails, and the messages that the program writes to standard error.
 
-ghost use Rattle.std.specs.Prelude.{◌≡◌, Bool, IfOk, OnOk, is_ok};
+ghost use Rattle.std.specs.Prelude.{◌≡◌, Bool, IfOk, OnOk, Some, is_ok};
 ghost use Rattle.std.specs.Io.KnownBytes.{Appends};
+ghost use Rattle.plist_base.specs.Faults.{fault_of};
 ghost use Rattle.plist_base.specs.Prefixes.{AppendsPrefix};
-ghost use Rattle.plist_commands.specs.Commands.{plain_failure_of, PlainMessage, message_text, plain_message_of, TakesMessage, Fault};
+ghost use Rattle.plist_commands.specs.Commands.{Fault, OfPlist, PlainMessage, TakesMessage, failure_text, message_text, plain_failure_of, plain_message_of};
 
-use crate::failure::Failure;
 use arrayvec::ArrayString;
 use plist_base::sink::send;
 use plist_base::{Error, ErrorKind};
+use plist_keyed::KeyedError;
+use std::fmt;
 use std::fmt::Write as _;
 use std::io::Write;
+
+/// Why a command fails.
+#[derive(Debug, Drop)]
+pub enum Failure {
+    /// A property list can't be read, written or printed.
+    Plist(Error),
+    /// The property list isn't an archive, or the tree can't be made.
+    Keyed(KeyedError),
+    /// The archive names no object by the key that the command was given.
+    NoSuchTop,
+}
+
+/// Formats the error.
+impl fmt::Display for Failure {
+    ghost output = { λ failure. Some (failure_text (plain_failure_of failure)) };
+
+    fn fmt<W: fmt::Write>(&self, f: &mut fmt::Formatter<W>) -> fmt::Result {
+        match self {
+            Failure::Plist(error) => write!(f, "{error}"),
+            Failure::Keyed(error) => write!(f, "{error}"),
+            Failure::NoSuchTop => f.write_str("NoSuchTop"),
+        }
+    }
+}
+
+impl From<Error> for Failure {
+    ghost from_gives = { λ error failure. plain_failure_of failure ≡ OfPlist (fault_of error) };
+
+    fn from(error: Error) -> Failure {
+        Failure::Plist(error)
+    }
+}
 
 /// A message of the program.
 #[derive(Clone, Copy)]

@@ -1,6 +1,6 @@
 use Rattle.std.proofs.Common.{refl}
 use Rattle.plist_keyed.specs.Archives.{names_of, objects_of}
-use Rattle.plist_commands.proofs.keyed.tree_at.Goals as goal
+use Rattle.plist_commands.proofs.print.tree_at.Goals as goal
 
 pub returns-in_default-clause-refused : goal.returns-in_default-clause-refused
 returns-in_default-clause-refused c = (
