@@ -26,8 +26,8 @@ pub enum Notation {
 /// data in it.
 pub const MAX_FIXED_LINE: usize = 64;
 
-/// An upper bound of the number of bytes in the line of a packed scalar: each of the eight bytes of a
-/// string may be printed as four.
+/// An upper bound of the number of bytes in the line of a packed scalar: each of the eight bytes of
+/// a string may be printed as four.
 pub const MAX_PACKED_LINE: usize = 96;
 
 /// Pushes the printed form of the bytes, which has at most four bytes for every one of them.

@@ -1,13 +1,12 @@
 //! Defines a visitor that prints every event on a line of its own.
 
-ghost use Rattle.std.specs.Prelude.{◌≡◌, ◌++◌, ◌+◌, ◌*◌, ◌≤◌, [], OnOk, codes, false, length, true};
+ghost use Rattle.std.specs.Prelude.{◌≡◌, ◌++◌, ◌+◌, ◌*◌, ◌≤◌, [], codes, false, length, true};
 ghost use Rattle.plist_base.specs.Events.{EndCollection, ScalarEvent};
 ghost use Rattle.plist_base.specs.FixedBuffers.{room, buffer_capacity};
 ghost use Rattle.plist_base.specs.PackedScalars.{scalar_of_packed};
 ghost use Rattle.plist_base.specs.Sinks.{Puts};
 ghost use Rattle.plist_base.specs.Trees.{Data, String};
 ghost use Rattle.plist_base.specs.Utf16Strings.{chars_left, string_of_utf16};
-ghost use Rattle.plist_base.specs.Outcomes.{OnlyDevice};
 ghost use Rattle.plist_print.specs.EscapedLines.{escaped_chars, in_notation, text_of_start};
 ghost use Rattle.plist_print.specs.PrintRuns.{PrintsRun};
 
@@ -121,8 +120,8 @@ impl<'p, W: Write> Printer<'p, W> {
     #[inline(always)]
     fn print_start<const N: usize>(&mut self, word: [u8; N], count: Option<u64>) -> ControlFlow<()>
         requires { N + 22 ≤ 64 }
-        ensures { PrintsBytes W.contents self.old (text_of_start word.entry count ++ codes "\n") result
-            self.new }
+        ensures { PrintsBytes W.contents self.old
+            (text_of_start word.entry count ++ codes "\n") result self.new }
     {
         let flow = self.make_room(MAX_FIXED_LINE);
         push_start(self.sink.buffer, word, count);
