@@ -5,11 +5,10 @@ use Rattle.std.proofs.lemmas.Bool.{lt-ltb}
 use Rattle.std.proofs.Math.Seq.{drop-cons}
 use Rattle.plist_base.specs.Events.{PlainEvent, EndCollection, Item}
 use Rattle.plist_binread.specs.declared.frames.Frame.{Frame}
-use Rattle.plist_binread.specs.Frames.{frame_of}
+use Rattle.plist_binread.specs.Remaining.{MarksOpenPath, MatchesFile, SomeRemain, children_at, entries_of, frame_of, next_number, path_of, place_at, remaining_items, walk_steps, walk_weight}
 use Rattle.plist_decode.specs.Packed.{KeepsOtherTags}
 use Rattle.plist_base.specs.Unfolding.{TableEntry, unfolding_of, until_fault}
 use Rattle.plist_decode.specs.declared.head.Bounds.{Bounds}
-use Rattle.plist_binread.specs.Remaining.{path_of, MarksOpenPath, MatchesFile, children_at, place_at, entries_of, remaining_items, SomeRemain, next_number, walk_steps, walk_weight}
 use Rattle.std.proofs.lemmas.List.{drop_all, get_or_default}
 use Rattle.plist_binread.proofs.OpenObjects.{first_below, first_open}
 use Rattle.plist_binread.proofs.WalkInvariant.{known_closed, known_with}

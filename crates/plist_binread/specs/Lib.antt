@@ -1,6 +1,5 @@
 pub mod References
 pub mod Remaining
-pub mod Frames
 pub mod Walking
 pub mod ObjectEvents
 pub mod Tokens

@@ -1,4 +1,5 @@
--- The items that remain in the middle of a walk. A list of frames has the innermost one first.
+-- How the open collections are stored, and the items that remain in the middle of a walk. A list of
+-- frames has the innermost one first, except in `with_innermost`.
 use Rattle.std.specs.Prelude.{◌≡◌, ◌⊎◌, ℕ, zero, suc, ◌+◌, ◌-◌, ◌*◌, ◌^◌, ◌<◌, ◌≤◌, Bool, true, false, if◌then◌else◌, List, [], ◌∷◌, ◌++◌, length, take, drop, slice_index, nat_eq, nat_lt, Result, Ok, Err, Option, None, Some, option_and_then, IsOkAnd, MatchBool, MatchResult, ⊤}
 use Rattle.std.specs.List.{list_any, flat_map, IsDistinct, AllByRecursion, slice_get}
 use Rattle.std.specs.Option.{option_map_or}
@@ -9,6 +10,8 @@ use Rattle.plist_base.specs.Packing.{IsPacked, unpacked}
 use Rattle.plist_base.specs.Trees as trees
 use Rattle.plist_base.specs.Trees.{Data, String}
 use Rattle.plist_binread.specs.declared.frames.Frame.{Frame}
+use Rattle.plist_binread.specs.declared.frames.NextChild.{NextChild}
+use Rattle.plist_binread.specs.declared.frames.NextChild.TheVariants as child
 use Rattle.plist_decode.specs.declared.head.Bounds.{Bounds}
 use Rattle.plist_base.specs.Container.{Head, head_of}
 use Rattle.plist_decode.specs.Packed.{is_marked, unmarked, open_kind, open_start}
@@ -17,6 +20,28 @@ use Rattle.plist_binread.specs.declared.reader.WalkState.TheVariants.{Fresh, Wal
 use Rattle.plist_base.specs.Unfolding.{TableEntry, table_of, unfolding_of}
 use Rattle.plist_decode.specs.Decoding.{AreReferencesAt, children_in, scalar_in}
 use Rattle.plist_decode.specs.Reading.{bytes_at}
+
+-- ---- the open collections
+
+-- the frame with these fields
+abbrev pub frame_of : (object next count : ℕ) → Frame
+frame_of object next count = record { object = object; next = next; count = count }
+
+-- the outer collections, followed by the innermost one if there is one
+abbrev pub with_innermost : (outer : List Frame) → Option Frame → List Frame
+with_innermost outer None = outer
+with_innermost outer (Some frame) = outer ++ frame ∷ []
+
+-- this is the next child of the innermost frame, which is the first in the list, and these are the
+-- frames afterwards
+abbrev pub NextOf : (old : List Frame) → NextChild → (new : List Frame) → Type 0
+NextOf old child.Nothing new = (old ≡ []) × (new ≡ [])
+NextOf old (child.End object) new =
+    (next : ℕ) × (count : ℕ) × (old ≡ frame_of object next count ∷ new) × (count ≤ next)
+NextOf old (child.Child frame) new =
+    (below : List Frame) × (old ≡ frame ∷ below)
+    × (new ≡ frame_of frame.object (frame.next + 1) frame.count ∷ below)
+    × (frame.next < frame.count)
 
 -- ---- the path
 

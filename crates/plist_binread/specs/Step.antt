@@ -21,6 +21,7 @@ use Rattle.plist_binread.specs.declared.enter.Known.TheVariants as looked
 use Rattle.plist_binread.specs.declared.frames.Frame.{Frame}
 use Rattle.plist_binread.specs.declared.frames.NextChild.{NextChild}
 use Rattle.plist_binread.specs.declared.frames.NextChild.TheVariants as child
+use Rattle.plist_binread.specs.declared.references.Reference.{Reference}
 use Rattle.plist_binread.specs.declared.references.References.{References}
 use Rattle.plist_binread.specs.declared.walk.Walk.{Walk}
 use Rattle.plist_binread.specs.ObjectEvents.{event_of_object, is_refused}
@@ -136,11 +137,6 @@ abbrev pub IsLighterEntered : (old new : Walk) → Type 0
 IsLighterEntered old new =
     walk_weight (walk_objects old) (open_in new) < weight_in old + walk_steps (fuel_in old)
 
--- the walk is unchanged
-abbrev pub IsUnchanged : (old new : Walk) → Type 0
-IsUnchanged old new = (new.tags.items ≡ old.tags.items)
-    × (new.contents.items ≡ old.contents.items) × (new.frames ≡ old.frames)
-
 -- ---- a whole step
 
 -- the error is the only item of the file, or that of a failed read or allocation
@@ -157,6 +153,16 @@ pub record YieldsRoot {A : Type 0} (known : Option (List ℕ)) (bounds : Bounds)
       (RefusesFirst bytes))
   pub cached : IfSome known (λ bytes.
       IsCachedIfSmall (λ _. event) (root_with (head_of bytes)) (Some answer) new.tags.items)
+
+-- over known bytes, the event is the first item that remained when the object of this reference was
+-- about to be entered, and the others remain, or the step failed; the object is cached if it is small
+pub record YieldsEntered {A : Type 0} (known : Option (List ℕ)) (bounds : Bounds)
+    (old : Reference × Walk) (answer : Result A Error) (event : PlainEvent) (new : Walk) : Type 0 where
+  pub first : IfSome known (λ bytes. YieldsResult
+      (remaining_entering bytes bounds old.1 old.0.at old.0.number) answer event
+      (remaining_in bytes bounds new))
+  pub cached : IfSome known (λ _. IsCachedIfSmall (λ _. event) (Some old.0.number) (Some answer)
+      new.tags.items)
 
 -- over known bytes, the item is the first that remained and the others remain, and the object that
 -- was entered is cached if it is small; if the innermost collection has no child left, the event is

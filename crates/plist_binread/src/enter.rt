@@ -1,10 +1,10 @@
 //! Enters an object: decodes it and hands its first event to a visitor.
 
-ghost use Rattle.std.specs.Prelude.{◌≡◌, ◌+◌, ◌<◌, slice_index, true, false, Some, IfOk, IfErr, OnOk, IfSome};
+ghost use Rattle.std.specs.Prelude.{◌≡◌, ◌+◌, ◌<◌, slice_index, true, false, Some, IfOk, IfErr, OnOk};
 ghost use Rattle.plist_base.specs.Faults.{IsNotIo, error_kind_of, kind_of};
 ghost use Rattle.plist_decode.specs.Packed.{is_marked, unmarked};
-ghost use Rattle.plist_binread.specs.Walking.{IsCachedIfSmall, IsKnownWalk, KeepsWalk, cached_in, remaining_entering, remaining_in, walk_objects};
-ghost use Rattle.plist_binread.specs.Step.{YieldsResult, IsFound, IsLighterEntered, IsUnchanged, IsCollectionStart, OpensObject, RefusesEntering};
+ghost use Rattle.plist_binread.specs.Walking.{IsKnownWalk, KeepsWalk, cached_in, walk_objects};
+ghost use Rattle.plist_binread.specs.Step.{YieldsEntered, IsFound, IsLighterEntered, IsCollectionStart, OpensObject, RefusesEntering};
 ghost use Rattle.plist_decode.specs.FaultOffsets.{ErrWithin};
 ghost use Rattle.plist_decode.specs.Decoded.{small_count};
 ghost use Rattle.plist_binread.specs.ObjectEvents.{FitsWalk};
@@ -86,7 +86,9 @@ fn cache_or_open(walk: &mut Walk, number: u64, decoded: Decoded) -> bool
     ensures cached { small_count decoded ≡ 1
         → 0 < unmarked (slice_index walk.new.tags.items number) }
     ensures falls { result ≡ true → IsLighterEntered walk.old walk.new }
-    ensures unchanged { result ≡ false → IsUnchanged walk.old walk.new }
+    ensures unchanged { result ≡ false → (walk.new.tags.items ≡ walk.old.tags.items)
+        × (walk.new.contents.items ≡ walk.old.contents.items)
+        × (walk.new.frames ≡ walk.old.frames) }
     ensures still_cached { KeepsCached walk.old walk.new }
 {
     match decoded {
@@ -124,13 +126,8 @@ pub fn enter_object<S: Source, C: DecodeCounter, V: EventVisitor>(
     requires counted { C.counts → C.count decoder.old.counter ≡ cached_in walk.old }
     // Result.
     ensures handed { HandsItem V.step visitor.old visitor.new (Some result) (λ event.
-        IfSome (S.known source.old) (λ bytes.
-        YieldsResult
-        (remaining_entering bytes decoder.old.bounds walk.old reference.at reference.number)
-        (result_with result decoder.new.details) event
-        (remaining_in bytes decoder.old.bounds walk.new))
-        × IfSome (S.known source.old) (λ _. IsCachedIfSmall (λ _. event) (Some reference.number)
-        (Some (result_with result decoder.new.details)) walk.new.tags.items)) }
+        YieldsEntered (S.known source.old) decoder.old.bounds (reference, walk.old)
+        (result_with result decoder.new.details) event walk.new) }
     // Errors.
     ensures fault { ErrWithin 0 decoder.old.bounds.trailer
         (result_with result decoder.new.details) }

@@ -1,7 +1,7 @@
 //! Stores the open collections compactly.
 
 ghost use Rattle.std.specs.Prelude.{◌≡◌, [], ◌∷◌, ◌++◌, None, reverse, OnOk, OnErr};
-ghost use Rattle.plist_binread.specs.Frames.{NextOf, frame_of, with_innermost};
+ghost use Rattle.plist_binread.specs.Remaining.{NextOf, frame_of, with_innermost};
 
 use plist_base::{Compact, CompactList};
 use std::alloc::{AllocError, Global};
@@ -31,7 +31,7 @@ pub struct NarrowFrame {
 
 /// A frame has a smaller form if its numbers fit into four bytes each.
 impl Compact for Frame {
-    ghost use Rattle.plist_binread.specs.Frames.{frame_of};
+    ghost use Rattle.plist_binread.specs.Remaining.{frame_of};
 
     type Narrow = NarrowFrame;
 
@@ -84,7 +84,7 @@ pub struct Frames {
 impl Model for Frames {
     ghost use Rattle.std.specs.Prelude.{◌≡◌, List, [], None};
     ghost use Rattle.plist_binread.specs.declared.frames.Frame.{Frame};
-    ghost use Rattle.plist_binread.specs.Frames.{with_innermost};
+    ghost use Rattle.plist_binread.specs.Remaining.{with_innermost};
 
     ghost Value = { List Frame };
 

@@ -1,13 +1,13 @@
 //! Stores the tokens by which a visitor takes the scalars of objects that come again.
 
-ghost use Rattle.std.specs.Prelude.{◌≡◌, ℕ, ◌<◌, Some, Ok, OnOk, IfSome};
+ghost use Rattle.std.specs.Prelude.{◌≡◌, ℕ, ◌<◌, Some, Ok, OnOk};
 ghost use Rattle.std.specs.declared.ops.ControlFlow.TheVariants.{Continue};
 ghost use Rattle.plist_base.specs.Sources.{CountsIo};
 ghost use Rattle.plist_decode.specs.FaultOffsets.{ErrWithin};
 ghost use Rattle.plist_decode.specs.StepFaults.{result_with};
 ghost use Rattle.plist_binread.specs.Handovers.{HandsItem};
-ghost use Rattle.plist_binread.specs.Step.{IsLighterEntered, YieldsResult};
-ghost use Rattle.plist_binread.specs.Walking.{IsCachedIfSmall, IsKnownWalk, KeepsWalk, cached_in, remaining_entering, remaining_in};
+ghost use Rattle.plist_binread.specs.Step.{IsLighterEntered, YieldsEntered};
+ghost use Rattle.plist_binread.specs.Walking.{IsKnownWalk, KeepsWalk, cached_in};
 
 use crate::enter::enter_object;
 use crate::references::Reference;
@@ -112,13 +112,8 @@ impl Tokens {
             (IsEventOf (S.known source.old) decoder.old.bounds walk.old) visitor.old }
         // Result.
         ensures handed { HandsItem V.step visitor.old visitor.new (Some result) (λ event.
-            IfSome (S.known source.old) (λ bytes.
-            YieldsResult
-            (remaining_entering bytes decoder.old.bounds walk.old reference.at reference.number)
-            (result_with result decoder.new.details) event
-            (remaining_in bytes decoder.old.bounds walk.new))
-            × IfSome (S.known source.old) (λ _. IsCachedIfSmall (λ _. event) (Some reference.number)
-            (Some (result_with result decoder.new.details)) walk.new.tags.items)) }
+            YieldsEntered (S.known source.old) decoder.old.bounds (reference, walk.old)
+            (result_with result decoder.new.details) event walk.new) }
         // Errors.
         ensures fault { ErrWithin 0 decoder.old.bounds.trailer
             (result_with result decoder.new.details) }

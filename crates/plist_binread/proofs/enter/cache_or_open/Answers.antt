@@ -1,22 +1,15 @@
-use Rattle.plist_binread.proofs.WalkInvariant.{as_many, known_opened}
-use Rattle.plist_binread.proofs.Tags.{open_tag-marked, open_uncached, uncached_packed}
-use Rattle.plist_binread.proofs.OpenObjects.{IsOpen-push, not_open, admits_more, cached_count-kept}
-use Rattle.plist_binread.proofs.WalkSteps.{yields_collection, reverse-push, start_falls}
-use Rattle.plist_binread.proofs.ObjectEvents.{collection-named}
-use Rattle.plist_decode.specs.Decoding.{start_event}
-use Rattle.std.proofs.Common.{arith, refl, ap, sym, ◌∙◌, ◌≡◌}
-use Rattle.std.proofs.Common.{◌<◌, get_or, arith, ap, rules, sym, ◌∙◌}
+use Rattle.plist_binread.proofs.WalkInvariant.{as_many, known_cached, known_opened}
+use Rattle.plist_binread.proofs.Tags.{cached_closed, cached_packed, open_tag-marked, open_uncached, packed_cached, uncached_packed}
+use Rattle.plist_binread.proofs.OpenObjects.{IsOpen-kept, IsOpen-push, admits_more, cached_count-kept, cached_count-more, not_open}
+use Rattle.plist_binread.proofs.WalkSteps.{reverse-push, start_falls, steps_positive, yields_collection, yields_scalar}
+use Rattle.plist_binread.proofs.ObjectEvents.{collection-named, named-date, named-scalar}
+use Rattle.plist_decode.specs.Decoding.{scalar_in, start_event}
+use Rattle.std.proofs.Common.{◌∙◌, ◌≡◌, ◌<◌, ap, arith, get_or, refl, rules, sym}
 use Rattle.std.proofs.lemmas.Bool.{false≢true}
-use Rattle.plist_decode.specs.Decoding.{scalar_in}
 use Rattle.plist_base.specs.Packing.{IsPacked, content_bytes, unpacked}
 use Rattle.plist_decode.specs.Packed.{is_marked, unmarked}
 use Rattle.plist_binread.specs.Remaining.{scalar_at}
-use Rattle.plist_binread.proofs.WalkSteps.{yields_scalar, steps_positive}
-use Rattle.plist_binread.proofs.OpenObjects.{IsOpen-kept, not_open, cached_count-more}
-use Rattle.plist_binread.proofs.WalkInvariant.{as_many, known_cached}
 use Rattle.plist_binread.proofs.ObjectEntry.{long_opens}
-use Rattle.plist_binread.proofs.Tags.{cached_closed, cached_packed, packed_cached}
-use Rattle.plist_binread.proofs.ObjectEvents.{named-date, named-scalar}
 use Rattle.plist_binread.proofs.enter.cache_or_open.Goals as goal
 use Rattle.plist_binread.proofs.enter.cache_or_open.Goals.{After-cache}
 

@@ -35,12 +35,12 @@ returns-in-Small-clause-handed g c =
     → 0 < unmarked (get_or c.args.walk.now.tags.items c.args.reference.number 0) = λ _. found.0 in
     record {
       event = event;
-      is = (
-        known_unpacked _ _ c.args.walk.now c.args.reference.number c.requires.known
+      is = record {
+        first = known_unpacked _ _ c.args.walk.now c.args.reference.number c.requires.known
             c.in_ok-tag.ensures.below c.args.reference.at c.in-Small.tag c.in-Small.content
-            c.in_ok-tag.ensures.new found,
-        IfSome-all _ (λ _. caches),
-      );
+            c.in_ok-tag.ensures.new found;
+        cached = IfSome-all _ (λ _. caches);
+      };
       taken = subst (λ scalar. g.V.EventVisitor.step c.args.visitor.now (ScalarEvent scalar)
           c.packed.result c.packed.new.self) c.from_parts.ensures c.packed.ensures;
     }
@@ -49,12 +49,12 @@ pub returns-in_err-decoded-in-None-clause-handed : goal.returns-in_err-decoded-i
 returns-in_err-decoded-in-None-clause-handed g c =
     rw (passed _ c.from_residual-in_err-decoded-in-None.ensures.1) (record {
       event = EndCollection;
-      is = (
-        known_refused _ _ c.args.walk.now c.args.reference.number c.requires.known
+      is = record {
+        first = known_refused _ _ c.args.walk.now c.args.reference.number c.requires.known
             c.in_ok-tag.ensures.below c.args.reference.at c.in-At.place _ c.in_ok-tag.ensures.new
-            (rw c.in-At.is at c.in_ok-tag.ensures.found) c.in_err-decoded-in-None.ensures.refused,
-        IfSome-all _ (λ _. tt),
-      );
+            (rw c.in-At.is at c.in_ok-tag.ensures.found) c.in_err-decoded-in-None.ensures.refused;
+        cached = IfSome-all _ (λ _. tt);
+      };
       taken = refl;
     })
 
@@ -121,16 +121,16 @@ returns-then-lies_in-clause-handed g c =
     (c.lies_in.ensures c.if-lies_in.true) (rw c.bytes_in-bytes.ensures at (h.is.sets details))) in
     record {
       event = h.event;
-      is = (
-        known_set _ bounds c.args.walk.now c.args.reference.number c.requires.known
+      is = record {
+        first = known_set _ bounds c.args.walk.now c.args.reference.number c.requires.known
             c.in_ok-tag.ensures.below c.args.reference.at c.in-At.place long c.args.walk.now _ answer
             h.event refl c.in_ok-tag.ensures.new there
             (long_opens c.args.reference.number c.in-Long.start c.in-Long.count c.in-Long.kind
-            c.args.walk.now c.in_ok-tag.ensures.below (search rules)) sets (always_ok _ answer refl),
-        known_cached _ bounds c.args.walk.now c.args.reference.number c.requires.known
+            c.args.walk.now c.in_ok-tag.ensures.below (search rules)) sets (always_ok _ answer refl);
+        cached = known_cached _ bounds c.args.walk.now c.args.reference.number c.requires.known
             c.in_ok-tag.ensures.below c.in-At.place long _ answer h.event c.args.walk.now.tags.items
-            refl there sets (λ no. absurd (cc)),
-      );
+            refl there sets (λ no. absurd (cc));
+      };
       taken = h.taken;
     }
 
@@ -210,16 +210,16 @@ returns-clause-handed g c =
     let f = fetched g (goal.at.returns-clause-handed g c).After-cache_or_open in
     record {
       event = EndCollection;
-      is = (
-        known_refused _ _ c.args.walk.now c.args.reference.number c.requires.known
+      is = record {
+        first = known_refused _ _ c.args.walk.now c.args.reference.number c.requires.known
             c.in_ok-tag.ensures.below c.args.reference.at c.in-At.place
             (error_of Memory c.match-buffered_front.decoder.details) c.in_ok-tag.ensures.new
             (rw c.in-At.is at c.in_ok-tag.ensures.found)
             (known_full _ c.args.decoder.now.bounds c.in-At.place c.match-buffered_front.decoded
             (error_of Memory c.match-buffered_front.decoder.details) refl
-            (c.cache_or_open.ensures.wanted c.if-cache_or_open.false) f.0.decodes),
-        IfSome-all _ (λ _. tt),
-      );
+            (c.cache_or_open.ensures.wanted c.if-cache_or_open.false) f.0.decodes);
+        cached = IfSome-all _ (λ _. tt);
+      };
       taken = refl;
     }
 
@@ -230,18 +230,18 @@ returns-then-cache_or_open-clause-handed g c =
     let h = c.hand_decoded.ensures.handed in
     record {
       event = h.event;
-      is = (
-        known_set _ _ c.args.walk.now c.args.reference.number c.requires.known c.in_ok-tag.ensures.below
+      is = record {
+        first = known_set _ _ c.args.walk.now c.args.reference.number c.requires.known c.in_ok-tag.ensures.below
             c.args.reference.at c.in-At.place _ c.cache_or_open.new.walk _
             (result_with c.hand_decoded.result c.hand_decoded.new.decoder.details) h.event
             f.1 c.in_ok-tag.ensures.new (there g at)
             (c.cache_or_open.ensures.yields c.if-cache_or_open.true) (rw f.2 at h.is)
-            (on_answer _ c.hand_decoded.result c.hand_decoded.new.decoder.details c.hand_decoded.ensures.found),
-        known_cached _ _ c.args.walk.now c.args.reference.number c.requires.known
+            (on_answer _ c.hand_decoded.result c.hand_decoded.new.decoder.details c.hand_decoded.ensures.found);
+        cached = known_cached _ _ c.args.walk.now c.args.reference.number c.requires.known
             c.in_ok-tag.ensures.below c.in-At.place _ _
             (result_with c.hand_decoded.result c.hand_decoded.new.decoder.details) h.event
             c.cache_or_open.new.walk.tags.items f.1 (there g at) (rw f.2 at h.is)
-            c.cache_or_open.ensures.cached,
-      );
+            c.cache_or_open.ensures.cached;
+      };
       taken = h.taken;
     }

@@ -110,11 +110,11 @@ returns-clause-handed g c =
             c.in_ok-head.head (bounds g there) c.in_ok-tags.tags.items c.args.walk.now.frames
             c.enter_object.new.walk.frames (result_with c.enter_object.result c.enter_object.new.decoder.details) h.event
             c.read.ensures.unchanged c.requires.empty.1 (count g there) refl refl
-            (rw (← c.in_ok-head.ensures.answer) at c.read.ensures.value) h.is.0);
+            (rw (← c.in_ok-head.ensures.answer) at c.read.ensures.value) h.is.first);
         cached = known_cached (g.S.Source.known c.args.source.now)
             (g.S.Source.known c.read.new.source) c.in_ok-head.head _
             (result_with c.enter_object.result c.enter_object.new.decoder.details) h.event c.enter_object.new.walk.tags.items
-            c.read.ensures.unchanged refl (rw (← c.in_ok-head.ensures.answer) at c.read.ensures.value) h.is.1;
+            c.read.ensures.unchanged refl (rw (← c.in_ok-head.ensures.answer) at c.read.ensures.value) h.is.cached;
       };
       taken = passed_on g.V.EventVisitor.step _ c.enter_object.new.visitor _ _
           c.enter_object.result h.event refl (search rules) h.taken;

@@ -1,5 +1,5 @@
 use Rattle.std.proofs.Common.{◌≡◌, ◌-◌, arith, List, [], ◌∷◌, ◌++◌, Option, None, Some, IfSome, length, refl, sym, ◌∙◌, ap, reverse, take}
-use Rattle.plist_binread.specs.Frames.{with_innermost}
+use Rattle.plist_binread.specs.Remaining.{with_innermost}
 use Rattle.plist_binread.specs.declared.frames.Frame.{Frame}
 use Rattle.std.proofs.lemmas.List.{reverse-append}
 use Rattle.plist_binread.proofs.frames.Frames.next_child.Goals as goal

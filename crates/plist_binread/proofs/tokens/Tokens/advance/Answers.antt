@@ -89,11 +89,11 @@ returns-in-Ok-clause-handed g c =
         first = child_yields _ _ c.args.walk.now c.next_child.new.self c.in-Child.frame
             c.in-Child.ensures.within (taken g t.In-Child) _ c.in-Ok.ensures.unchanged
             c.in-Ok.number c.in-Ok.ensures.child answer h.event c.enter.new.walk
-            (rw (c.read_child.ensures.bounds, at) at h.is.0);
+            (rw (c.read_child.ensures.bounds, at) at h.is.first);
         cached = child_kept _ c.args.decoder.now.bounds c.args.walk.now c.next_child.new.self
             c.in-Child.frame c.in-Child.ensures.within (taken g t.In-Child) _
             c.in-Ok.ensures.unchanged c.in-Ok.number c.in-Ok.ensures.child answer h.event
-            c.enter.new.walk.tags.items h.is.1;
+            c.enter.new.walk.tags.items h.is.cached;
         end = λ closes. absurd (rw c.in-Child.is at (c.next_child.ensures.closes closes));
       };
       taken = h.taken;

@@ -21,7 +21,11 @@ again g c = repeated g.V.EventVisitor.step g.V.EventVisitor.names _ _ c.args.sel
 pub returns-in-Some-clause-handed : goal.returns-in-Some-clause-handed
 returns-in-Some-clause-handed g c =
     let it = again g (goal.at.returns-in-Some-clause-handed g c).In-Some in
-    record { event = it.event; is = (it.first, it.cached); taken = it.taken }
+    record {
+      event = it.event;
+      is = record { first = it.first; cached = it.cached };
+      taken = it.taken;
+    }
 
 pub returns-in-Some-clause-tokens : goal.returns-in-Some-clause-tokens
 returns-in-Some-clause-tokens g c = λ more.
@@ -50,4 +54,4 @@ returns-in-None-clause-tokens g c = λ more.
     c.remember.ensures.2 (λ some. c.remember.ensures.1 c.args.visitor.now h.event taken some)
     (event_entered _ c.args.decoder.now.bounds c.args.walk.now now c.requires.known
     c.args.reference (result_with c.enter_object-entered.result
-    c.enter_object-entered.new.decoder.details) (Continue tt) h.event (rw more refl) h.is.0 h.is.1)
+    c.enter_object-entered.new.decoder.details) (Continue tt) h.event (rw more refl) h.is.first h.is.cached)

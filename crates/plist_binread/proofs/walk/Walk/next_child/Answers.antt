@@ -1,6 +1,6 @@
 use Rattle.std.proofs.Common.{ap, not, sym, ◌∙◌}
 use Rattle.std.proofs.lemmas.Bool.{lt-ltb}
-use Rattle.plist_binread.specs.Frames.{frame_of}
+use Rattle.plist_binread.specs.Remaining.{frame_of}
 use Rattle.plist_binread.specs.Step.{closes}
 use Rattle.plist_binread.proofs.InnermostChild.{next_path, child_remaining, closed_remaining, child_weight, closed_weight}
 use Rattle.plist_decode.specs.Packed.{unmarked}
