@@ -10,13 +10,13 @@ use Rattle.std.proofs.lemmas.List.{map-append}
 use Rattle.plist_base.proofs.Lengths.{alike_with}
 use Rattle.plist.specs.LastWins.{with_pair, last_wins}
 use Rattle.plist.specs.Building.{Unfinished, NotBegun, Complete, Built, IsNested, nothing_built, complete_tree, events_so_far, last_wins_so_far, refusal_at, IsUnfinishedFor, IsUnfinished}
-use Rattle.plist.specs.inner.BuilderSteps.{and_pair, and_event}
+use Rattle.plist.specs.inner.BuilderSteps.{and_event}
 use Rattle.plist.proofs.Following.{complete, refusal-last, extended}
 use Rattle.std.proofs.lemmas.Option.{none-some, same_Some}
 use Rattle.plist.specs.declared.value.Value.{Value}
 use Rattle.plist.specs.ValueTrees.{tree_of}
 use Rattle.plist.specs.Collecting.{IsBuiltFrom, TakesOne, RefusesOne, built_tree}
-use Rattle.plist.proofs.BuilderLaws.{extended-last}
+use Rattle.plist.proofs.BuilderLaws.{and_pair, extended-last}
 
 -- these events were taken, with the last value of each key
 abbrev pub Holds : List PlainEvent → Built → Type 0

@@ -6,7 +6,11 @@ use Rattle.plist_base.specs.Trees.{String, Tree, Array, Dictionary, trees_of, me
 use Rattle.std.proofs.lemmas.List.{map_push}
 use Rattle.plist.specs.LastWins.{TreePairs, with_pair, last_values, last_wins, last_wins_in_items, last_wins_in_pairs}
 use Rattle.plist.specs.Building.{OpenCollection, InArray, InDictionary, AfterKey, Unfinished, NotBegun, Within, Complete, last_wins_in_rows, last_wins_within, last_wins_so_far}
-use Rattle.plist.specs.inner.BuilderSteps.{and_pair, and_tree, at_value, in_array, in_dictionary, and_event}
+use Rattle.plist.specs.inner.BuilderSteps.{and_tree, at_value, in_array, in_dictionary, and_event}
+
+-- a pair is appended, whatever its key
+abbrev pub and_pair : TreePairs → (key : List ℕ) → Tree → TreePairs
+and_pair rows key tree = rows ++ (key, tree) ∷ []
 
 -- ---- the last value of each key
 

@@ -2,7 +2,12 @@
 use Rattle.std.proofs.Common.{◌≡◌, ℕ, suc, ◌<◌, ◌≤◌, ◌+◌, ◌-◌, ◌*◌, List, [], ◌∷◌, ◌++◌, length, inl, inr, ap, ◌∙◌, arith}
 use Rattle.std.proofs.lemmas.Grind.{common_steps}
 use Rattle.plist.specs.declared.value.Value.{Value}
-use Rattle.plist.specs.inner.Weights.{weight, weights, others, to_drop, IsLess}
+use Rattle.plist.specs.inner.Weights.{weight, weights, others, IsLess}
+
+-- A number that decreases as values are dropped: either there are fewer values, or there are as
+-- many and fewer of them follow the first.
+abbrev pub to_drop : List Value → ℕ
+to_drop values = weights values * weights values + weights (others values)
 
 pub weights-append : (xs ys : List Value) → weights (xs ++ ys) ≡ weights xs + weights ys
 weights-append xs ys = grind (arith, common_steps)

@@ -17,12 +17,38 @@ use Rattle.plist.specs.declared.equal.DeferredPairs.{DeferredPairs}
 use Rattle.plist.specs.declared.equal.Pair.{Pair}
 use Rattle.plist.specs.declared.value.Value.{Value, Value-F, fold_out-Value}
 use Rattle.plist_pairs.proofs.PairsSame.{as_map}
-use Rattle.plist.specs.inner.DeferredPairs.{Compares, ComparesItems, ComparesPairs, ComparesValues, ItemsLeft, PairsLeft, are_covered, are_same, same_values, to_compare, waiting}
+use Rattle.plist.specs.inner.DeferredPairs.{Compares, ComparesItems, ComparesPairs, are_same, same_values, to_compare, waiting}
 use Rattle.plist_pairs.specs.TreeEquality.{same, same_items, same_pairs}
 use Rattle.plist.specs.ValueTrees.{item_trees, pair_trees}
 use Rattle.plist.specs.inner.Weights.{pairs_step, weight, weight_step, weights}
 use Rattle.plist.proofs.DropWeights.{weights-more}
 use Rattle.plist.proofs.SameTrees.{same_dictionaries}
+
+-- each key of these pairs has an equal value in the others
+abbrev pub are_covered : (pairs others : List (List ℕ × Value)) → Bool
+are_covered [] others = true
+are_covered (pair ∷ pairs) others =
+    option_eq same_values (Some pair.1) (lookup (bytes_eq pair.0) others)
+    && are_covered pairs others
+
+-- the items from an index on, and the deferred pairs, decide whether the arrays are equal
+abbrev pub ItemsLeft : (items others : List Value) → (start : DeferredPairs) → (place : ℕ) → (now : DeferredPairs)
+    → Type 0
+ItemsLeft items others start place now =
+    (same_items (item_trees (drop place items)) (item_trees (drop place others))
+    && are_same (waiting now)
+    ≡ same_items (item_trees items) (item_trees others) && are_same (waiting start))
+    × (to_compare (waiting now) + weights (drop place items)
+    ≤ to_compare (waiting start) + weights items)
+
+-- the pairs from an index on, and the deferred pairs, decide whether the dictionaries are equal
+abbrev pub PairsLeft : (pairs others : List (List ℕ × Value)) → (start : DeferredPairs) → (place : ℕ)
+    → (now : DeferredPairs) → Type 0
+PairsLeft pairs others start place now =
+    (are_covered (drop place pairs) others && are_same (waiting now)
+    ≡ are_covered pairs others && are_same (waiting start))
+    × (to_compare (waiting now) + weights (values_of (drop place pairs))
+    ≤ to_compare (waiting start) + weights (values_of pairs))
 
 pub no-deeper : {X : Type 0} (f : X → ℕ) (ps : List (List ℕ × X)) (i : ℕ) (k : List ℕ) (v : X)
     → slice_get ps i ≡ Some (k, v) → f v ≤ most f (values_of ps)
@@ -122,7 +148,7 @@ left-from xs i x e =
 module _ (vs ws : List Value) (i : ℕ) (v w : Value) (start before : DeferredPairs) (answer : Bool)
     (after : DeferredPairs) (p : i < length vs) (q : i < length ws) (a : v ≡ get_or vs i v)
     (b : w ≡ get_or ws i w) (so : ItemsLeft vs ws start i before)
-    (compared : ComparesValues v w before answer after) where
+    (compared : Compares (same_values v w) (weight v) before answer after) where
   first : slice_get vs i ≡ Some v
   first = slice_get_read vs _ i v refl p a
 
@@ -216,7 +242,7 @@ module _ (ps qs : Rows) (d : IsDistinct bytes_eq (keys_of ps))
 
     -- both dictionaries have the key, and its values are compared
     pub pairs-next : (w : Value) (answer : Bool) (after : DeferredPairs) → Some w ≡ lookup (bytes_eq k) qs
-        → ComparesValues v w before answer after
+        → Compares (same_values v w) (weight v) before answer after
         → (answer ≡ false → ComparesPairs ps qs start false after)
         × (answer ≡ true → PairsLeft ps qs start (i + 1) after)
     pairs-next w answer after found compared =

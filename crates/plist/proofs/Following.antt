@@ -9,7 +9,8 @@ use Rattle.plist_base.proofs.Lengths.{alike_behind, continue_alike}
 use Rattle.plist_buffer.proofs.Grammar.{all_taken, can_continue, continues, none_is, steps_snoc, wanted_alike}
 use Rattle.plist.specs.LastWins.{TreePairs}
 use Rattle.plist.specs.Building.{OpenCollection, InArray, InDictionary, AfterKey, Unfinished, NotBegun, Within, Complete, events_within, events_around, events_so_far, expected_within, if_refused, refusal_of, refusal_at, AllTakeValue, IsNested, TakesValue, last_wins_within, last_wins_so_far, complete_tree}
-use Rattle.plist.specs.inner.BuilderSteps.{and_pair, and_tree, at_value, in_array, in_dictionary, and_event}
+use Rattle.plist.specs.inner.BuilderSteps.{and_tree, at_value, in_array, in_dictionary, and_event}
+use Rattle.plist.proofs.BuilderLaws.{and_pair}
 use Rattle.plist_buffer.specs.declared.expects.Expect.{Expect}
 use Rattle.plist_buffer.specs.declared.expects.Expect.TheVariants.{OneValue, Items, Pairs}
 use Rattle.plist_buffer.specs.declared.expects.Transition.{Transition}

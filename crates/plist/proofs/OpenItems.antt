@@ -2,7 +2,7 @@
 use Rattle.std.proofs.Common.{◌≡◌, ℕ, ◌≤◌, List, [], ◌∷◌, ◌++◌, length, refl, arith, length-append}
 use Rattle.std.proofs.lemmas.List.{take-append-le, drop-append-le}
 use Rattle.plist.specs.declared.value.Value.{Value}
-use Rattle.plist.specs.OpenArrays.{AreStarts, items_by_array}
+use Rattle.plist.specs.OpenCollections.{AreStarts, items_by_array}
 use Rattle.plist.specs.inner.CollectionSteps.{with_item}
 
 -- the starts stay right if there are more items

@@ -3,8 +3,7 @@ use Rattle.std.proofs.Common.{◌≡◌, ℕ, List, sym, ap, ◌∙◌, Vec, Glo
 use Rattle.plist.specs.declared.value.Value.{Value, fold-roll-Value}
 use Rattle.plist.specs.declared.value.Value.TheVariants.{rolls-Array, rolls-Dictionary}
 use Rattle.plist.specs.declared.dictionary.Dictionary as dictionary
-use Rattle.plist.specs.Dictionaries.{pairs_of}
-use Rattle.plist.specs.ValueTrees.{item_trees, members_step, pair_trees, tree_of, tree_pairs, tree_step}
+use Rattle.plist.specs.ValueTrees.{item_trees, members_step, pair_trees, pairs_of, tree_of, tree_pairs, tree_step}
 use Rattle.std.specs.List.{IsDistinct}
 use Rattle.std.specs.Map.{keys_of}
 use Rattle.plist_base.specs.Events.{PlainEvent, StartArray, StartDictionary, EndCollection}

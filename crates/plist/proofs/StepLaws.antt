@@ -1,20 +1,21 @@
 -- A builder follows the laws of writers.
-use Rattle.std.specs.Prelude.{◌≡◌, ◌++◌, ◌∷◌, [], true, false, Some, None, Ok, Err, OnOk}
+use Rattle.std.specs.Prelude.{◌≡◌, ◌++◌, ◌∷◌, [], true, false, Some, None, Result, Ok, Err, OnOk}
 use Rattle.std.proofs.Common.{inr, refl, sym, ◌∙◌, subst, true≢false}
 use Rattle.std.proofs.lemmas.Option.{none-some, same_Some}
 use Rattle.plist_buffer.specs.declared.expects.Transition.{Transition}
 use Rattle.plist_buffer.specs.declared.expects.Transition.TheVariants as change
 use Rattle.plist_buffer.specs.declared.expects.Expect.TheVariants.{OneValue}
+use Rattle.plist_base.specs.declared.error.Error.{Error}
 use Rattle.plist_base.specs.Events.{PlainEvent}
 use Rattle.plist_buffer.specs.Expects.{transition_of}
 use Rattle.plist_base.specs.Faults as faults
-use Rattle.plist_base.specs.Faults.{FaultKind, fault_without_offset, WriterFailed}
+use Rattle.plist_base.specs.Faults.{FaultKind, fault_of, fault_without_offset, WriterFailed}
 use Rattle.plist_base.specs.Bracketing.{CanContinue, ContinueAlike}
-use Rattle.plist_base.specs.Writing.{Answer, MatchKind, AnswersByOrder}
+use Rattle.plist_base.specs.Writing.{Answer, MatchKind, AnswersByOrder, answer_of}
 use Rattle.plist.specs.declared.stream.builder.Builder.{Builder}
 use Rattle.plist.specs.Building.{Unfinished, NotBegun, Within, Complete, Built, IsAnswered, IsNested, events_so_far, expected_within, if_refused, refusal_at, IsRefusedStep}
-use Rattle.plist.specs.Builder.{built_of, IsBuildingStep}
-use Rattle.plist.specs.Collecting.{TakesOne}
+use Rattle.plist.specs.Builder.{built_of, IsBuildingStep, RefusesWith}
+use Rattle.plist.specs.Collecting.{IsRefusal, TakesOne}
 use Rattle.plist.proofs.Following.{refused-ends, taken-continues, accepted-continues, last-continues}
 
 -- this kind of fault is that of an event that can't come next
@@ -132,3 +133,24 @@ by_laws before after event answer ok s added = record {
   order = order_law before after event answer ok s;
   failure = failure_law before after event answer s;
 }
+
+-- the fault with which an event isn't added to a builder that hasn't failed
+refused_fault : (before after : Built) (event : PlainEvent) (unchanged : Type 0) (kind : FaultKind)
+    → IsRefusedStep before event kind after unchanged → before.failed ≡ false
+    → IsRefusal (refusal_at before.unfinished event) (fault_without_offset kind)
+refused_fault before after event unchanged faults.OutOfMemory r f = rw r.1 refl
+refused_fault before after event unchanged faults.WriterFailed r f =
+    absurd (true≢false (sym r.0 ∙ f))
+refused_fault before after event unchanged kind r f = rw r.1 refl
+
+pub write_refused : (before after : Builder) (event : PlainEvent) (result : Result (Unit {0}) Error)
+    → IsBuildingStep before event (answer_of result) after → (built_of before).failed ≡ false
+    → RefusesWith before (Ok event) result
+write_refused before after event (Ok done) step works = tt
+write_refused before after event (Err error) step works =
+    let fault = fault_of error in
+    let (no_offset, refused) = step.answered in
+    let is : fault ≡ fault_without_offset fault.kind =
+    λ i. record { kind = fault.kind; offset = no_offset i } in
+    subst (IsRefusal (refusal_at (built_of before).unfinished event)) (sym is)
+    (refused_fault (built_of before) (built_of after) event (after ≡ before) fault.kind refused works)

@@ -8,10 +8,9 @@ use Rattle.indexmap.specs.IndexMap.{insert_entry}
 use Rattle.plist.specs.declared.open_collections.OpenDictionary.{OpenDictionary}
 use Rattle.plist.specs.declared.value.Value.{Value}
 use Rattle.plist.specs.Building.{InDictionary}
-use Rattle.plist.specs.Dictionaries.{pairs_of}
+use Rattle.plist.specs.ValueTrees.{pairs_of, tree_of, tree_pairs}
 use Rattle.plist.specs.LastWins.{with_pair, last_values}
 use Rattle.plist.specs.inner.CollectionSteps.{AddsKey, AddsPair, ChangesInnermost}
-use Rattle.plist.specs.ValueTrees.{tree_of, tree_pairs}
 use Rattle.plist_pairs.proofs.EntrySteps.{second_at, comes_last, none_of, set_pushed, read_pushed, keeps_index, key-there, value-there, kept-there, taken-there, none-taken}
 use Rattle.indexmap.specs.Layout.{length-set_value_at}
 use Rattle.plist_pairs.proofs.DistinctKeys.{EachOnce, last-values-once, once-earlier, values-insert}

@@ -8,13 +8,12 @@ use Rattle.plist.specs.declared.value.Value.{Value, ind-Value, fold-roll-Value, 
 use Rattle.plist.specs.declared.value.Value.TheOpen.{Dictionary-F, Value-F}
 use Rattle.plist.specs.declared.value.Value.TheFolds.{map-Dictionary, map-Value}
 use Rattle.plist.specs.declared.dictionary.Dictionary as dictionary
-use Rattle.plist.specs.Dictionaries.{pairs_of}
+use Rattle.plist.specs.ValueTrees.{members_step, pairs_of, tree_of, tree_pairs, tree_step}
 use Rattle.plist.specs.LastWins.{TreePairs, with_pair, last_values, last_wins}
 use Rattle.plist.specs.Building.{Unfinished, IsNested, IsExtendedBy, refusal_at, last_wins_in_rows, last_wins_within, last_wins_so_far, InArray, InDictionary, AfterKey, Within, Complete}
 use Rattle.plist.specs.declared.open_collections.OpenDictionary.{OpenDictionary}
 use Rattle.plist.specs.OpenCollections.{Contents, Items, Pairs, open_of}
 use Rattle.plist.specs.UnfinishedValues.{unfinished_in}
-use Rattle.plist.specs.ValueTrees.{members_step, tree_of, tree_step, tree_pairs}
 use Rattle.plist_pairs.proofs.DistinctKeys.{last-values-once, once-last, values-inserts}
 use Rattle.plist.specs.inner.BuilderSteps.{and_event}
 use Rattle.plist.proofs.Following.{taken_before}

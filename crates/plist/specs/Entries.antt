@@ -17,7 +17,7 @@ use Rattle.plist.specs.contracts.dictionary.Dictionary.{the_row}
 use Rattle.plist.specs.contracts.value.Value as value
 use Rattle.plist.specs.declared.dictionary.Dictionary.{Dictionary}
 use Rattle.plist.specs.declared.value.Value.{Value}
-use Rattle.plist.specs.Dictionaries.{dictionary_of, pairs_of}
+use Rattle.plist.specs.ValueTrees.{dictionary_of, pairs_of}
 use Rattle.plist.specs.contracts.dictionary.entry.OccupiedEntry as occupied
 
 -- the reference to the pairs

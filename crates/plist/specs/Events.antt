@@ -1,22 +1,20 @@
 -- The remaining events of an iterator over a value's events.
-use Rattle.std.specs.Prelude.{◌≡◌, List, [], ◌∷◌, ◌++◌, Option, Some, None, Result, Ok, IfOk, IfSome, map, reverse, string_bytes, ⊤}
+use Rattle.std.specs.Prelude.{List, [], ◌∷◌, ◌++◌, Option, Some, None, Result, Ok, IfOk, IfSome, map, reverse, ⊤}
 use Rattle.std.specs.Borrow.{Bor}
 use Rattle.plist_base.specs.declared.error.Error.{Error}
 use Rattle.plist_base.specs.declared.event.Event.{Event}
 use Rattle.plist_base.specs.declared.event.Event.TheVariants as event
 use Rattle.std.specs.declared.borrow.CowStr.TheVariants as text
 use Rattle.std.specs.declared.borrow.CowSlice.TheVariants as slice
-use Rattle.plist_base.specs.Events.{PlainEvent, StartArray, StartDictionary, EndCollection, ScalarEvent, event_of}
+use Rattle.plist_base.specs.Events.{PlainEvent, StartArray, StartDictionary, EndCollection, event_of}
 use Rattle.plist_base.specs.FirstItems.{GivesFirst, StopsIf}
 use Rattle.plist_base.specs.Outcomes.{OnlyMemory}
-use Rattle.plist_base.specs.Trees.{String, trees_of, members_of}
+use Rattle.plist_base.specs.Trees.{trees_of, members_of}
 use Rattle.plist_base.specs.Bracketing.{bracketing, bracketing_of_items, bracketing_of_pairs}
 use Rattle.plist.specs.declared.value.Value.{Value}
 use Rattle.plist.specs.declared.stream.events.Events.{Events}
 use Rattle.plist.specs.declared.stream.events.Level.{Level}
 use Rattle.plist.specs.declared.stream.events.Level.TheVariants as level
-use Rattle.plist.specs.declared.stream.events.Next.{Next}
-use Rattle.plist.specs.declared.stream.events.Next.TheVariants as next
 use Rattle.plist.specs.ValueTrees.{tree_of, tree_pairs}
 
 -- the events of the value that is next, or an empty list if no value is next
@@ -64,14 +62,3 @@ pub record GivesEventOf (events : List PlainEvent) (item : Option (Result Event 
 -- the first remaining event is yielded
 abbrev pub GivesEvent : Events → Option (Result Event Error) → Events → Type 0
 GivesEvent before item after = GivesEventOf (remaining_events before) item after
-
--- what is next, and what remains after it
-abbrev pub ComesNext : Events → Next → Events → Type 0
-ComesNext before next.Nothing after = (remaining_events before ≡ []) × (remaining_events after ≡ [])
-ComesNext before next.End after = remaining_events before ≡ EndCollection ∷ remaining_events after
-ComesNext before (next.Key key) after =
-    remaining_events before ≡ ScalarEvent (String (string_bytes key.now)) ∷ remaining_events after
-ComesNext before (next.Value value) after =
-    (remaining_events before
-    ≡ bracketing (tree_of value.now) ++ left_of_levels (reverse after.levels.items))
-    × (after.value ≡ None)

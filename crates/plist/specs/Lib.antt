@@ -1,10 +1,8 @@
 pub mod LastWins
 pub mod ValueTrees
-pub mod Dictionaries
-pub mod DictionaryLends
+pub mod Lends
 pub mod Entries
 pub mod Building
-pub mod OpenArrays
 pub mod OpenCollections
 pub mod UnfinishedValues
 pub mod Builder
@@ -13,9 +11,7 @@ pub mod Collecting
 pub mod ValueOfItems
 pub mod WrittenEvents
 pub mod SendingValues
-pub mod Outputs
 pub mod FromReader
 pub mod Accessors
-pub mod MutAccessors
 pub mod LimitedValues
 pub mod inner

@@ -1,14 +1,26 @@
 -- The open collections of a value that is being built, with the values that they contain so far.
-use Rattle.std.specs.Prelude.{List, [], ◌∷◌, map, string_bytes, ⊤}
+use Rattle.std.specs.Prelude.{ℕ, ◌≤◌, List, [], ◌∷◌, drop, map, string_bytes, take, ⊤}
 use Rattle.std.specs.Option.{option_map_or}
 use Rattle.plist.specs.declared.open_collections.Level.{Level}
 use Rattle.plist.specs.declared.open_collections.Level.TheVariants as level
 use Rattle.plist.specs.declared.open_collections.OpenDictionary.{OpenDictionary}
 use Rattle.plist.specs.declared.value.Value.{Value}
 use Rattle.plist.specs.Building.{OpenCollection, InArray, InDictionary, AfterKey, Unfinished, NotBegun, Within}
-use Rattle.plist.specs.Dictionaries.{pairs_of}
+use Rattle.plist.specs.ValueTrees.{pairs_of, tree_of, tree_pairs}
 use Rattle.plist.specs.LastWins.{last_values}
-use Rattle.plist.specs.ValueTrees.{tree_of, tree_pairs}
+
+-- the items of each open array, innermost first, which are stored in one list: those from its start
+-- to the start of the array in it, or to the end
+abbrev pub items_by_array : (starts : List ℕ) → (items : List Value) → List (List Value)
+items_by_array [] items = []
+items_by_array (start ∷ starts) items =
+    drop start items ∷ items_by_array starts (take start items)
+
+-- each array starts no later than the array in it, and the innermost one no later than at this
+-- index; `starts` has the innermost one first
+abbrev pub AreStarts : (starts : List ℕ) → (most : ℕ) → Type 0
+AreStarts [] most = ⊤
+AreStarts (start ∷ starts) most = (start ≤ most) × AreStarts starts start
 
 -- an open array with its items so far, or an open dictionary
 pub data Contents : Type 0 where

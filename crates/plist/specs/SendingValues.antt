@@ -1,6 +1,6 @@
 -- What is written when a value is written as a binary property list, and why it isn't stored.
-use Rattle.std.specs.Prelude.{◌≡◌, ℕ, ◌^◌, ◌≤◌, List, Option, None, Result, Ok, Err, ⊤}
-use Rattle.std.specs.Io.KnownBytes.{Appends}
+use Rattle.std.specs.Prelude.{◌≡◌, ℕ, ◌^◌, ◌≤◌, List, Option, None, Some, Result, Ok, Err, IfSome, ⊤}
+use Rattle.std.specs.Io.KnownBytes.{Appends, WriteAppends}
 use Rattle.plist_base.specs.declared.error.Error.{Error}
 use Rattle.plist_base.specs.Faults.{Fault, FaultKind, Io, MatchFault, OutOfMemory, PlistTooLarge}
 use Rattle.plist_base.specs.Trees.{Tree}
@@ -40,3 +40,16 @@ module _ {W : Type 0} (contents : W → Option (List ℕ)) where
   -- a file of the value's tree is written, or an error stops it
   abbrev pub SendsValue : Value → Result (Unit {0}) Error → (old new : W) → Type 0
   SendsValue value answer old new = SendsTree (tree_of value) (answer_of answer) old new
+
+-- the contents of a file that is created at its first write
+module _ {F : Type 0} (contents : F → Option (List ℕ)) where
+  -- the bytes of the file, if they are known; `None` before the file is created
+  abbrev pub contents_of : Option F → Option (List ℕ)
+  contents_of None = None
+  contents_of (Some file) = contents file
+
+  -- if a file is open afterwards, it was created, and as many of the bytes as the call returned
+  -- were appended to it
+  abbrev pub WritesFirst : {E : Type 0} → Result ℕ E → (bytes : List ℕ) → (now : Option F) → Type 0
+  WritesFirst answer bytes now = IfSome now (λ file.
+      (made : F) × WriteAppends (contents made) (contents file) answer bytes)

@@ -7,10 +7,10 @@ ghost use Rattle.std.specs.Map.{lookup, keys_of, values_of};
 ghost use Rattle.std.specs.Map.Iter.{ShowsInOrder, ShowsValuesInOrder, deref};
 ghost use Rattle.std.specs.List.{IsAmong, IsDistinct};
 ghost use Rattle.std.specs.Borrow.{sem};
-ghost use Rattle.plist_pairs.specs.Keys.{HasNone, IsAbsent, IsIndexOf, IsRemovedAt, IsSetAt, IsTakenAt};
-ghost use Rattle.plist_pairs.specs.Shown.{shown_key, shown_pair};
-ghost use Rattle.plist.specs.Dictionaries.{pairs_of};
-ghost use Rattle.plist.specs.DictionaryLends.{DictionaryLendsAtKey, DictionaryLendsIndex, DictionaryLendsValue};
+ghost use Rattle.plist_pairs.specs.Keys.{HasNone, IsAbsent, IsIndexOf, IsRemovedAt, IsSetAt, IsTakenAt, shown_key, shown_owned_pair, shown_pair};
+ghost use Rattle.plist.specs.ValueTrees.{pairs_of};
+ghost use Rattle.plist.specs.declared.value.Value.{Value as V};
+ghost use Rattle.plist.specs.Lends.{DictionaryLendsAtKey, DictionaryLendsIndex, DictionaryLendsValue};
 
 mod bulk;
 mod entry;
@@ -52,8 +52,6 @@ impl Drop for Dictionary {
 }
 
 impl Dictionary {
-    ghost use Rattle.plist.specs.declared.value.Value.{Value as V};
-
     /// Creates a dictionary without pairs. It allocates nothing before the first insert.
     pub fn new(alloc: Global) -> Dictionary
         ensures empty { pairs_of result ≡ [] }
@@ -269,22 +267,13 @@ impl Dictionary {
         let (key, value) = self.pairs.as_ref().unwrap().pair_at(index);
         (key.as_str(), value)
     }
-}
 
-// Access to pairs by index. Entries use it, so that they look up their key only once.
-impl Dictionary {
+    // Returns the index of a key, with which an entry looks up the key only once.
     fn index_of(&self, key: &str) -> Option<usize>
         ensures { MatchOption result (HasNone key.now (pairs_of self.now))
             (IsIndexOf key.now (pairs_of self.now)) }
     {
         self.pairs.as_ref()?.index_of(key)
-    }
-
-    fn key_at(&self, index: usize) -> &String
-        requires { index < length (pairs_of self.now) }
-        ensures { slice_get (keys_of (pairs_of self.now)) index ≡ Some (string_bytes result.now) }
-    {
-        self.pairs.as_ref().unwrap().pair_at(index).0
     }
 
     // Returns a mutable reference to the value at an index.
@@ -308,8 +297,6 @@ impl Dictionary {
 
 /// Iterates over the pairs, in their order.
 impl<'a> IntoIterator for &'a Dictionary {
-    ghost use Rattle.plist.specs.declared.value.Value.{Value as V};
-
     type Item = (&'a String, &'a Value);
 
     type IntoIter = Iter<'a>;
@@ -320,6 +307,24 @@ impl<'a> IntoIterator for &'a Dictionary {
 
     fn into_iter(self) -> Iter<'a> {
         self.iter()
+    }
+}
+
+/// Iterates over the pairs by value, in their order.
+impl IntoIterator for Dictionary {
+    type Item = (String, Value);
+
+    type IntoIter = IntoIter;
+
+    ghost into_iter_gives = { λ dictionary iter. (iter ≡ pairs_of dictionary)
+        × ShowsInOrder (shown_owned_pair {V = V}) × ShowsValuesInOrder (shown_owned_pair {V = V})
+        × IsDistinct bytes_eq (keys_of (pairs_of dictionary)) };
+
+    fn into_iter(self) -> IntoIter {
+        let Dictionary { pairs } = self;
+        IntoIter {
+            pairs: pairs.into_inner().into_pairs(),
+        }
     }
 }
 

@@ -6,11 +6,13 @@
 //! allocated.
 
 ghost use Rattle.std.specs.Prelude.{◌≡◌, ◌-◌};
-ghost use Rattle.plist_base.specs.Trees.{Dictionary};
-ghost use Rattle.plist.specs.inner.DeferredPairs.{Compares, ComparesItems, ComparesPairs, ComparesValues, PutsOff, TakesLast, are_same, same_values, waiting};
-ghost use Rattle.plist.specs.Dictionaries.{pairs_of};
+ghost use Rattle.std.specs.Cmp.{partial_equiv_from_equiv};
+ghost use Rattle.std.proofs.lemmas.Cmp.{on_equiv};
+ghost use Rattle.plist.specs.inner.DeferredPairs.{Compares, ComparesItems, ComparesPairs, PutsOff, TakesLast, are_same, same_values, same_values_at, waiting};
+ghost use Rattle.plist.specs.ValueTrees.{pairs_of, tree_of};
+ghost use Rattle.plist_pairs.proofs.PairsSame.{same_pairs_equiv};
+ghost use Rattle.plist_pairs.proofs.TreeEquality.{same_by_equiv};
 ghost use Rattle.plist_pairs.specs.TreeEquality.{same};
-ghost use Rattle.plist.specs.ValueTrees.{tree_of};
 ghost use Rattle.plist.specs.inner.Weights.{weight};
 
 use crate::{Dictionary, Value};
@@ -24,9 +26,6 @@ const LEVELS: u32 = 128;
 /// A comparison of values of at most 128 levels allocates no memory. If an allocation for deeper
 /// values fails, it recurses instead.
 impl PartialEq for Value {
-    ghost use Rattle.std.specs.Cmp.{partial_equiv_from_equiv};
-    ghost use Rattle.plist_pairs.proofs.TreeEquality.{same_by_equiv};
-
     ghost eq = { λ a b. same (tree_of a) (tree_of b) };
 
     ghost laws = { partial_equiv_from_equiv (same_by_equiv tree_of) };
@@ -42,20 +41,12 @@ impl PartialEq for Value {
 }
 
 impl Eq for Value {
-    ghost use Rattle.plist_pairs.proofs.TreeEquality.{same_by_equiv};
-
     ghost laws = { same_by_equiv tree_of };
 }
 
 /// Dictionaries are equal if they have the same keys, with equal values. The order of the pairs
 /// doesn't matter.
 impl PartialEq for Dictionary {
-    ghost use Rattle.std.specs.Cmp.{partial_equiv_from_equiv};
-    ghost use Rattle.std.proofs.lemmas.Cmp.{on_equiv};
-    ghost use Rattle.plist_pairs.proofs.PairsSame.{same_pairs_equiv};
-    ghost use Rattle.plist_pairs.proofs.TreeEquality.{same_by_equiv};
-    ghost use Rattle.plist.specs.inner.DeferredPairs.{same_values_at};
-
     ghost eq = { λ a b. same_values_at (pairs_of a) (pairs_of b) };
 
     ghost laws = { partial_equiv_from_equiv
@@ -74,10 +65,6 @@ impl PartialEq for Dictionary {
 }
 
 impl Eq for Dictionary {
-    ghost use Rattle.std.proofs.lemmas.Cmp.{on_equiv};
-    ghost use Rattle.plist_pairs.proofs.PairsSame.{same_pairs_equiv};
-    ghost use Rattle.plist_pairs.proofs.TreeEquality.{same_by_equiv};
-
     ghost laws = { on_equiv pairs_of (same_pairs_equiv (same_by_equiv tree_of)) };
 }
 
@@ -125,8 +112,10 @@ impl<'a> DeferredPairs<'a> {
     fn defer(&mut self, value: &'a Value, other: &'a Value) -> bool
         ensures { PutsOff value.now other.now self.old result self.new }
     {
-        let Some(alloc) = value.allocator() else {
-            return false;
+        let alloc = match value {
+            Value::Array(items) => *items.allocator(),
+            Value::Dictionary(pairs) => pairs.allocator(),
+            _ => return false,
         };
         let mut pairs = match self.pairs.take() {
             Some(pairs) => pairs,
@@ -140,7 +129,8 @@ impl<'a> DeferredPairs<'a> {
     // Returns whether two values are equal, apart from the pairs that it defers.
     #[cycle(same)]
     fn compare(&mut self, value: &'a Value, other: &'a Value, levels: u32) -> bool
-        ensures { ComparesValues value.now other.now self.old result self.new }
+        ensures { Compares (same_values value.now other.now) (weight value.now) self.old result
+            self.new }
     {
         if levels > 0 {
             return self.compare_content(value, other, levels - 1);

@@ -7,9 +7,8 @@ ghost use Rattle.plist_base.specs.Outcomes.{IfFault, OnlyDevice};
 ghost use Rattle.plist_base.specs.Sources.{failures_of};
 ghost use Rattle.plist.specs.Collecting.{built_tree};
 ghost use Rattle.plist.specs.LimitedValues.{IsWithinBudget, IsWithinLimits};
-ghost use Rattle.plist.specs.Outputs.{WritesFirst, contents_of};
+ghost use Rattle.plist.specs.SendingValues.{contents_of, IsUnstored, SendsValue, WritesFirst};
 ghost use Rattle.plist.specs.FromReader.{IsReadFromFile, IsReadFromFileWithin, IsReadFromFileWithinBudget, IsFileFault};
-ghost use Rattle.plist.specs.SendingValues.{IsUnstored, SendsValue};
 ghost use Rattle.plist.specs.ValueTrees.{tree_of};
 
 use crate::Value;

@@ -26,7 +26,7 @@ impl Model for OpenArrays {
     ghost use Rattle.std.specs.Coded.{coded_list};
     ghost use Rattle.plist.specs.declared.value.Value.{Value as V};
     ghost use Rattle.plist.specs.contracts.value.Value as value;
-    ghost use Rattle.plist.specs.OpenArrays.{AreStarts, items_by_array};
+    ghost use Rattle.plist.specs.OpenCollections.{AreStarts, items_by_array};
 
     ghost Value = { List (List V) };
 
@@ -36,20 +36,6 @@ impl Model for OpenArrays {
 
     ghost invariant = { λ arrays. AreStarts (reverse arrays.starts)
         (length arrays.items.items) };
-}
-
-// Removes and returns the items from an index on. If these are all items, their memory moves, too,
-// so that they aren't copied.
-fn split_off(alloc: Global, items: &mut Vec<Value>, start: usize) -> Result<Vec<Value>, AllocError>
-    requires { start ≤ length items.old.items }
-    ensures split { IfOk result (λ last. last.items ≡ drop start items.old.items) }
-    ensures kept { OnOk result (items.new.items ≡ take start items.old.items) }
-    ensures unchanged { OnErr result (items.new.items ≡ items.old.items) }
-{
-    if start == 0 {
-        return Ok(mem::replace(items, Vec::new(alloc)));
-    }
-    items.split_off(start)
 }
 
 impl OpenArrays {
@@ -97,7 +83,12 @@ impl OpenArrays {
         let Some(start) = self.starts.last() else {
             return Ok(Vec::new(alloc));
         };
-        let items = split_off(alloc, &mut self.items, start)?;
+        if start == 0 {
+            // These are all items. Their memory moves, too, so that they aren't copied.
+            self.starts.pop();
+            return Ok(mem::replace(&mut self.items, Vec::new(alloc)));
+        }
+        let items = self.items.split_off(start)?;
         self.starts.pop();
         Ok(items)
     }

@@ -131,17 +131,16 @@ impl OpenCollections {
         self.levels.is_empty()
     }
 
-    /// Returns what is expected in the innermost collection, or `None` if none is open.
-    pub(crate) fn expect(&self) -> Option<Expect>
+    /// Returns what is expected in the innermost collection, or a value if none is open.
+    pub(crate) fn expect(&self) -> Expect
         ensures { result ≡ expected_in self.now }
     {
         match self.levels.last() {
-            None => None,
-            Some(Level::Array) => Some(Expect::Items),
+            None => Expect::OneValue,
+            Some(Level::Array) => Expect::Items,
             Some(Level::Dictionary) => match self.dictionaries.last() {
-                None => None,
-                Some(OpenDictionary { key: None, .. }) => Some(Expect::Pairs),
-                Some(OpenDictionary { key: Some(_), .. }) => Some(Expect::OneValue),
+                Some(OpenDictionary { key: None, .. }) => Expect::Pairs,
+                Some(OpenDictionary { key: Some(_), .. }) | None => Expect::OneValue,
             },
         }
     }
@@ -173,7 +172,7 @@ impl OpenCollections {
     /// Adds a key to the innermost collection, which is a dictionary in which a key may be next.
     #[tactic(auto, using(crate::proofs::OpenLevels::open_levels))]
     pub(crate) fn add_key(&mut self, key: String)
-        requires { expected_in self.old ≡ Some Expect.Pairs }
+        requires { expected_in self.old ≡ Expect.Pairs }
         ensures { TakesKey self.old (string_bytes key) self.new }
     {
         add_key(&mut self.dictionaries, key);

@@ -79,20 +79,6 @@ fn kind_expected(expect: Expect) -> EventKind
     }
 }
 
-// Returns why an event isn't what is expected, or `None` if it is.
-fn refusal_of(expect: Expect, event: &Event<'_>) -> Option<AddError>
-    ensures { option_map kind_of_add_error result ≡ refusal_of expect (event_of event.now) }
-{
-    match expect.change_by(event) {
-        Transition::Refused => Some(AddError::Unexpected {
-            expected: kind_expected(expect),
-            found: EventKind::of_event(event),
-        }),
-        Transition::Closed | Transition::Kept | Transition::Pushed(_) | Transition::Replaced(_) =>
-            None,
-    }
-}
-
 impl UnfinishedValue {
     /// Creates an unfinished value without events.
     pub(crate) fn new(alloc: Global) -> UnfinishedValue
@@ -115,6 +101,7 @@ impl UnfinishedValue {
     }
 
     /// Returns why an event can't follow the preceding ones, or `None` if it can.
+    #[tactic(auto, using(crate::proofs::OpenLevels::open_levels))]
     pub(crate) fn refusal(&self, event: &Event<'_>) -> Option<AddError>
         ensures { option_map kind_of_add_error result
             ≡ refusal_at (unfinished_of self.now) (event_of event.now) }
@@ -124,9 +111,16 @@ impl UnfinishedValue {
                 found: EventKind::of_event(event),
             });
         }
-        match self.collections.expect() {
-            Some(expect) => refusal_of(expect, event),
-            None => refusal_of(Expect::OneValue, event),
+        let expect = self.collections.expect();
+        match expect.change_by(event) {
+            Transition::Refused => Some(AddError::Unexpected {
+                expected: kind_expected(expect),
+                found: EventKind::of_event(event),
+            }),
+            Transition::Closed
+            | Transition::Kept
+            | Transition::Pushed(_)
+            | Transition::Replaced(_) => None,
         }
     }
 
@@ -143,33 +137,6 @@ impl UnfinishedValue {
         self.collections.add(value)
     }
 
-    // Ends the innermost collection, and adds it as a complete value.
-    fn end(&mut self, alloc: Global) -> Result<(), AllocError>
-        requires order { refusal_at (unfinished_of self.old) events.EndCollection ≡ None }
-        requires root { self.old.root ≡ None }
-        ensures { OnOk result (AddsEvent self.old events.EndCollection self.new) }
-    {
-        match self.collections.close(alloc)? {
-            None => Ok(()),
-            Some(value) => self.add(value),
-        }
-    }
-
-    // Adds a string, as a key or as a value.
-    fn add_text(&mut self, text: String) -> Result<(), AllocError>
-        requires { self.old.root ≡ None }
-        ensures { OnOk result (AddsEvent self.old
-            (events.ScalarEvent (trees.String (string_bytes text))) self.new) }
-    {
-        match self.collections.expect() {
-            Some(Expect::Pairs) => {
-                self.collections.add_key(text);
-                Ok(())
-            }
-            Some(Expect::OneValue | Expect::Items) | None => self.add(Value::String(text)),
-        }
-    }
-
     /// Adds an event that can follow the preceding ones.
     ///
     /// After a failure the contents are unspecified.
@@ -180,13 +147,25 @@ impl UnfinishedValue {
         match event {
             Event::StartArray(_) => self.collections.open_array(),
             Event::StartDictionary(_) => self.collections.open_dictionary(alloc),
-            Event::EndCollection => self.end(alloc),
+            Event::EndCollection => match self.collections.close(alloc)? {
+                None => Ok(()),
+                Some(value) => self.add(value),
+            },
             Event::Boolean(value) => self.add(Value::Boolean(value)),
             Event::Data(bytes) => self.add(Value::Data(bytes.into_owned(alloc)?)),
             Event::Date(date) => self.add(Value::Date(date)),
             Event::Integer(value) => self.add(Value::Integer(value)),
             Event::Real(bits) => self.add(Value::Real(bits)),
-            Event::String(text) => self.add_text(text.into_owned(alloc)?),
+            Event::String(text) => {
+                let text = text.into_owned(alloc)?;
+                match self.collections.expect() {
+                    Expect::Pairs => {
+                        self.collections.add_key(text);
+                        Ok(())
+                    }
+                    Expect::OneValue | Expect::Items => self.add(Value::String(text)),
+                }
+            }
             Event::Uid(uid) => self.add(Value::Uid(uid)),
         }
     }

@@ -6,7 +6,7 @@ ghost use Rattle.plist.specs.SendingValues.{SendsValue};
 ghost use Rattle.plist.specs.Collecting.{built_tree};
 ghost use Rattle.plist.specs.Accessors.{array_in, data_in, dictionary_in, text_in};
 ghost use Rattle.plist.specs.ValueOfItems.{AnswersIterable, CollectsIterable, ReadsBackIn, ReadsItems, DetermineTrees};
-ghost use Rattle.plist_pairs.specs.Bulk.{IterableEnds};
+ghost use Rattle.std.specs.Iterator.{IsFiniteIterable};
 ghost use Rattle.plist.specs.FromReader.{IsReadInDialect, IsReadWithin, IsReadWithinBudget, IsReadAsAscii, IsAsciiReadingFault, IsReadingFault, NeverFails, NeverFailsReading, budgeted_input};
 ghost use Rattle.plist_decode.specs.declared.format.Format.TheVariants.{Ascii};
 ghost use Rattle.plist_base.specs.Limits.{limited_items};
@@ -17,8 +17,7 @@ ghost use Rattle.plist_base.specs.Trees.{Leaf, String};
 ghost use Rattle.plist.specs.LastWins.{AreLastValues, TreePairs, last_values, last_wins};
 ghost use Rattle.plist.specs.LimitedValues.{IsWithinBudget, IsWithinLimits};
 ghost use Rattle.plist.specs.Events.{remaining_events};
-ghost use Rattle.plist.specs.Dictionaries.{pairs_of};
-ghost use Rattle.plist.specs.ValueTrees.{item_trees, kind_of_tree, pair_trees, tree_of};
+ghost use Rattle.plist.specs.ValueTrees.{item_trees, kind_of_tree, pair_trees, pairs_of, tree_of};
 
 mod accessors;
 mod dropping;
@@ -80,13 +79,11 @@ impl Value {
         ensures value { option_map (λ a. item_trees a.items) result ≡ array_in (tree_of self) }
         ensures made { IfSome result (λ items. self ≡ made.Array items) }
     {
-        match self {
-            Value::Array(array) => Some(array),
-            other => {
-                other.destroy();
-                None
-            }
-        }
+        let Value::Array(array) = self else {
+            self.destroy();
+            return None;
+        };
+        Some(array)
     }
 
     /// Returns the dictionary, or `None` if the value isn't one.
@@ -104,13 +101,11 @@ impl Value {
             ≡ dictionary_in (tree_of self) }
         ensures made { IfSome result (λ pairs. self ≡ made.Dictionary pairs) }
     {
-        match self {
-            Value::Dictionary(pairs) => Some(pairs),
-            other => {
-                other.destroy();
-                None
-            }
-        }
+        let Value::Dictionary(pairs) = self else {
+            self.destroy();
+            return None;
+        };
+        Some(pairs)
     }
 
     /// Returns the bytes of data, or `None` if the value isn't data.
@@ -125,13 +120,11 @@ impl Value {
         ensures value { option_map (λ bytes. bytes.items) result ≡ data_in (tree_of self) }
         ensures made { IfSome result (λ bytes. self ≡ made.Data bytes) }
     {
-        match self {
-            Value::Data(bytes) => Some(bytes),
-            other => {
-                other.destroy();
-                None
-            }
-        }
+        let Value::Data(bytes) = self else {
+            self.destroy();
+            return None;
+        };
+        Some(bytes)
     }
 
     /// Returns the string, or `None` if the value isn't one.
@@ -145,13 +138,11 @@ impl Value {
         ensures value { option_map string_bytes result ≡ text_in (tree_of self) }
         ensures made { IfSome result (λ text. self ≡ made.String text) }
     {
-        match self {
-            Value::String(text) => Some(text),
-            other => {
-                other.destroy();
-                None
-            }
-        }
+        let Value::String(text) = self else {
+            self.destroy();
+            return None;
+        };
+        Some(text)
     }
 
     /// Returns an iterator over the events of the value, depth first.
@@ -194,7 +185,7 @@ impl Value {
         alloc: Global,
         events: I,
     ) -> Result<Value, Error>
-        requires asked { IterableEnds I.into_iter_gives I.IntoIter.can_next I.IntoIter.remaining
+        requires asked { IsFiniteIterable I.into_iter_gives I.IntoIter.can_next I.IntoIter.remaining
             events }
         // Result.
         ensures value { CollectsIterable I.into_iter_gives E.plain I.IntoIter.next_gives events
@@ -249,8 +240,7 @@ impl Value {
         ensures read { IsReadInDialect Dialect.Lax R.known R.failures source
             (built_tree result) }
         ensures fault { IfFault result (IsReadingFault false) }
-        ensures never_io { NeverFails R.failures
-            → IfFault result (λ fault. IsNotIo fault.kind) }
+        ensures never_io { NeverFails R.failures → IfFault result (λ fault. IsNotIo fault.kind) }
         ensures reads_back { ReadsBackIn (R.known source) (built_tree result) }
     {
         Value::from_reader_with_dialect(alloc, source, Dialect::Lax)
@@ -276,8 +266,7 @@ impl Value {
         ensures value { ReadsItems (items_of_dialect dialect) (R.known source) result }
         ensures read { IsReadInDialect dialect R.known R.failures source (built_tree result) }
         ensures fault { IfFault result (IsReadingFault false) }
-        ensures never_io { NeverFails R.failures
-            → IfFault result (λ fault. IsNotIo fault.kind) }
+        ensures never_io { NeverFails R.failures → IfFault result (λ fault. IsNotIo fault.kind) }
         ensures reads_back { ReadsBackIn (R.known source) (built_tree result) }
     {
         let mut reader = Reader::with_dialect(alloc, source, dialect);
@@ -319,8 +308,7 @@ impl Value {
             (R.known source) result }
         ensures read { IsReadWithin limits R.known R.failures source (built_tree result) }
         ensures fault { IfFault result (IsReadingFault true) }
-        ensures never_io { NeverFails R.failures
-            → IfFault result (λ fault. IsNotIo fault.kind) }
+        ensures never_io { NeverFails R.failures → IfFault result (λ fault. IsNotIo fault.kind) }
         ensures within { IfOk (built_tree result) (IsWithinLimits limits) }
     {
         let reader = Reader::new(alloc, source);
@@ -361,8 +349,7 @@ impl Value {
         ensures read { IsReadWithinBudget limits bytes R.known R.failures source
             (built_tree result) }
         ensures fault { IfFault result (IsReadingFault true) }
-        ensures never_io { NeverFails R.failures
-            → IfFault result (λ fault. IsNotIo fault.kind) }
+        ensures never_io { NeverFails R.failures → IfFault result (λ fault. IsNotIo fault.kind) }
         ensures within { IfOk (built_tree result) (IsWithinBudget limits bytes) }
     {
         let reader = Reader::new(alloc, source);

@@ -6,8 +6,7 @@ ghost use Rattle.std.specs.Option.{option_copied};
 ghost use Rattle.plist_base.specs.declared.error.EventKind.TheVariants as event_kind;
 ghost use Rattle.plist_base.specs.Trees.{Array, Dictionary as Pairs, NoMembers, NoTrees};
 ghost use Rattle.plist.specs.Accessors.{array_in, boolean_in, dictionary_in, text_in, uid_in};
-ghost use Rattle.plist.specs.Dictionaries.{pairs_of};
-ghost use Rattle.plist.specs.ValueTrees.{item_trees, kind_of_tree, pair_trees, tree_of};
+ghost use Rattle.plist.specs.ValueTrees.{item_trees, kind_of_tree, pair_trees, pairs_of, tree_of};
 
 use plist::{Dictionary, Value, kind_of_value};
 use plist_base::{Date, Error, EventKind, RealBits, Uid};

@@ -4,8 +4,8 @@
 ghost use Rattle.std.specs.Prelude.{◌≡◌, length, option_map, slice_get, Some};
 ghost use Rattle.std.specs.Map.Iter.{deref};
 ghost use Rattle.std.specs.Map.{keys_of, values_of};
-ghost use Rattle.plist.specs.Dictionaries.{pairs_of};
-ghost use Rattle.plist_pairs.specs.Shown.{shown_key, shown_owned_pair, shown_pair};
+ghost use Rattle.plist.specs.ValueTrees.{pairs_of};
+ghost use Rattle.plist_pairs.specs.Keys.{shown_key, shown_owned_pair, shown_pair};
 
 use plist::{Dictionary, Value};
 

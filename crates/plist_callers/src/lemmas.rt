@@ -9,13 +9,12 @@ ghost use Rattle.indexmap.specs.IndexMap.{insert_all};
 ghost use Rattle.plist_base.specs.Outcomes.{IfFault, OnlyMemory};
 ghost use Rattle.plist_base.specs.Trees.{Tree};
 ghost use Rattle.plist_base.specs.Unfolding.{items_of_file};
-ghost use Rattle.plist_pairs.specs.Shown.{shown_owned_pair};
+ghost use Rattle.plist_pairs.specs.Keys.{shown_owned_pair};
 ghost use Rattle.plist_pairs.specs.TreeEquality.{same, IsTransitive, DecidesScalars, DecidesDictionaries, same_members};
 ghost use Rattle.plist_reader.specs.Reader.{items_of_input};
 ghost use Rattle.plist.specs.Collecting.{built_tree};
-ghost use Rattle.plist.specs.Dictionaries.{pairs_of};
+ghost use Rattle.plist.specs.ValueTrees.{pair_trees, pairs_of, tree_of};
 ghost use Rattle.plist.specs.ValueOfItems.{IsReadBack, IsValueOf, ReadsItems};
-ghost use Rattle.plist.specs.ValueTrees.{pair_trees, tree_of};
 ghost use Rattle.plist.specs.WrittenEvents.{StopsWriter};
 ghost use Rattle.plist.specs.inner.DeferredPairs.{same_values_at};
 

@@ -2,7 +2,7 @@
 //! clause rules out.
 
 ghost use Rattle.std.specs.Prelude.{◌≡◌, ◌++◌, IfOk, IfSome, IsSome, OnOk, Some, take, true};
-ghost use Rattle.plist.specs.Outputs.{contents_of};
+ghost use Rattle.plist.specs.SendingValues.{contents_of};
 
 use plist::{ErrorKind, LazyFile, Value};
 use std::alloc::Global;

@@ -11,8 +11,7 @@ ghost use Rattle.plist.specs.Collecting.{built_tree};
 ghost use Rattle.plist.specs.ValueOfItems.{IsValueOf};
 ghost use Rattle.plist.specs.LimitedValues.{NestsWithin};
 ghost use Rattle.plist.specs.FromReader.{IsReadWithinBudget};
-ghost use Rattle.plist.specs.Dictionaries.{pairs_of};
-ghost use Rattle.plist.specs.ValueTrees.{tree_of, tree_pairs};
+ghost use Rattle.plist.specs.ValueTrees.{pairs_of, tree_of, tree_pairs};
 
 use crate::lemmas::are_equal;
 use plist::{Builder, Dialect, Dictionary, Limits, Value};

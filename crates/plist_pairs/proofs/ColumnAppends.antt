@@ -8,7 +8,7 @@ use Rattle.plist_pairs.proofs.EntrySteps.{comes_last, none_of}
 use Rattle.std.specs.Cmp.Lexicographic.{slice_cmp, nat_list_eq_equiv}
 use Rattle.std.proofs.lemmas.List.Sorted.{IsPermutation-map}
 use Rattle.indexmap.proofs.MapLemmas.{absent_before, distinct_permutation}
-use Rattle.plist_pairs.specs.Shown.{shown_owned_pair}
+use Rattle.plist_pairs.specs.Keys.{shown_owned_pair}
 use Rattle.plist_pairs.proofs.DistinctKeys.{first-distinct}
 
 abbrev pub has : List Text → Text → Bool

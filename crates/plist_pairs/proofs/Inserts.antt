@@ -7,8 +7,8 @@ use Rattle.indexmap.specs.IndexMap.{insert_all, insert_entry}
 use Rattle.indexmap.proofs.CallerLemmas.{Drains-YieldsInOrder}
 use Rattle.indexmap.proofs.MapLemmas.{insert_all_push}
 use Rattle.plist_base.specs.declared.error.Error.{Error}
-use Rattle.plist_pairs.specs.Bulk.{ExtendsBy, IsMadeOf}
-use Rattle.plist_pairs.specs.Shown.{shown_owned_pair}
+use Rattle.plist_pairs.specs.Bulk.{ExtendsBy}
+use Rattle.plist_pairs.specs.Keys.{shown_owned_pair}
 
 module _ {V : Type 0} where
   -- one more pair is inserted
@@ -38,6 +38,6 @@ module _ {V I : Type 0} (gives : I → Option (String Global × V) → I → Typ
   list-added old (Ok done) new ran = ran.2 ∙ all-taken old _ ran.1
   list-added old (Err error) new ran = tt
 
-  pub list-made : (made : List (List ℕ × V)) → IsMadeOf gives iter made
+  pub list-made : (made : List (List ℕ × V)) → ExtendsBy gives iter [] (Ok tt) made
       → made ≡ insert_all bytes_eq [] (map shown_owned_pair list)
   list-made made ran = ran.2 ∙ all-taken [] _ ran.1

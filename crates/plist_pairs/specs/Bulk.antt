@@ -1,13 +1,12 @@
 -- The effects of calls that insert or keep many pairs.
 use Rattle.std.specs.Prelude.{◌≡◌, ℕ, ◌++◌, ◌∷◌, [], Bool, List, Option, String, Result, Ok, Err, map, string_bytes, bytes_eq}
 use Rattle.std.specs.Borrow.{Bor}
-use Rattle.std.specs.Iterator.{Count, Drains, IsFiniteIterable, Yields}
+use Rattle.std.specs.Iterator.{Drains, Yields}
 use Rattle.std.specs.List.{AllZip, items_where_true}
 use Rattle.std.specs.declared.alloc.Global.{Global}
 use denote.Param.Members.{Shared}
 use Rattle.indexmap.specs.IndexMap.{insert_all}
-use Rattle.plist_pairs.specs.Keys.{IsAbsent}
-use Rattle.plist_pairs.specs.Shown.{shown_owned_pair}
+use Rattle.plist_pairs.specs.Keys.{IsAbsent, shown_owned_pair}
 use Rattle.plist_base.specs.declared.error.Error.{Error}
 
 -- pairs as contracts see them, with each key as its bytes
@@ -41,25 +40,9 @@ module _ {I V : Type 0} (next_gives : I → Option (String Global × V) → I �
       × (new ≡ insert_all bytes_eq old (map shown_owned_pair taken))
       × IsAbsent (string_bytes refused.0) new
 
-  -- these are all pairs of the iterator, inserted in turn
-  abbrev pub IsMadeOf : Rows V → Type 0
-  IsMadeOf made =
-      (taken : List (String Global × V)) × Drains next_gives iter taken
-      × (made ≡ insert_all bytes_eq [] (map shown_owned_pair taken))
-
 module _ {I J V : Type 0} (becomes : J → I → Type 0)
     (next_gives : I → Option (String Global × V) → I → Type 0) (made : J) where
   -- `ExtendsBy` is true of an iterator that `into_iter` of the value returns
   abbrev pub ExtendsByIterable : Rows V → Result (Unit {0}) Error → Rows V → Type 0
   ExtendsByIterable old answer new =
       (iter : I) × becomes made iter × ExtendsBy next_gives iter old answer new
-
-  -- `IsMadeOf` is true of an iterator that `into_iter` of the value returns
-  abbrev pub IsMadeOfIterable : Rows V → Type 0
-  IsMadeOfIterable pairs = (iter : I) × becomes made iter × IsMadeOf next_gives iter pairs
-
--- each iterator that `into_iter` of the value returns can be called, and ends after finitely many
--- items
-abbrev pub IterableEnds : {J I : Type 0} → (becomes : J → I → Type 0) → (can_next : I → Type 0)
-    → (remaining : I → Count) → J → Type 0
-IterableEnds becomes can_next remaining made = IsFiniteIterable becomes can_next remaining made

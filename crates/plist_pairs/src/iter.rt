@@ -1,12 +1,11 @@
 //! The iterators over a dictionary. Contracts see an iterator as the list of its remaining items,
 //! in which a key is its bytes.
 
-ghost use Rattle.std.specs.Prelude.{◌≡◌, length, Some, IfSome, map, string_bytes};
-ghost use Rattle.std.specs.Iterator.{at_most, UpTo};
-ghost use Rattle.std.specs.Iterator.SizeHint.{IsWithinCount};
+ghost use Rattle.std.specs.Prelude.{◌≡◌, length, map, string_bytes};
+ghost use Rattle.std.specs.Iterator.{at_most};
 ghost use Rattle.std.specs.List.{zip};
 ghost use Rattle.std.specs.Map.Iter.{TakesFirst, deref};
-ghost use Rattle.plist_pairs.specs.Shown.{shown_key, shown_pair, shown_owned_pair};
+ghost use Rattle.plist_pairs.specs.Keys.{HintsExactly, shown_key, shown_pair, shown_owned_pair};
 
 use indexmap::{IndexSet, set};
 use std::marker::Model;
@@ -59,9 +58,7 @@ impl<'a, V> Iterator for Iter<'a, V> {
     }
 
     fn size_hint(&self) -> (usize, Option<usize>)
-        ensures lower { IsWithinCount result.0 (at_most (length self.now)) }
-        ensures upper { IfSome result.1 (UpTo (at_most (length self.now))) }
-        ensures exact { result ≡ (length self.now, Some (length self.now)) }
+        ensures { HintsExactly (length self.now) result }
     {
         let pairs = self.len();
         (pairs, Some(pairs))
@@ -113,9 +110,7 @@ impl<'a> Iterator for Keys<'a> {
     }
 
     fn size_hint(&self) -> (usize, Option<usize>)
-        ensures lower { IsWithinCount result.0 (at_most (length self.now)) }
-        ensures upper { IfSome result.1 (UpTo (at_most (length self.now))) }
-        ensures exact { result ≡ (length self.now, Some (length self.now)) }
+        ensures { HintsExactly (length self.now) result }
     {
         let keys = self.len();
         (keys, Some(keys))
@@ -165,9 +160,7 @@ impl<'a, V> Iterator for Values<'a, V> {
     }
 
     fn size_hint(&self) -> (usize, Option<usize>)
-        ensures lower { IsWithinCount result.0 (at_most (length self.now)) }
-        ensures upper { IfSome result.1 (UpTo (at_most (length self.now))) }
-        ensures exact { result ≡ (length self.now, Some (length self.now)) }
+        ensures { HintsExactly (length self.now) result }
     {
         let values = self.len();
         (values, Some(values))
@@ -227,9 +220,7 @@ impl<V: Drop> Iterator for IntoIter<V> {
     }
 
     fn size_hint(&self) -> (usize, Option<usize>)
-        ensures lower { IsWithinCount result.0 (at_most (length self.now)) }
-        ensures upper { IfSome result.1 (UpTo (at_most (length self.now))) }
-        ensures exact { result ≡ (length self.now, Some (length self.now)) }
+        ensures { HintsExactly (length self.now) result }
     {
         let left = self.len();
         (left, Some(left))

@@ -9,9 +9,8 @@ use Rattle.plist_uses.specs.declared.settings.SettingsError.TheVariants as setti
 use Rattle.plist_binwrite.specs.Files.{IsFileOf}
 use Rattle.plist.specs.declared.value.Value.{Value}
 use Rattle.plist.specs.Accessors.{dictionary_in, text_in}
-use Rattle.plist.specs.Dictionaries.{pairs_of}
+use Rattle.plist.specs.ValueTrees.{pair_trees, pairs_of, tree_of}
 use Rattle.plist.specs.ValueOfItems.{IsValueOf}
-use Rattle.plist.specs.ValueTrees.{pair_trees, tree_of}
 use Rattle.plist_reader.specs.Reader.{items_of_input}
 use Rattle.plist_uses.specs.declared.settings.Settings.{Settings}
 

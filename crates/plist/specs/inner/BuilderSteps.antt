@@ -5,10 +5,6 @@ use Rattle.plist_base.specs.Trees.{Tree, Leaf, Array, Dictionary, String, trees_
 use Rattle.plist.specs.LastWins.{TreePairs}
 use Rattle.plist.specs.Building.{OpenCollection, InArray, InDictionary, AfterKey, Unfinished, NotBegun, Within, Complete}
 
--- a pair is appended, whatever its key
-abbrev pub and_pair : TreePairs → (key : List ℕ) → Tree → TreePairs
-and_pair rows key tree = rows ++ (key, tree) ∷ []
-
 -- `add` is how a pair is added to those before it
 module _ (add : TreePairs → List ℕ → Tree → TreePairs) where
   -- the unfinished tree after a tree is completed inside these collections

@@ -3,27 +3,27 @@ use Rattle.std.specs.Prelude.{◌≡◌, ℕ, List, [], ◌∷◌, ◌++◌, Opt
 use Rattle.std.specs.declared.alloc.Global.{Global}
 use Rattle.plist_base.specs.Events.{ScalarEvent}
 use Rattle.plist_buffer.specs.declared.expects.Expect.{Expect}
+use Rattle.plist_buffer.specs.declared.expects.Expect.TheVariants.{OneValue}
 use Rattle.plist_base.specs.Trees.{Tree, Array, trees_of, members_of}
 use Rattle.plist_base.specs.Trees as tree
 use Rattle.plist.specs.declared.dictionary.Dictionary.{Dictionary}
 use Rattle.plist.specs.declared.open_collections.OpenDictionary.{OpenDictionary}
 use Rattle.plist.specs.declared.value.Value.{Value}
 use Rattle.plist.specs.Building.{OpenCollection, InArray, InDictionary, AfterKey, expected_within}
-use Rattle.plist.specs.Dictionaries.{pairs_of}
+use Rattle.plist.specs.ValueTrees.{pairs_of, tree_of, tree_pairs}
 use Rattle.plist.specs.LastWins.{last_values, with_pair}
 use Rattle.plist.specs.OpenCollections.{Contents, Items, Pairs, open_dictionary, open_of, within}
 use Rattle.plist.specs.inner.BuilderSteps.{and_event}
-use Rattle.plist.specs.ValueTrees.{tree_of, tree_pairs}
 
 -- the arrays after an item is appended to the innermost one
 abbrev pub with_item : List (List Value) → Value → List (List Value)
 with_item [] item = []
 with_item (items ∷ arrays) item = (items ++ item ∷ []) ∷ arrays
 
--- what is expected in the innermost collection, or `None` if none is open
-abbrev pub expected_in : List Contents → Option Expect
-expected_in [] = None
-expected_in (contents ∷ outer) = Some (expected_within (open_of contents))
+-- what is expected in the innermost collection, or a value if none is open
+abbrev pub expected_in : List Contents → Expect
+expected_in [] = OneValue
+expected_in (contents ∷ outer) = expected_within (open_of contents)
 
 -- the innermost dictionary is replaced
 abbrev pub ChangesInnermost : (old new : List OpenDictionary) → Type 0

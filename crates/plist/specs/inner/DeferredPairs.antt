@@ -1,7 +1,6 @@
 -- Pairs of values whose comparison is deferred.
-use Rattle.std.specs.Prelude.{◌≡◌, ◌≤◌, ℕ, ◌+◌, Bool, true, false, ◌&&◌, Option, None, Some, List, [], ◌∷◌, ◌++◌, MatchOption, drop, bytes_eq, Vec}
-use Rattle.std.specs.Map.{lookup, values_of}
-use Rattle.std.specs.Option.{option_eq}
+use Rattle.std.specs.Prelude.{◌≡◌, ◌≤◌, ℕ, ◌+◌, Bool, true, false, ◌&&◌, Option, None, Some, List, [], ◌∷◌, ◌++◌, MatchOption, Vec}
+use Rattle.std.specs.Map.{values_of}
 use Rattle.std.specs.declared.alloc.Global.{Global}
 use Rattle.plist.specs.declared.equal.DeferredPairs.{DeferredPairs}
 use Rattle.plist.specs.declared.equal.Pair.{Pair}
@@ -37,13 +36,6 @@ listed (Some pairs) = pairs.items
 abbrev pub waiting : DeferredPairs → List Pair
 waiting later = listed later.pairs
 
--- each key of these pairs has an equal value in the others
-abbrev pub are_covered : (pairs others : List (List ℕ × Value)) → Bool
-are_covered [] others = true
-are_covered (pair ∷ pairs) others =
-    option_eq same_values (Some pair.1) (lookup (bytes_eq pair.0) others)
-    && are_covered pairs others
-
 -- `answer` is true and all pairs deferred afterwards are equal, if and only if `equal` is true and
 -- all pairs deferred before are. At most `most` values were deferred.
 abbrev pub Compares : (equal : Bool) → (most : ℕ) → (before : DeferredPairs) → (answer : Bool)
@@ -73,32 +65,7 @@ ComparesPairs pairs others before answer after =
     Compares (same_members (pair_trees pairs) (pair_trees others)) (weights (values_of pairs))
     before answer after
 
--- the items from an index on, and the deferred pairs, decide whether the arrays are equal
-abbrev pub ItemsLeft : (items others : List Value) → (start : DeferredPairs) → (place : ℕ) → (now : DeferredPairs)
-    → Type 0
-ItemsLeft items others start place now =
-    (same_items (item_trees (drop place items)) (item_trees (drop place others))
-    && are_same (waiting now)
-    ≡ same_items (item_trees items) (item_trees others) && are_same (waiting start))
-    × (to_compare (waiting now) + weights (drop place items)
-    ≤ to_compare (waiting start) + weights items)
-
--- the pairs from an index on, and the deferred pairs, decide whether the dictionaries are equal
-abbrev pub PairsLeft : (pairs others : List (List ℕ × Value)) → (start : DeferredPairs) → (place : ℕ)
-    → (now : DeferredPairs) → Type 0
-PairsLeft pairs others start place now =
-    (are_covered (drop place pairs) others && are_same (waiting now)
-    ≡ are_covered pairs others && are_same (waiting start))
-    × (to_compare (waiting now) + weights (values_of (drop place pairs))
-    ≤ to_compare (waiting start) + weights (values_of pairs))
-
 -- the pair that was deferred last is taken, or no pair is deferred
 abbrev pub TakesLast : (before : DeferredPairs) → Option Pair → (after : DeferredPairs) → Type 0
 TakesLast before found after = MatchOption found (waiting before ≡ [])
     (λ pair. waiting before ≡ waiting after ++ pair ∷ [])
-
--- two values are compared, or deferred themselves
-abbrev pub ComparesValues : (value other : Value) → (before : DeferredPairs) → (answer : Bool)
-    → (after : DeferredPairs) → Type 0
-ComparesValues value other before answer after =
-    Compares (same_values value other) (weight value) before answer after

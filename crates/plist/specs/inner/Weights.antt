@@ -1,5 +1,5 @@
 -- How many values have to be dropped.
-use Rattle.std.specs.Prelude.{◌≡◌, ◌<◌, ◌≤◌, ◌⊎◌, ℕ, ◌+◌, ◌*◌, List, [], ◌∷◌, map, sum, length, Option, MatchOption, Vec}
+use Rattle.std.specs.Prelude.{◌≡◌, ◌<◌, ◌≤◌, ◌⊎◌, ℕ, ◌+◌, List, [], ◌∷◌, map, sum, length, Option, MatchOption, Vec}
 use Rattle.std.specs.declared.alloc.Global.{Global}
 use Rattle.std.specs.Map.{values_of}
 use Rattle.plist.specs.declared.value.Value.{Value, fold-Value}
@@ -27,11 +27,6 @@ weights values = sum (map weight values)
 abbrev pub others : List Value → List Value
 others [] = []
 others (value ∷ values) = values
-
--- A number that decreases as values are dropped: either there are fewer values, or there are as
--- many and fewer of them follow the first.
-abbrev pub to_drop : List Value → ℕ
-to_drop values = weights values * weights values + weights (others values)
 
 -- `joined` has the values of `left` and those of `below`, the content of a collection. It has fewer
 -- values than `left`, the collection and `below` have together; or it has as many, and those after

@@ -1,14 +1,14 @@
 //! Calls that insert, keep, sort or copy many pairs.
 
-ghost use Rattle.std.specs.Prelude.{◌≡◌, IfOk, OnErr, OnOk, IsPermutation, IsSorted, string_bytes};
+ghost use Rattle.std.specs.Prelude.{◌≡◌, [], IfOk, Ok, OnErr, OnOk, IsPermutation, IsSorted, string_bytes};
+ghost use Rattle.std.specs.Iterator.{IsFiniteIterable};
 ghost use Rattle.std.specs.Cmp.Lexicographic.{slice_cmp};
 ghost use Rattle.std.specs.Ordering.{nat_cmp};
 ghost use Rattle.std.specs.Map.{keys_of};
 ghost use Rattle.plist_base.specs.Outcomes.{OnlyMemory};
-ghost use Rattle.plist_pairs.specs.Bulk.{ExtendsByIterable, IterableEnds, IsMadeOfIterable, Retains};
+ghost use Rattle.plist_pairs.specs.Bulk.{ExtendsByIterable, Retains};
 ghost use Rattle.plist_pairs.specs.Keys.{IsAbsent, IsSetAt};
-ghost use Rattle.plist.specs.Dictionaries.{pairs_of};
-ghost use Rattle.plist.specs.ValueTrees.{tree_pairs};
+ghost use Rattle.plist.specs.ValueTrees.{pairs_of, tree_pairs};
 
 use crate::{Dictionary, Value};
 use plist_base::Error;
@@ -68,7 +68,7 @@ impl Dictionary {
     /// Ok(settings.len())
     /// ```
     pub fn extend<I: IntoIterator<Item = (String, Value)>>(&mut self, more: I) -> Result<(), Error>
-        requires asked { IterableEnds I.into_iter_gives I.IntoIter.can_next I.IntoIter.remaining
+        requires asked { IsFiniteIterable I.into_iter_gives I.IntoIter.can_next I.IntoIter.remaining
             more }
         ensures pairs { ExtendsByIterable I.into_iter_gives I.IntoIter.next_gives more
             (pairs_of self.old) result (pairs_of self.new) }
@@ -97,10 +97,10 @@ impl Dictionary {
         alloc: Global,
         pairs: I,
     ) -> Result<Dictionary, Error>
-        requires asked { IterableEnds I.into_iter_gives I.IntoIter.can_next I.IntoIter.remaining
+        requires asked { IsFiniteIterable I.into_iter_gives I.IntoIter.can_next I.IntoIter.remaining
             pairs }
         ensures pairs { IfOk result (λ made.
-            IsMadeOfIterable I.into_iter_gives I.IntoIter.next_gives pairs (pairs_of made)) }
+            ExtendsByIterable I.into_iter_gives I.IntoIter.next_gives pairs [] (Ok tt) (pairs_of made)) }
         ensures memory { OnlyMemory result }
     {
         let mut made = Dictionary::new(alloc);

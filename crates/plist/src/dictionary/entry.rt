@@ -5,7 +5,7 @@
 ghost use Rattle.std.specs.Prelude.{◌≡◌, ◌<◌, false, length, None, Some, IfErr, IfOk, OnErr, is_some, string_bytes, unwrap_or};
 ghost use Rattle.std.specs.Str.{bytes_eq};
 ghost use Rattle.std.specs.Map.{lookup};
-ghost use Rattle.plist.specs.Dictionaries.{pairs_of};
+ghost use Rattle.plist.specs.ValueTrees.{pairs_of};
 
 use crate::{Dictionary, Value};
 use std::mem;
@@ -81,7 +81,7 @@ impl<'a> OccupiedEntry<'a> {
     pub fn key(&self) -> &String
         ensures { entry_key (Occupied self.now) ≡ Some (string_bytes result.now) }
     {
-        self.pairs.key_at(self.at)
+        self.pairs.pairs.as_ref().unwrap().pair_at(self.at).0
     }
 
     /// Returns the key's value.

@@ -1,18 +1,17 @@
 //! The iterator over a dictionary by value. Contracts see the list of its remaining pairs.
 
-ghost use Rattle.std.specs.Prelude.{◌≡◌, length, Some, IfSome};
-ghost use Rattle.std.specs.Iterator.{at_most, UpTo};
-ghost use Rattle.std.specs.Iterator.SizeHint.{IsWithinCount};
+ghost use Rattle.std.specs.Prelude.{length};
+ghost use Rattle.std.specs.Iterator.{at_most};
 ghost use Rattle.std.specs.Map.Iter.{TakesFirst};
-ghost use Rattle.plist_pairs.specs.Shown.{shown_owned_pair};
+ghost use Rattle.plist_pairs.specs.Keys.{HintsExactly, shown_owned_pair};
 
-use crate::{Dictionary, Value};
+use crate::Value;
 use std::marker::Model;
 
 /// An iterator over the pairs by value, in their order. The remaining values are dropped without
 /// recursion.
 pub struct IntoIter {
-    pairs: plist_pairs::IntoIter<Value>,
+    pub(super) pairs: plist_pairs::IntoIter<Value>,
 }
 
 impl Model for IntoIter {
@@ -30,8 +29,7 @@ impl Model for IntoIter {
 
 impl Drop for IntoIter {
     fn drop(self) {
-        let IntoIter { pairs } = self;
-        let mut pairs = pairs;
+        let IntoIter { mut pairs } = self;
         while let Some((_key, value)) = pairs.next() {
             value.destroy();
         }
@@ -50,9 +48,7 @@ impl Iterator for IntoIter {
     }
 
     fn size_hint(&self) -> (usize, Option<usize>)
-        ensures lower { IsWithinCount result.0 (at_most (length self.now)) }
-        ensures upper { IfSome result.1 (UpTo (at_most (length self.now))) }
-        ensures exact { result ≡ (length self.now, Some (length self.now)) }
+        ensures { HintsExactly (length self.now) result }
     {
         self.pairs.size_hint()
     }
@@ -61,32 +57,5 @@ impl Iterator for IntoIter {
 impl ExactSizeIterator for IntoIter {
     fn len(&self) -> usize {
         self.pairs.len()
-    }
-}
-
-/// Iterates over the pairs by value, in their order.
-impl IntoIterator for Dictionary {
-    ghost use Rattle.std.specs.Prelude.{◌≡◌};
-    ghost use Rattle.std.specs.Str.{bytes_eq};
-    ghost use Rattle.std.specs.Map.{keys_of};
-    ghost use Rattle.std.specs.List.{IsDistinct};
-    ghost use Rattle.std.specs.Map.Iter.{ShowsInOrder, ShowsValuesInOrder};
-    ghost use Rattle.plist_pairs.specs.Shown.{shown_owned_pair};
-    ghost use Rattle.plist.specs.Dictionaries.{pairs_of};
-    ghost use Rattle.plist.specs.declared.value.Value.{Value as V};
-
-    type Item = (String, Value);
-
-    type IntoIter = IntoIter;
-
-    ghost into_iter_gives = { λ dictionary iter. (iter ≡ pairs_of dictionary)
-        × ShowsInOrder (shown_owned_pair {V = V}) × ShowsValuesInOrder (shown_owned_pair {V = V})
-        × IsDistinct bytes_eq (keys_of (pairs_of dictionary)) };
-
-    fn into_iter(self) -> IntoIter {
-        let Dictionary { pairs } = self;
-        IntoIter {
-            pairs: pairs.into_inner().into_pairs(),
-        }
     }
 }

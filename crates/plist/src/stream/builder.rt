@@ -3,9 +3,8 @@
 ghost use Rattle.std.specs.Prelude.{◌≡◌, IfErr, IfOk, None, Ok, OnErr, OnOk, Some, false, true};
 ghost use Rattle.plist_base.specs.Events.{event_of};
 ghost use Rattle.plist_base.specs.Outcomes.{IfFault};
-ghost use Rattle.plist_base.specs.Writing.{answer_of};
 ghost use Rattle.plist.specs.Building.{IsNested, IsNested-prop, IsUnfinished, nothing_built};
-ghost use Rattle.plist.specs.UnfinishedValues.{AddsEvent, answer_of_adding, fault_of_add_error, unfinished_of};
+ghost use Rattle.plist.specs.UnfinishedValues.{answer_of_adding, fault_of_add_error, unfinished_of};
 
 use crate::Value;
 use crate::unfinished::{AddError, UnfinishedValue};
@@ -61,8 +60,6 @@ impl Builder {
     pub(crate) fn add(&mut self, event: Event<'_>) -> Result<(), AddError>
         ensures step { IsBuildingStep self.old (event_of event.entry) (answer_of_adding result)
             self.new }
-        ensures added { OnOk result (AddsEvent self.old.unfinished (event_of event.entry)
-            self.new.unfinished) }
         ensures refused { (built_of self.old).failed ≡ false
             → IfErr result (λ rejection. RefusesOne (unfinished_of self.old.unfinished)
             (Ok (event_of event.entry)) (fault_of_add_error rejection)) }
@@ -81,20 +78,6 @@ impl Builder {
                 self.failed = true;
                 Err(AddError::OutOfMemory)
             }
-        }
-    }
-
-    // Adds an event, or returns the error that says why it isn't added.
-    pub(crate) fn take(&mut self, event: Event<'_>) -> Result<(), Error>
-        ensures step { IsBuildingStep self.old (event_of event.entry) (answer_of result) self.new }
-        ensures added { OnOk result (AddsEvent self.old.unfinished (event_of event.entry)
-            self.new.unfinished) }
-        ensures refused { (built_of self.old).failed ≡ false
-            → RefusesWith self.old (Ok (event_of event.entry)) result }
-    {
-        match self.add(event) {
-            Ok(()) => Ok(()),
-            Err(rejection) => Err(rejection.kind().without_position()),
         }
     }
 
@@ -167,8 +150,9 @@ impl<'a> AnyEvent for Event<'a> {
 
     ghost plain = { event_of };
 
+    #[tactic(auto, using(crate::proofs::StepLaws::write_refused))]
     fn write_to(self, builder: &mut Builder) -> Result<(), Error> {
-        builder.take(self)
+        builder.write(self)
     }
 }
 
@@ -185,7 +169,10 @@ impl Writer for Builder {
     ghost Step = { IsBuildingStep };
 
     fn write(&mut self, event: Event<'_>) -> Result<(), Error> {
-        self.take(event)
+        match self.add(event) {
+            Ok(()) => Ok(()),
+            Err(rejection) => Err(rejection.kind().without_position()),
+        }
     }
 
     ghost law = { λ before event answer after step. step.order };

@@ -21,15 +21,6 @@ enum Level<'a> {
     Dictionary(Iter<'a>),
 }
 
-// What `advance` found next.
-#[derive(Drop)]
-enum Next<'a> {
-    Nothing,
-    End,
-    Key(&'a String),
-    Value(&'a Value),
-}
-
 /// An iterator over the events of a value, depth first: every start has its length, and strings and
 /// data are borrowed from the value.
 ///
@@ -44,7 +35,7 @@ pub struct Events<'a> {
 }
 
 impl<'a> Events<'a> {
-    ghost use Rattle.plist.specs.Events.{ComesNext, GivesEventOf};
+    ghost use Rattle.plist.specs.Events.{GivesEventOf};
 
     pub(crate) fn new(alloc: Global, value: &'a Value) -> Events<'a>
         ensures { remaining_events result ≡ bracketing (tree_of value.now) }
@@ -52,34 +43,6 @@ impl<'a> Events<'a> {
         Events {
             value: Some(value),
             levels: Vec::new(alloc),
-        }
-    }
-
-    // Removes and returns what is next: the root, or an item, a key, a value or the end of the
-    // innermost open collection.
-    fn advance(&mut self) -> Next<'a>
-        ensures { ComesNext self.old result self.new }
-    {
-        if let Some(value) = self.value.take() {
-            return Next::Value(value);
-        }
-        match self.levels.pop() {
-            None => Next::Nothing,
-            Some(Level::Array(items)) => match items.split_first() {
-                None => Next::End,
-                Some((value, others)) => {
-                    self.levels.push_reserved(Level::Array(others));
-                    Next::Value(value)
-                }
-            },
-            Some(Level::Dictionary(mut pairs)) => match pairs.next() {
-                None => Next::End,
-                Some((key, value)) => {
-                    self.levels.push_reserved(Level::Dictionary(pairs));
-                    self.value = Some(value);
-                    Next::Key(key)
-                }
-            },
         }
     }
 
@@ -101,6 +64,7 @@ impl<'a> Events<'a> {
     }
 
     // Returns the first event of a value. Its other events remain to be yielded.
+    #[inline(always)]
     fn begin(&mut self, value: &'a Value) -> Result<Event<'a>, Error>
         requires { self.old.value ≡ None }
         ensures { GivesEventOf (bracketing (tree_of value.now) ++ remaining_events self.old)
@@ -138,11 +102,25 @@ impl<'a> Iterator for Events<'a> {
     ghost remaining = { λ events. at_most (length (remaining_events events)) };
 
     fn next(&mut self) -> Option<Result<Event<'a>, Error>> {
-        match self.advance() {
-            Next::Nothing => None,
-            Next::End => Some(Ok(Event::EndCollection)),
-            Next::Key(key) => Some(Ok(Event::String(CowStr::Borrowed(key.as_str())))),
-            Next::Value(value) => Some(self.begin(value)),
+        if let Some(value) = self.value.take() {
+            return Some(self.begin(value));
+        }
+        match self.levels.pop()? {
+            Level::Array(items) => match items.split_first() {
+                None => Some(Ok(Event::EndCollection)),
+                Some((value, others)) => {
+                    self.levels.push_reserved(Level::Array(others));
+                    Some(self.begin(value))
+                }
+            },
+            Level::Dictionary(mut pairs) => match pairs.next() {
+                None => Some(Ok(Event::EndCollection)),
+                Some((key, value)) => {
+                    self.levels.push_reserved(Level::Dictionary(pairs));
+                    self.value = Some(value);
+                    Some(Ok(Event::String(CowStr::Borrowed(key.as_str()))))
+                }
+            },
         }
     }
 }

@@ -3,17 +3,15 @@
 ghost use Rattle.std.specs.Prelude.{◌≡◌, ◌↔◌, ◌^◌, ◌<ℤ◌, ◌≤ℤ◌, IfSome, IsSome, IsSomeAnd, Some, option_map, pos};
 ghost use Rattle.std.specs.Option.{option_copied};
 ghost use Rattle.plist.specs.Accessors.{array_in, boolean_in, data_in, date_in, dictionary_in, integer_in, real_in, text_in, uid_in};
-ghost use Rattle.plist.specs.Dictionaries.{pairs_of};
-ghost use Rattle.plist.specs.ValueTrees.{item_trees, pair_trees, tree_of};
+ghost use Rattle.plist.specs.ValueTrees.{item_trees, pair_trees, pairs_of, tree_of};
 
 use crate::{Dictionary, Value};
 use plist_base::{Date, RealBits, Uid};
-use std::alloc::Global;
 
 impl Value {
     ghost use Rattle.std.specs.Borrow.{sem};
     ghost use Rattle.plist.specs.declared.value.Value.TheVariants as made;
-    ghost use Rattle.plist.specs.MutAccessors.{LendsArray, LendsDictionary};
+    ghost use Rattle.plist.specs.Lends.{LendsArray, LendsDictionary};
 
     /// Returns the array, or `None` if the value isn't one.
     ///
@@ -231,13 +229,11 @@ impl Value {
     pub fn into_uid(self) -> Option<Uid>
         ensures { result ≡ uid_in (tree_of self) }
     {
-        match self {
-            Value::Uid(uid) => Some(uid),
-            other => {
-                other.destroy();
-                None
-            }
-        }
+        let Value::Uid(uid) = self else {
+            self.destroy();
+            return None;
+        };
+        Some(uid)
     }
 
     /// Returns the Uid, or `None` if the value isn't one.
@@ -254,14 +250,5 @@ impl Value {
             return None;
         };
         Some(borrowed)
-    }
-
-    // Returns the allocator of a collection.
-    pub(crate) fn allocator(&self) -> Option<Global> {
-        match self {
-            Value::Array(items) => Some(*items.allocator()),
-            Value::Dictionary(pairs) => Some(pairs.allocator()),
-            _ => None,
-        }
     }
 }

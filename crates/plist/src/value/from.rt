@@ -110,82 +110,11 @@ impl From<String> for Value {
     }
 }
 
-impl<'a> From<&'a bool> for Value {
-    ghost from_gives = { λ borrowed value. value ≡ made.Boolean borrowed.now };
+/// Makes a value from a reference to anything that is copied and becomes a value, such as a number.
+impl<'a, T: Copy + Into<Value>> From<&'a T> for Value {
+    ghost from_gives = { λ borrowed value. T.Into.converts borrowed.now value };
 
-    fn from(value: &'a bool) -> Value {
-        Value::from(*value)
-    }
-}
-
-impl<'a> From<&'a Date> for Value {
-    ghost from_gives = { λ borrowed value. value ≡ made.Date borrowed.now };
-
-    fn from(value: &'a Date) -> Value {
-        Value::from(*value)
-    }
-}
-
-impl<'a> From<&'a i64> for Value {
-    ghost from_gives = { λ borrowed value. value ≡ made.Integer borrowed.now };
-
-    fn from(value: &'a i64) -> Value {
-        Value::from(*value)
-    }
-}
-
-impl<'a> From<&'a i32> for Value {
-    ghost from_gives = { λ borrowed value. value ≡ made.Integer borrowed.now };
-
-    fn from(value: &'a i32) -> Value {
-        Value::from(*value)
-    }
-}
-
-impl<'a> From<&'a i16> for Value {
-    ghost from_gives = { λ borrowed value. value ≡ made.Integer borrowed.now };
-
-    fn from(value: &'a i16) -> Value {
-        Value::from(*value)
-    }
-}
-
-impl<'a> From<&'a i8> for Value {
-    ghost from_gives = { λ borrowed value. value ≡ made.Integer borrowed.now };
-
-    fn from(value: &'a i8) -> Value {
-        Value::from(*value)
-    }
-}
-
-impl<'a> From<&'a u64> for Value {
-    ghost from_gives = { λ borrowed value. value ≡ made.Integer (pos borrowed.now) };
-
-    fn from(value: &'a u64) -> Value {
-        Value::from(*value)
-    }
-}
-
-impl<'a> From<&'a u32> for Value {
-    ghost from_gives = { λ borrowed value. value ≡ made.Integer (pos borrowed.now) };
-
-    fn from(value: &'a u32) -> Value {
-        Value::from(*value)
-    }
-}
-
-impl<'a> From<&'a u16> for Value {
-    ghost from_gives = { λ borrowed value. value ≡ made.Integer (pos borrowed.now) };
-
-    fn from(value: &'a u16) -> Value {
-        Value::from(*value)
-    }
-}
-
-impl<'a> From<&'a u8> for Value {
-    ghost from_gives = { λ borrowed value. value ≡ made.Integer (pos borrowed.now) };
-
-    fn from(value: &'a u8) -> Value {
-        Value::from(*value)
+    fn from(value: &'a T) -> Value {
+        (*value).into()
     }
 }

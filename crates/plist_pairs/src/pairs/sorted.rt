@@ -8,7 +8,7 @@ ghost use Rattle.std.specs.Map.{keys_of};
 ghost use Rattle.std.specs.Str.{bytes_eq};
 ghost use Rattle.std.specs.Vec.{vec_capacity};
 ghost use Rattle.indexmap.specs.IndexSet.{spare};
-ghost use Rattle.plist_pairs.specs.Shown.{shown_owned_pair};
+ghost use Rattle.plist_pairs.specs.Keys.{shown_owned_pair};
 
 use super::Pairs;
 use indexmap::IndexSet;

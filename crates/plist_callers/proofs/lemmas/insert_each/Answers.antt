@@ -1,5 +1,5 @@
 use Rattle.plist_pairs.proofs.Inserts.{list-added}
-use Rattle.plist.specs.Dictionaries.{pairs_of}
+use Rattle.plist.specs.ValueTrees.{pairs_of}
 use Rattle.plist_callers.proofs.lemmas.insert_each.Goals as goal
 
 pub returns : goal.returns

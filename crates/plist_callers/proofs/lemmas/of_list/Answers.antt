@@ -1,6 +1,6 @@
 use Rattle.std.proofs.lemmas.Result.{IfOk-weaker}
 use Rattle.plist_pairs.proofs.Inserts.{list-made}
-use Rattle.plist.specs.Dictionaries.{pairs_of}
+use Rattle.plist.specs.ValueTrees.{pairs_of}
 use Rattle.plist_callers.proofs.lemmas.of_list.Goals as goal
 
 pub returns : goal.returns

@@ -1,6 +1,6 @@
 use Rattle.std.proofs.Common.{refl}
 use Rattle.plist_pairs.proofs.EntrySteps.{read_set}
-use Rattle.plist.specs.Dictionaries.{pairs_of}
+use Rattle.plist.specs.ValueTrees.{pairs_of}
 use Rattle.plist_callers.proofs.lemmas.write_and_take.Goals as goal
 
 pub returns-in-Occupied-clause-next : goal.returns-in-Occupied-clause-next

@@ -2,8 +2,7 @@ use Rattle.std.proofs.Common.{◌≡◌, ◌+◌, suc, take, string_bytes, ap, �
 use Rattle.indexmap.specs.IndexMap.{insert_entry}
 use Rattle.plist_pairs.proofs.DistinctKeys.{values-insert, next-last}
 use Rattle.plist_pairs.proofs.PairColumns.{get-map}
-use Rattle.plist.specs.Dictionaries.{pairs_of}
-use Rattle.plist.specs.ValueTrees.{tree_of, tree_pairs}
+use Rattle.plist.specs.ValueTrees.{pairs_of, tree_of, tree_pairs}
 use Rattle.plist.proofs.Tops.{once_trees}
 use Rattle.plist.proofs.dictionary.Dictionary.clone.Goals as goal
 

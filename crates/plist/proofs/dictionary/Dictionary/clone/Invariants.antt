@@ -1,6 +1,5 @@
 use Rattle.std.proofs.Common.{◌≡◌, take}
-use Rattle.plist.specs.Dictionaries.{pairs_of}
-use Rattle.plist.specs.ValueTrees.{tree_pairs}
+use Rattle.plist.specs.ValueTrees.{pairs_of, tree_pairs}
 use Rattle.plist.proofs.dictionary.Dictionary.clone.Given as goal
 
 abbrev pub invariant-loop-i : goal.invariant-loop-i

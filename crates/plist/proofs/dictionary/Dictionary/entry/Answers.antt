@@ -1,7 +1,7 @@
 use Rattle.std.proofs.Common.{position, ap, ◌∙◌, bytes_eq}
 use Rattle.std.specs.Map.{keys_of}
 use Rattle.plist_pairs.proofs.EntrySteps.{taken-there}
-use Rattle.plist.specs.Dictionaries.{pairs_of}
+use Rattle.plist.specs.ValueTrees.{pairs_of}
 use Rattle.plist.proofs.dictionary.Dictionary.entry.Goals as goal
 
 pub returns-in-Some-clause-removes : goal.returns-in-Some-clause-removes

@@ -4,7 +4,7 @@ use Rattle.std.proofs.iter.Next as it
 use Rattle.plist_pairs.specs.Bulk.{ExtendsBy}
 use Rattle.plist_pairs.proofs.Inserts.{inserted-more}
 use Rattle.plist.specs.declared.value.Value.{Value}
-use Rattle.plist.specs.Dictionaries.{pairs_of}
+use Rattle.plist.specs.ValueTrees.{pairs_of}
 use Rattle.plist.proofs.dictionary.Dictionary.extend.Goals as goal
 
 pub loop-key-preserved : goal.loop-key-preserved

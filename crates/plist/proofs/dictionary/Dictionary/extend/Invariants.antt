@@ -2,8 +2,8 @@ use Rattle.std.proofs.Common.{◌≡◌, map, bytes_eq}
 use Rattle.std.specs.Iterator.{EndsFrom, items_left}
 use Rattle.std.proofs.iter.Next as it
 use Rattle.indexmap.specs.IndexMap.{insert_all}
-use Rattle.plist_pairs.specs.Shown.{shown_owned_pair}
-use Rattle.plist.specs.Dictionaries.{pairs_of}
+use Rattle.plist_pairs.specs.Keys.{shown_owned_pair}
+use Rattle.plist.specs.ValueTrees.{pairs_of}
 use Rattle.plist.proofs.dictionary.Dictionary.extend.Given as goal
 
 abbrev pub invariant-loop-key : goal.invariant-loop-key

@@ -7,12 +7,11 @@ use Rattle.plist_base.specs.Trees.{Dictionary}
 use Rattle.plist.specs.declared.dictionary.Dictionary.{size_is-Dictionary}
 use Rattle.plist.specs.declared.value.Value.{size-Value}
 use Rattle.plist_pairs.proofs.PairsSame.{as_map}
-use Rattle.plist.specs.inner.DeferredPairs.{are_covered, are_same, same_values, waiting}
+use Rattle.plist.specs.inner.DeferredPairs.{are_same, same_values, waiting}
 use Rattle.plist_pairs.specs.TreeEquality.{same, same_items}
-use Rattle.plist.specs.Dictionaries.{pairs_of}
-use Rattle.plist.specs.ValueTrees.{item_trees, pair_trees}
+use Rattle.plist.specs.ValueTrees.{item_trees, pair_trees, pairs_of}
 use Rattle.plist.specs.inner.Weights.{weights}
-use Rattle.plist.proofs.Equality.{at-once, covered-is-same, items-next, pairs-lack, pairs-next, no-deeper}
+use Rattle.plist.proofs.Equality.{are_covered, at-once, covered-is-same, items-next, pairs-lack, pairs-next, no-deeper}
 use Rattle.plist.proofs.SameTrees.{same_dictionaries, unequal-lengths}
 use Rattle.plist.proofs.equal.DeferredPairs.+same.Goals as goal
 

@@ -1,5 +1,5 @@
-use Rattle.plist.specs.Dictionaries.{pairs_of}
-use Rattle.plist.specs.inner.DeferredPairs.{ItemsLeft, PairsLeft}
+use Rattle.plist.specs.ValueTrees.{pairs_of}
+use Rattle.plist.proofs.Equality.{ItemsLeft, PairsLeft}
 use Rattle.plist.proofs.equal.DeferredPairs.+same.Given as goal
 
 abbrev pub invariant-compare_items-loop-i : goal.invariant-compare_items-loop-i

@@ -1,4 +1,4 @@
-use Rattle.plist.specs.inner.Weights.{to_drop}
+use Rattle.plist.proofs.DropWeights.{to_drop}
 use Rattle.plist.proofs.value.dropping.destroy_all.Given as goal
 
 abbrev pub decreases-loop-value : goal.decreases-loop-value

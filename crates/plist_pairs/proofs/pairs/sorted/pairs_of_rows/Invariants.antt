@@ -1,7 +1,7 @@
 use Rattle.std.proofs.Common.{◌≡◌, ◌≤◌, ◌+◌, ◌++◌, length, map, string_bytes, zip, vec_capacity}
 use Rattle.std.specs.Vec.Iter.{into_iter_items}
 use Rattle.indexmap.specs.IndexSet.{spare}
-use Rattle.plist_pairs.specs.Shown.{shown_owned_pair}
+use Rattle.plist_pairs.specs.Keys.{shown_owned_pair}
 use Rattle.plist_pairs.proofs.pairs.sorted.pairs_of_rows.Given as goal
 
 abbrev pub invariant-loop-key : goal.invariant-loop-key

@@ -1,5 +1,5 @@
 use Rattle.std.proofs.Common.{◌≡◌, ◌≤◌, ◌+◌, ◌++◌, length, map, vec_capacity}
-use Rattle.plist_pairs.specs.Shown.{shown_owned_pair}
+use Rattle.plist_pairs.specs.Keys.{shown_owned_pair}
 use Rattle.plist_pairs.proofs.pairs.sorted.rows_of.Given as goal
 
 abbrev pub invariant-loop-row : goal.invariant-loop-row

@@ -1,6 +1,6 @@
 use Rattle.std.proofs.Common.{◌∷◌, [], ◌∙◌, ap, arith, length, length-append, string_bytes}
 use Rattle.plist_pairs.proofs.EntrySteps.{comes_last, none_of}
-use Rattle.plist.specs.Dictionaries.{pairs_of}
+use Rattle.plist.specs.ValueTrees.{pairs_of}
 use Rattle.plist.proofs.dictionary.entry.VacantEntry.insert.Goals as goal
 
 pub value_at-requires : goal.value_at-requires

@@ -2,8 +2,8 @@ use Rattle.std.proofs.Common.{◌∙◌, subst, bytes_eq}
 use Rattle.std.specs.List.{IsDistinct}
 use Rattle.std.specs.Map.{keys_of}
 use Rattle.std_collections.proofs.IterRuns.{shows_in_order, shows_values_in_order}
-use Rattle.plist_pairs.specs.Shown.{shown_owned_pair}
-use Rattle.plist.proofs.dictionary.into_iter.DictionaryIntoIterator.into_iter.Goals as goal
+use Rattle.plist_pairs.specs.Keys.{shown_owned_pair}
+use Rattle.plist.proofs.dictionary.DictionaryIntoIterator.into_iter.Goals as goal
 
 pub returns : goal.returns
 returns c = record {
