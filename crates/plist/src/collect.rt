@@ -11,25 +11,8 @@ use plist_base::{Error, Event, EventSource, EventVisitor};
 use std::alloc::Global;
 use std::ops::ControlFlow;
 
-// Builds a value from an iterator's items. It fails at the first item that is an error, or whose
-// event can't follow the preceding ones, and takes no item after that one.
-fn collect_from<E: AnyEvent, I: Iterator<Item = Result<E, Error>>>(
-    alloc: Global,
-    rest: &mut I,
-) -> Result<Value, Error>
-    requires can { I.can_next rest.old }
-    requires ends { IsFinite (I.remaining rest.old) }
-    ensures value { CollectsTo E.plain I.next_gives rest.old (built_tree result) rest.new }
-{
-    let mut builder = Builder::new(alloc);
-    while let Some(item) = rest.next() {
-        builder.take_item(item)?;
-    }
-    builder.finish()
-}
-
 /// Builds a value from an iterator's items. It fails at the first item that is an error, or whose
-/// event can't follow the preceding ones.
+/// event can't follow the preceding ones, and takes no item after that one.
 pub(crate) fn collect<E: AnyEvent, I: Iterator<Item = Result<E, Error>> + Drop>(
     alloc: Global,
     items: I,
@@ -40,7 +23,11 @@ pub(crate) fn collect<E: AnyEvent, I: Iterator<Item = Result<E, Error>> + Drop>(
     ensures shown { AnswersAsPredicted E.plain I.next_gives items (built_tree result) }
 {
     let mut rest = items;
-    collect_from(alloc, &mut rest)
+    let mut builder = Builder::new(alloc);
+    while let Some(item) = rest.next() {
+        item?.write_to(&mut builder)?;
+    }
+    builder.finish()
 }
 
 // A visitor that builds a value.

@@ -34,8 +34,8 @@ impl Drop for UnfinishedValue {
     }
 }
 
-/// Why an event isn't added. It is small, since locals are zeroed at every call, and an `ErrorKind` is
-/// large.
+/// Why an event isn't added. It is small, since locals are zeroed at every call, and an
+/// `ErrorKind` is large.
 #[derive(Clone, Copy, Drop)]
 pub(crate) enum AddError {
     /// The builder has failed.

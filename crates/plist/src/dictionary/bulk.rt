@@ -100,7 +100,8 @@ impl Dictionary {
         requires asked { IsFiniteIterable I.into_iter_gives I.IntoIter.can_next I.IntoIter.remaining
             pairs }
         ensures pairs { IfOk result (λ made.
-            ExtendsByIterable I.into_iter_gives I.IntoIter.next_gives pairs [] (Ok tt) (pairs_of made)) }
+            ExtendsByIterable I.into_iter_gives I.IntoIter.next_gives pairs [] (Ok tt)
+            (pairs_of made)) }
         ensures memory { OnlyMemory result }
     {
         let mut made = Dictionary::new(alloc);

@@ -40,9 +40,9 @@ pub struct Builder {
 
 impl Builder {
     ghost use Rattle.plist_base.specs.Bracketing.{AreAlike, bracketing};
-    ghost use Rattle.plist.specs.Builder.{IsBuildingStep, RefusesWith, built_of};
+    ghost use Rattle.plist.specs.Builder.{IsBuildingStep, built_of};
     ghost use Rattle.plist.specs.Building.{complete_tree, events_so_far};
-    ghost use Rattle.plist.specs.Collecting.{RefusesOne, TakesOne, item_by};
+    ghost use Rattle.plist.specs.Collecting.{RefusesOne};
     ghost use Rattle.plist.specs.ValueTrees.{tree_of};
 
     /// Creates a builder without events.
@@ -79,17 +79,6 @@ impl Builder {
                 Err(AddError::OutOfMemory)
             }
         }
-    }
-
-    // Adds an item's event, or returns its error.
-    pub(crate) fn take_item<E: AnyEvent>(&mut self, item: Result<E, Error>) -> Result<(), Error>
-        requires { (built_of self.old).failed ≡ false }
-        ensures taken { OnOk result (TakesOne (built_of self.old) (item_by E.plain item)
-            (built_of self.new)) }
-        ensures refused { RefusesWith self.old (item_by E.plain item) result }
-    {
-        let event = item?;
-        event.write_to(self)
     }
 
     /// Returns the value of the events, and leaves the builder empty. It allocates no memory.

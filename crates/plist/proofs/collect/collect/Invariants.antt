@@ -1,11 +1,11 @@
--- What the loop of `collect_from` maintains, and why it ends.
+-- What the loop of `collect` maintains, and why it ends.
 use Rattle.std.specs.Prelude.{map}
 use Rattle.std.specs.Iterator.{EndsFrom, items_left}
 use Rattle.std.proofs.iter.Next as it
 use Rattle.plist.specs.Builder.{built_of}
 use Rattle.plist.specs.Collecting.{item_by}
 use Rattle.plist.proofs.BuilderItems.{TookAll}
-use Rattle.plist.proofs.collect.collect_from.Given as goal
+use Rattle.plist.proofs.collect.collect.Given as goal
 
 abbrev pub invariant-loop-item : goal.invariant-loop-item
 invariant-loop-item g l =
