@@ -119,7 +119,10 @@ impl<R: Files> Commands for R {
         out: &mut O,
     ) -> Result<(), Failure> {
         match command {
-            Command::Print(path) => Ok(print_file(self, alloc, path, out)?),
+            Command::Print(path) => {
+                let source = open_source(self, alloc, path)?;
+                Ok(print_events(alloc, source, out)?)
+            }
             Command::Convert(from, to) => Ok(convert_file(self, alloc, from, to)?),
             Command::Keyed(path, key) => keyed_file(self, alloc, path, key, out),
         }
@@ -140,17 +143,6 @@ pub(crate) fn open_source<R: Files>(
         Ok(file) => Ok(Seeking::with_windows(alloc, file)),
         Err(failure) => Err(ErrorKind::Io(failure).without_position()),
     }
-}
-
-// Prints the events of a file. The error is `Io` if it can't be opened.
-fn print_file<R: Files, O: Write>(
-    rt: &R,
-    alloc: Global,
-    path: &str,
-    out: &mut O,
-) -> Result<(), Error> {
-    let source = open_source(rt, alloc, path)?;
-    print_events(alloc, source, out)
 }
 
 /// Runs the command that the arguments ask for, and returns the status: 0 if the command succeeds,
