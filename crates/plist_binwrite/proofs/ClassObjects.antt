@@ -5,8 +5,7 @@ use Rattle.plist_base.specs.Events.{PlainEvent}
 use Rattle.plist_base.specs.Trees.{Tree, Leaf, Array, Dictionary, Trees, NoTrees, TreeAnd, Members, NoMembers, MemberAnd}
 use Rattle.plist_base.specs.Object as obj
 use Rattle.plist_base.specs.Object.{Object}
-use Rattle.plist_binwrite.specs.Classes.{AreClasses, object_of, Describes, representatives, count_by, objects_by, size_by}
-use Rattle.plist_binwrite.specs.EventClasses.{class_in, events_in, bound_in}
+use Rattle.plist_binwrite.specs.Classes.{AreClasses, object_of, Describes, representatives, count_by, objects_by, size_by, class_in, events_in, bound_in}
 use Rattle.plist_binwrite.specs.declared.classes.Classed.{Classed}
 use Rattle.plist_binwrite.specs.declared.plan.Numbering.{Numbering}
 use Rattle.plist_binwrite.specs.inner.Numbering.{IsNumberingOfEvents, object_number, size_below, total_below}

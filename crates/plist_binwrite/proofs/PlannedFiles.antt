@@ -9,10 +9,9 @@ use Rattle.plist_base.specs.Container.{head_of}
 use Rattle.plist_base.specs.Object.{Object, object_in}
 use Rattle.plist_base.specs.Unfolding.{TableEntry, table_of, unfolding_of, until_fault, items_with, items_of_file, visits_of, visits_with, visits}
 use Rattle.plist_base.proofs.Tables.{length-table_of}
-use Rattle.plist_binwrite.specs.Classes.{IsFileBy, count_by, objects_by, size_by, files_by}
+use Rattle.plist_binwrite.specs.Classes.{IsFileBy, count_by, objects_by, size_by, files_by, bound_in, class_in, events_in}
 use Rattle.plist_binwrite.specs.Sizes.{collections_in, size_with}
 use Rattle.plist_binwrite.specs.Forms.{form, table_form, AllFit, reference_width, least_width}
-use Rattle.plist_binwrite.specs.EventClasses.{bound_in, class_in, events_in}
 use Rattle.plist_binwrite.specs.inner.Layout.{IsFilePlan, IsLayout, number_of_event}
 use Rattle.plist_binwrite.specs.inner.Numbering.{IsCapped, size_below, IsNumberingOfEvents}
 use Rattle.plist_binwrite.specs.declared.plan.Numbering.{Numbering}

@@ -14,7 +14,7 @@ use Rattle.plist_base.proofs.SinkSteps.{puts_as, puts_closed, puts_then}
 use Rattle.plist_binwrite.proofs.ClassObjects.{numbered}
 use Rattle.plist_binwrite.proofs.NumberingSteps.{known_number, numbers_below}
 use Rattle.plist_buffer.proofs.TreeStarts.{begins, occurs_in}
-use Rattle.plist_binwrite.specs.EventClasses.{events_in}
+use Rattle.plist_binwrite.specs.Classes.{events_in}
 use Rattle.plist_binwrite.specs.declared.plan.FilePlan.{FilePlan}
 use Rattle.plist_binwrite.specs.inner.Layout.{ArePut, HasStoredOffset, IsFilePlan, PutsObject, PutsObjects, number_of_event}
 use Rattle.plist_buffer.specs.EventTable.{HasItem}

@@ -6,7 +6,7 @@ use Rattle.plist_base.specs.Events.{ScalarEvent, PlainEvent}
 use Rattle.plist_base.specs.Trees.{Scalar, Tree, Leaf, Array, Dictionary}
 use Rattle.plist_buffer.specs.Occurrences.{OccursAt}
 use Rattle.plist_buffer.proofs.TreeStarts.{occurs_in, stands_single, starts_array, starts_dictionary, begins}
-use Rattle.plist_binwrite.specs.EventClasses.{class_by, scalar_class}
+use Rattle.plist_binwrite.specs.Classes.{class_by, scalar_class}
 use Rattle.plist_buffer.specs.EventTable.{EndsCollection, HasItem, collection_number, event_at, lists_in, plain_events, scalars_of, IsBracketed, count_collections}
 use Rattle.plist_buffer.specs.declared.event_table.EventTable.{EventTable}
 use Rattle.plist_buffer.specs.inner.Columns.{scalar_named}

@@ -7,8 +7,7 @@ use Rattle.plist_base.specs.Trees.{Tree}
 use Rattle.plist_base.specs.Writing.{Answer, MatchKind}
 use Rattle.plist_base.proofs.Lengths.{whole_alike, alike_last}
 use Rattle.plist_buffer.proofs.Grammar.{complete_of_whole}
-use Rattle.plist_binwrite.specs.Classes.{IsFileBy, files_by, size_by}
-use Rattle.plist_binwrite.specs.EventClasses.{class_in, events_in}
+use Rattle.plist_binwrite.specs.Classes.{IsFileBy, files_by, size_by, class_in, events_in}
 use Rattle.plist_binwrite.specs.declared.classes.Classed.{Classed}
 use Rattle.plist_binwrite.specs.Files.{IsFileOf}
 use Rattle.plist_binwrite.specs.SendingAs.{FileKind, IsOfTree, FailsAs, SendsAs}

@@ -7,14 +7,13 @@ use Rattle.std.specs.Str.{encode_utf8_all}
 use Rattle.std.proofs.lemmas.List.Sums.{sum_by-append, sum_by-cons}
 use Rattle.std.proofs.lemmas.Bool.{cases_lt, le-ltb, lt-ltb}
 use Rattle.plist_base.specs.Utf16.{units_of, IsUtf16, utf16_form, utf8_of_utf16}
-use Rattle.plist_binwrite.specs.inner.Units.{units_begun}
+use Rattle.plist_binwrite.specs.Forms.{units_begun, length_form, scalar_form}
 use Rattle.plist_buffer.proofs.TextUnits.{units_are, form_length}
 use Rattle.std.proofs.lemmas.Str.{len_utf8_bounds, length-encode}
 use Rattle.plist_base.specs.Trees.{String}
 use Rattle.plist_base.specs.declared.marker.CountedKind.TheVariants as kind
 use Rattle.plist_base.proofs.Utf16Units.{len_of_unit}
 use Rattle.plist_buffer.specs.inner.LongContents.{is_ascii_text}
-use Rattle.plist_binwrite.specs.Forms.{length_form, scalar_form}
 
 -- ---- units counted by bytes in UTF-8
 

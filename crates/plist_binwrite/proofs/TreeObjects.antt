@@ -17,7 +17,7 @@ use Rattle.plist_binwrite.specs.Sizes.{collection_of, object_size}
 use Rattle.plist_buffer.specs.EventTable.{item_indices, key_indices, value_indices, HasItem, LacksItem, is_end, event_at}
 use Rattle.plist_buffer.specs.Occurrences.{event_count, OccursAt, positions, positions_in_items, positions_in_pairs}
 use Rattle.plist_buffer.proofs.TreeOccurrences.{ItemsOccurAt, PairsOccurAt, occurs_items, occurs_pairs, occurs_item, occurs_next, occurs_key, occurs_value, occurs_next_pair}
-use Rattle.plist_binwrite.specs.Classes.{object_of}
+use Rattle.plist_binwrite.specs.Classes.{object_of, events_in}
 use Rattle.plist_buffer.proofs.Uniques.{all_from}
 use Rattle.plist_base.specs.declared.marker.CountedKind.TheVariants as kind
 use Rattle.plist_base.specs.declared.event.EventShape.{EventShape}
@@ -28,7 +28,6 @@ use Rattle.plist_binwrite.specs.Forms.{length_form, scalar_form, form, key_numbe
 use Rattle.std.specs.Int.{bytes_high_first}
 use Rattle.plist_buffer.specs.Children.{half_of}
 use Rattle.plist_buffer.specs.declared.children.Half.TheVariants.{Values}
-use Rattle.plist_binwrite.specs.EventClasses.{events_in}
 use Rattle.plist_binwrite.specs.declared.plan.FilePlan.{FilePlan}
 use Rattle.plist_binwrite.specs.inner.Layout.{collection_form, number_of_event}
 use Rattle.plist_buffer.proofs.TreeStarts.{stands_single, starts_array, starts_dictionary, begins, occurs_in}

@@ -2,4 +2,3 @@
 pub mod Laws
 pub mod Layout
 pub mod Numbering
-pub mod Units

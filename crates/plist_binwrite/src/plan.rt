@@ -8,8 +8,7 @@ ghost use Rattle.plist_base.specs.Faults.{OutOfMemory, PlistTooLarge, fault_with
 ghost use Rattle.plist_base.specs.Outcomes.{IfFault, IsSizeOrNone};
 ghost use Rattle.plist_base.specs.Trees.{Scalar, Tree};
 ghost use Rattle.plist_base.specs.declared.marker.CountedKind.{CountedKind};
-ghost use Rattle.plist_binwrite.specs.Classes.{size_by};
-ghost use Rattle.plist_binwrite.specs.EventClasses.{IsClassed, bound_in, class_in, events_in};
+ghost use Rattle.plist_binwrite.specs.Classes.{size_by, IsClassed, bound_in, class_in, events_in};
 ghost use Rattle.plist_binwrite.specs.Forms.{IsWritableScalar, length_form, reference_width};
 ghost use Rattle.plist_binwrite.specs.SendingAs.{IsOfTree};
 ghost use Rattle.plist_binwrite.specs.Sizes.{object_size, size_with};

@@ -5,12 +5,11 @@ ghost use Rattle.std.specs.Prelude.{◌≡◌, ◌≤◌, true, length};
 ghost use Rattle.std.specs.Char.Escape.{encode_utf16};
 ghost use Rattle.plist_base.specs.Trees.{String};
 ghost use Rattle.plist_base.specs.Utf16.{units_of, utf8_of_utf16};
-ghost use Rattle.plist_binwrite.specs.Forms.{scalar_form, table_form};
+ghost use Rattle.plist_binwrite.specs.Forms.{scalar_form, table_form, units_begun};
 ghost use Rattle.plist_base.specs.Sinks.{Puts};
 ghost use Rattle.plist_buffer.specs.inner.LongContents.{is_ascii_text};
 ghost use Rattle.plist_buffer.specs.StoredScalars.{IsWide};
 ghost use Rattle.std.specs.List.{sum_by};
-ghost use Rattle.plist_binwrite.specs.inner.Units.{units_begun};
 
 use crate::forms::{CountedKind, put_length, put_number};
 use plist_base::Sink;

@@ -5,7 +5,7 @@ ghost use Rattle.std.proofs.Props.{props};
 ghost use Rattle.std.specs.Cow.{cow_slice_items, cow_str_bytes};
 ghost use Rattle.plist_base.specs.Events.{EndCollection, ScalarEvent, shape_of};
 ghost use Rattle.plist_base.specs.Outcomes.{OnlyMemory};
-ghost use Rattle.plist_buffer.specs.inner.Entries.{is_leaf, lists_of, IsValidTable, entry_at, event_numbered, event_of_entry, index_after_entry, is_start, scalar_numbered, KeepsScalars};
+ghost use Rattle.plist_buffer.specs.inner.Entries.{is_leaf, lists_of, IsValidTable, entry_at, event_numbered, event_of_entry, index_after_entry, is_start, KeepsScalars};
 
 mod batches;
 mod copies;

@@ -7,8 +7,7 @@ use Rattle.plist_base.specs.Trees.{Scalar, Tree, Leaf, Array, Dictionary, Trees,
 use Rattle.plist_base.specs.Events.{PlainEvent, EndCollection, ScalarEvent, shape_of}
 use Rattle.plist_base.specs.Object as obj
 use Rattle.plist_base.specs.Object.{dictionary}
-use Rattle.plist_binwrite.specs.Classes.{AreClasses, object_of}
-use Rattle.plist_binwrite.specs.EventClasses.{HasEachCollection, listed_class}
+use Rattle.plist_binwrite.specs.Classes.{AreClasses, object_of, HasEachCollection, listed_class}
 use Rattle.plist_binwrite.specs.Forms.{key_numbers, value_numbers}
 use Rattle.plist_binwrite.specs.declared.classes.ClassList.{ClassList}
 use Rattle.plist_buffer.specs.EventTable.{HasItem, IsBracketed, collection_number, is_end, item_indices, key_indices, value_indices, event_at, plain_events, scalars_of}

@@ -1,5 +1,5 @@
 -- A file with one object for each class has one for each different subtree.
-use Rattle.std.proofs.Common.{◌≡◌, ℕ, ◌+◌, ◌^◌, ◌<◌, nat_eq, List, length, map, sym, ap, ◌∙◌, subst, sum_by}
+use Rattle.std.proofs.Common.{◌≡◌, ◌↔◌, ℕ, ◌+◌, ◌^◌, ◌<◌, nat_eq, List, length, map, sym, ap, ◌∙◌, subst, sum_by}
 use Rattle.std.proofs.lemmas.List.Folds.{fold-map}
 use Rattle.std.specs.Set.{unique_keys}
 use Rattle.std.proofs.lemmas.Bool.Decides.{eqb_tells}
@@ -13,7 +13,6 @@ use Rattle.plist_binwrite.specs.Forms.{reference_width}
 use Rattle.plist_buffer.proofs.TreePositions.{Stands, positions_stand}
 use Rattle.plist_buffer.proofs.Uniques.{unique_seen}
 use Rattle.plist_buffer.proofs.SameScalars.{tells_both}
-use Rattle.plist_share.specs.inner.Nodes.{SeparatesTrees}
 use Rattle.plist_share.specs.SharedFiles.{tree_eq, subtrees, distinct_subtrees, IsSharedFileOf, shared_file_size}
 use Rattle.plist_share.proofs.Least.{least}
 use Rattle.plist_share.proofs.TreeEquality.{tree_tells}
@@ -26,7 +25,8 @@ tree_positions a = a.1
 abbrev shared_objects_size : (width : ℕ) → Tree → ℕ
 shared_objects_size width tree = sum_by (object_size width) (unique_keys tree_eq (subtrees tree))
 
-module _ (es : List PlainEvent) (class : ℕ → ℕ) (given : SeparatesTrees es class) where
+module _ (es : List PlainEvent) (class : ℕ → ℕ) (given : (t u : Tree) (p q : ℕ) → OccursAt es t p
+    → OccursAt es u q → (class p ≡ class q) ↔ (t ≡ u)) where
   separate_alike : (a b : ℕ × Tree) → OccursAt es a.1 a.0 → OccursAt es b.1 b.0
       → nat_eq (class a.0) (class b.0) ≡ tree_eq a.1 b.1
   separate_alike a b s r =

@@ -7,7 +7,7 @@ ghost use Rattle.plist_buffer.specs.Children.{half_of};
 ghost use Rattle.plist_buffer.specs.EventTable.{IsBracketed, plain_events, table_event};
 ghost use Rattle.plist_buffer.specs.declared.children.Half.TheVariants.{Keys, Values};
 ghost use Rattle.plist_buffer.specs.inner.Entries.{AreDistinct};
-ghost use Rattle.plist_binwrite.specs.EventClasses.{HasEachCollection, listed_class};
+ghost use Rattle.plist_binwrite.specs.Classes.{HasEachCollection, listed_class};
 ghost use Rattle.plist_share.specs.inner.Nodes.{SeparatesAll, Extends, node_of, AreClassesFrom, IsClassAt};
 
 use indexmap::IndexSet;

@@ -7,7 +7,5 @@
 
 mod classes;
 mod sharing;
-mod writer;
 
-pub use sharing::EqualTrees;
-pub use writer::SharingWriter;
+pub use sharing::{EqualTrees, SharingWriter};

@@ -10,8 +10,7 @@ use Rattle.plist_buffer.specs.Occurrences.{OccursAt}
 use Rattle.plist_buffer.specs.declared.children.Half.{Half}
 use Rattle.plist_buffer.specs.declared.children.Half.TheVariants.{Keys, Values}
 use Rattle.plist_base.specs.declared.marker.CountedKind.{CountedKind}
-use Rattle.plist_binwrite.specs.Classes.{Describes, object_of}
-use Rattle.plist_binwrite.specs.EventClasses.{events_in}
+use Rattle.plist_binwrite.specs.Classes.{Describes, object_of, events_in}
 use Rattle.plist_binwrite.specs.Forms.{form, length_form, reference_width, table_form}
 use Rattle.plist_binwrite.specs.Sizes.{size_with}
 use Rattle.plist_binwrite.specs.Written.{Laid, laid_out}

@@ -8,7 +8,7 @@ use Rattle.plist_base.specs.Events.{ScalarEvent}
 use Rattle.plist_base.specs.Trees.{Scalar, Tree}
 use Rattle.plist_buffer.specs.EventTable.{HasItem, IsBracketed, event_at}
 use Rattle.plist_buffer.specs.Occurrences.{OccursAt}
-use Rattle.plist_binwrite.specs.EventClasses.{IsClassed, bound_in, class_in, events_in}
+use Rattle.plist_binwrite.specs.Classes.{IsClassed, bound_in, class_in, events_in}
 use Rattle.plist_binwrite.specs.Forms.{IsWritableScalar, reference_width}
 use Rattle.plist_binwrite.specs.Sizes.{object_size}
 use Rattle.plist_binwrite.specs.declared.classes.Classed.{Classed}

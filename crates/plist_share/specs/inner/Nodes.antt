@@ -1,12 +1,10 @@
 -- Collections, described by the classes of their children.
 use Rattle.std.specs.Prelude.{◌≡◌, ◌≢◌, ◌↔◌, ℕ, ◌+◌, ◌<◌, ◌≤◌, Bool, true, false, List, ◌++◌, length, map, Option, None, Some, slice_get, ⊤}
-use Rattle.plist_base.specs.Events.{PlainEvent}
 use Rattle.plist_base.specs.Trees.{Tree, Leaf, Array, Dictionary}
 use Rattle.plist_buffer.specs.EventTable.{HasItem, keys_in, plain_events, values_in}
 use Rattle.plist_buffer.specs.declared.event_table.EventTable.{EventTable}
 use Rattle.plist_buffer.specs.Occurrences.{OccursAt}
-use Rattle.plist_binwrite.specs.Classes.{AreClasses}
-use Rattle.plist_binwrite.specs.EventClasses.{HasEachCollection, listed_class}
+use Rattle.plist_binwrite.specs.Classes.{AreClasses, HasEachCollection, listed_class}
 use Rattle.plist_binwrite.specs.declared.classes.ClassList.{ClassList}
 use Rattle.plist_share.specs.declared.classes.Collection.{Collection}
 
@@ -54,16 +52,13 @@ pub record AreClassesFrom (held : EventTable) (found : ClassList) (nodes : List 
   pub used : (i : ℕ) → i < length nodes → (p : ℕ) × (from ≤ p) × HasItem (plain_events held) p
       × (listed_class found held p ≡ found.bound + i)
 
--- two indices have the same class if and only if the same tree begins at both
-abbrev pub SeparatesTrees : List PlainEvent → (class : ℕ → ℕ) → Type 0
-SeparatesTrees es class =
-    (t u : Tree) (p q : ℕ) → OccursAt es t p → OccursAt es u q → (class p ≡ class q) ↔ (t ≡ u)
-
 -- each tree has a class below the bound, each number below the bound is the class of a tree, and
 -- two trees have the same class if and only if they are equal
 pub record SeparatesAll (held : EventTable) (found : ClassList) : Type 0 where
   pub objects : AreClasses (plain_events held) (listed_class found held)
-  pub trees : SeparatesTrees (plain_events held) (listed_class found held)
+  pub trees : (t u : Tree) (p q : ℕ) → OccursAt (plain_events held) t p
+      → OccursAt (plain_events held) u q
+      → (listed_class found held p ≡ listed_class found held q) ↔ (t ≡ u)
   pub long : HasEachCollection found held
   pub below : (p : ℕ) → HasItem (plain_events held) p → listed_class found held p < found.bound
   pub used : (k : ℕ) → k < found.bound

@@ -1,6 +1,6 @@
 use Rattle.std.proofs.Common.{◌-◌, ◌∙◌, ◌++◌, List, ℕ, ap, arith, below_more, refl, replicate, subst}
 use Rattle.std.specs.List.{AllByRecursion}
-use Rattle.plist_binwrite.specs.EventClasses.{events_in}
+use Rattle.plist_binwrite.specs.Classes.{events_in}
 use Rattle.plist_binwrite.specs.inner.Numbering.{IsNumbered, Numbers}
 use Rattle.plist_buffer.specs.Children.{half_of}
 use Rattle.plist_buffer.specs.declared.children.Half.{Half}

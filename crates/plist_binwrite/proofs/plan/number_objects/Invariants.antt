@@ -2,7 +2,7 @@ use Rattle.std.proofs.Common.{◌≡◌, ℕ, ◌<◌, ◌++◌}
 use Rattle.std.specs.List.{AllByRecursion}
 use Rattle.plist_buffer.specs.Children.{half_of}
 use Rattle.plist_buffer.specs.declared.children.Half.TheVariants.{Keys, Values}
-use Rattle.plist_binwrite.specs.EventClasses.{events_in}
+use Rattle.plist_binwrite.specs.Classes.{events_in}
 use Rattle.plist_binwrite.specs.inner.Numbering.{IsNumbered, IsNumberedSoFar, object_number}
 use Rattle.plist_binwrite.proofs.plan.number_objects.Given as goal
 

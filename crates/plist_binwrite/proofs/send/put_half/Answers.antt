@@ -2,7 +2,7 @@ use Rattle.std.proofs.Common.{◌≡◌, ◌++◌, ◌∷◌, [], ap, append-nil
 use Rattle.plist_base.proofs.SinkSteps.{puts_as, puts_none, puts_then}
 use Rattle.plist_buffer.proofs.ChildIndices.{are_items}
 use Rattle.plist_buffer.specs.Children.{half_of}
-use Rattle.plist_binwrite.specs.EventClasses.{events_in}
+use Rattle.plist_binwrite.specs.Classes.{events_in}
 use Rattle.plist_binwrite.specs.inner.Layout.{number_of_event}
 use Rattle.plist_binwrite.proofs.NumberForms.{references_more}
 use Rattle.plist_binwrite.proofs.send.put_half.Goals as goal

@@ -1,7 +1,7 @@
 use Rattle.std.proofs.Common.{◌≡◌, ◌++◌, ℕ, List}
 use Rattle.std.specs.List.{AllByRecursion}
 use Rattle.plist_base.specs.Sinks.{Puts}
-use Rattle.plist_binwrite.specs.EventClasses.{events_in}
+use Rattle.plist_binwrite.specs.Classes.{events_in}
 use Rattle.plist_buffer.specs.EventTable.{HasItem}
 use Rattle.plist_buffer.specs.Children.{indices_left}
 use Rattle.plist_binwrite.specs.inner.Layout.{number_of_event}

@@ -2,7 +2,7 @@ use Rattle.std.proofs.Common.{◌≡◌, List, ℕ, length}
 use Rattle.std.specs.List.{AllByRecursion, Contains}
 use Rattle.plist_base.specs.declared.sink.Sink.{Sink}
 use Rattle.plist_buffer.specs.Children.{indices_left}
-use Rattle.plist_binwrite.specs.EventClasses.{events_in}
+use Rattle.plist_binwrite.specs.Classes.{events_in}
 use Rattle.plist_buffer.specs.EventTable.{HasItem}
 use Rattle.plist_binwrite.specs.inner.Layout.{PutsObjects}
 use Rattle.plist_binwrite.proofs.send.put_keys.Given as goal

@@ -1,5 +1,5 @@
 use Rattle.std.proofs.Common.{◌<◌}
-use Rattle.plist_binwrite.specs.EventClasses.{events_in}
+use Rattle.plist_binwrite.specs.Classes.{events_in}
 use Rattle.plist_buffer.specs.EventTable.{HasItem}
 use Rattle.plist_binwrite.specs.inner.Layout.{PutsObjects}
 use Rattle.plist_binwrite.proofs.send.put_objects.Given as goal

@@ -1,8 +1,7 @@
 use Rattle.std.proofs.Common.{ap, length, rules, subst, ◌∙◌}
 use Rattle.plist_base.specs.Sinks.{HasPut}
 use Rattle.plist_base.specs.Writing.{answer_of}
-use Rattle.plist_binwrite.specs.Classes.{files_by}
-use Rattle.plist_binwrite.specs.EventClasses.{class_in, events_in}
+use Rattle.plist_binwrite.specs.Classes.{files_by, class_in, events_in}
 use Rattle.plist_binwrite.specs.SendingAs.{SendsAs}
 use Rattle.plist_binwrite.proofs.PlannedFiles.{sends_file}
 use Rattle.plist_binwrite.proofs.PuttingObjects.{all_put, number_told, start_put}

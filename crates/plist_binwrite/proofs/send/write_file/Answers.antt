@@ -5,7 +5,7 @@ use Rattle.plist_base.specs.Writing.{answer_of}
 use Rattle.plist_buffer.specs.EventTable.{count_collections, plain_events, scalars_of}
 use Rattle.plist_buffer.proofs.CollectionNumbers.{occurs_at}
 use Rattle.plist_buffer.proofs.Lengthless.{plain_lengthless, whole_bracketed}
-use Rattle.plist_binwrite.specs.EventClasses.{scalar_class}
+use Rattle.plist_binwrite.specs.Classes.{scalar_class}
 use Rattle.plist_binwrite.specs.Files.{least_files}
 use Rattle.plist_binwrite.proofs.ScalarClasses.{AreIdentities, all_used, equal_scalars}
 use Rattle.plist_binwrite.proofs.SendingFiles.{owned_file, sends_as}

@@ -1,6 +1,6 @@
 use Rattle.std.proofs.Common.{arith}
 use Rattle.std.proofs.lemmas.List.Sums.{sum_by-drop_more}
-use Rattle.plist_binwrite.specs.inner.Units.{units_begun}
+use Rattle.plist_binwrite.specs.Forms.{units_begun}
 use Rattle.plist_binwrite.proofs.TextForms.{few_units_begun}
 use Rattle.plist_binwrite.proofs.text.count_few_units.Goals as goal
 

@@ -1,5 +1,5 @@
 use Rattle.std.proofs.Common.{◌≡◌, ◌+◌, drop, sum_by}
-use Rattle.plist_binwrite.specs.inner.Units.{units_begun}
+use Rattle.plist_binwrite.specs.Forms.{units_begun}
 use Rattle.plist_binwrite.proofs.text.count_few_units.Given as goal
 
 -- the units that begin in the bytes so far are counted

@@ -1,6 +1,6 @@
 use Rattle.std.proofs.Common.{◌∙◌, ap, arith, sum_by}
 use Rattle.std.proofs.lemmas.List.{nil_from_length}
-use Rattle.plist_binwrite.specs.inner.Units.{units_begun}
+use Rattle.plist_binwrite.specs.Forms.{units_begun}
 use Rattle.plist_binwrite.proofs.TextForms.{few_units_begun, units_counted}
 use Rattle.std.proofs.lemmas.List.Sums.{sum_by-append}
 use Rattle.plist_binwrite.proofs.text.count_units.Goals as goal

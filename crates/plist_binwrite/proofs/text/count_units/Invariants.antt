@@ -1,6 +1,6 @@
 use Rattle.std.proofs.Common.{◌≡◌, ◌+◌, sum_by}
 use Rattle.std.specs.Slice.Iter.{chunks_rest, chunks_size}
-use Rattle.plist_binwrite.specs.inner.Units.{units_begun}
+use Rattle.plist_binwrite.specs.Forms.{units_begun}
 use Rattle.plist_binwrite.proofs.text.count_units.Given as goal
 
 -- the units that begin in the chunks so far are counted

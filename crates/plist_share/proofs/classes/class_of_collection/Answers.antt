@@ -1,5 +1,5 @@
 use Rattle.std.proofs.Common.{rules, arith, ◌≡◌, ◌+◌, ◌-◌, Some, ◌∙◌}
-use Rattle.plist_binwrite.specs.EventClasses.{listed_class}
+use Rattle.plist_binwrite.specs.Classes.{listed_class}
 use Rattle.plist_buffer.specs.EventTable.{plain_events}
 use Rattle.plist_buffer.proofs.ChildIndices.{keys_are_in, values_are_in}
 use Rattle.plist_share.proofs.ClassTrees.{by_collection}

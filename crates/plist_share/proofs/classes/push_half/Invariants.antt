@@ -1,6 +1,6 @@
 use Rattle.std.proofs.Common.{◌≡◌, ◌++◌, map}
 use Rattle.std.specs.List.{AllByRecursion}
-use Rattle.plist_binwrite.specs.EventClasses.{listed_class}
+use Rattle.plist_binwrite.specs.Classes.{listed_class}
 use Rattle.plist_buffer.specs.Children.{indices_left}
 use Rattle.plist_buffer.specs.EventTable.{plain_events, HasItem}
 use Rattle.plist_share.proofs.classes.push_half.Given as goal

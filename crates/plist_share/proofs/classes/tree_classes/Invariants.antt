@@ -1,5 +1,5 @@
 use Rattle.std.proofs.Common.{◌≡◌, ◌≤◌, length, map}
-use Rattle.plist_binwrite.specs.EventClasses.{HasEachCollection}
+use Rattle.plist_binwrite.specs.Classes.{HasEachCollection}
 use Rattle.plist_buffer.specs.EventTable.{plain_events, scalars_of}
 use Rattle.plist_buffer.specs.inner.Entries.{AreDistinct}
 use Rattle.plist_share.specs.inner.Nodes.{AreClassesFrom, node_of}

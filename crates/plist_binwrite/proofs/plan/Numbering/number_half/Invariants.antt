@@ -1,6 +1,6 @@
 use Rattle.std.specs.List.{AllByRecursion}
 use Rattle.plist_buffer.specs.Children.{indices_left}
-use Rattle.plist_binwrite.specs.EventClasses.{events_in}
+use Rattle.plist_binwrite.specs.Classes.{events_in}
 use Rattle.plist_buffer.specs.EventTable.{HasItem}
 use Rattle.plist_binwrite.specs.inner.Numbering.{IsNumberedSoFar, Numbers}
 use Rattle.plist_binwrite.specs.declared.plan.Numbering.{Numbering}

@@ -3,8 +3,7 @@ use Rattle.std.proofs.lemmas.Result.{err_from_is_err_and}
 use Rattle.plist_base.specs.Bracketing.{AreAlike, bracketing}
 use Rattle.plist_base.specs.Trees.{Tree}
 use Rattle.plist_base.specs.Writing.{answer_of}
-use Rattle.plist_binwrite.specs.Classes.{files_by}
-use Rattle.plist_binwrite.specs.EventClasses.{listed_class}
+use Rattle.plist_binwrite.specs.Classes.{files_by, listed_class}
 use Rattle.plist_binwrite.proofs.SendingFiles.{sends_as}
 use Rattle.plist_buffer.specs.EventTable.{plain_events}
 use Rattle.plist_buffer.proofs.Lengthless.{plain_lengthless, whole_bracketed}
