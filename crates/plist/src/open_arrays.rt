@@ -1,6 +1,6 @@
 //! The items of the arrays that are open while a value is built.
 
-ghost use Rattle.std.specs.Prelude.{◌≡◌, ◌<◌, ◌≤◌, ◌∷◌, [], length, take, drop, IfOk, OnErr, OnOk};
+ghost use Rattle.std.specs.Prelude.{◌≡◌, ◌<◌, ◌∷◌, [], length, IfOk, OnErr, OnOk};
 ghost use Rattle.plist.specs.inner.CollectionSteps.{with_item};
 
 use crate::Value;

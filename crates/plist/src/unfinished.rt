@@ -1,13 +1,11 @@
 //! A value that isn't complete yet: the open collections, and finally the root.
 
-ghost use Rattle.std.specs.Prelude.{◌≡◌, None, MatchOption, OnOk, option_map, string_bytes};
-ghost use Rattle.plist_base.specs.Events as events;
+ghost use Rattle.std.specs.Prelude.{◌≡◌, None, MatchOption, OnOk, option_map};
 ghost use Rattle.plist_base.specs.Events.{event_of};
 ghost use Rattle.plist_base.specs.Faults.{kind_of};
-ghost use Rattle.plist_base.specs.Trees as trees;
 ghost use Rattle.plist.specs.LastWins.{with_pair};
 ghost use Rattle.plist.specs.inner.BuilderSteps.{and_tree};
-ghost use Rattle.plist.specs.Building.{NotBegun, complete_tree, kind_expected, refusal_at, refusal_of};
+ghost use Rattle.plist.specs.Building.{NotBegun, complete_tree, kind_expected, refusal_at};
 ghost use Rattle.plist.specs.UnfinishedValues.{AddsEvent, collections_of, kind_of_add_error, unfinished_of};
 ghost use Rattle.plist.specs.ValueTrees.{tree_of};
 
