@@ -1,5 +1,5 @@
 -- Shifts of a mantissa, and the seconds that are out of range.
-use Rattle.std.proofs.Common.{rules, ◌≡◌, ℕ, zero, suc, ◌+◌, ◌-◌, ◌*◌, ◌/◌, ◌%◌, ◌^◌, ◌<◌, ◌≤◌, Bool, true, false, not, cond, eqb, ℤ, Option, None, refl, ap, sym, ◌∙◌, arith, pow-add}
+use Rattle.std.proofs.Common.{rules, ◌≡◌, ℕ, zero, suc, ◌+◌, ◌-◌, ◌*◌, ◌/◌, ◌%◌, ◌^◌, ◌<◌, ◌≤◌, Bool, true, false, not, cond, eqb, ℤ, Option, None, refl, ap, sym, ◌∙◌, arith, pow-add, ◌⊎◌, inl, inr}
 use Rattle.std.proofs.Math.Nat.{pow-le-pow_right, one-le-pow, div-eq_of_lt, mod-eq_of_lt, mul-le-mul_right, div-lt_iff_lt-mul, div-add-mod, mod-lt, le-div_iff_mul-le}
 use Rattle.std.proofs.lemmas.Nat.{div-mul-add, mod-mul-add}
 use Rattle.std.proofs.lemmas.Bool.Decides.{nat_tests}
@@ -31,7 +31,7 @@ pub second_pos : 0 < parts_in_second
 unfolding parts_in_second
 second_pos = power_pos 1075
 
-pub whole_shifted : (m e : ℕ) → e < 1075 → whole_seconds m e ≡ m / 2 ^ (1075 - e)
+whole_shifted : (m e : ℕ) → e < 1075 → whole_seconds m e ≡ m / 2 ^ (1075 - e)
 unfolding whole_seconds parts_of
 whole_shifted m e h =
     rw (split e h) ((factored m _ _ (power_pos _) (power_pos e)).0)
@@ -46,7 +46,7 @@ zero_scaled zero c h = let z : 0 * c ≡ 0 = omega arith in rw z refl
 zero_scaled (suc a) c h = grind (arith, nat_tests)
 
 -- parts are left if and only if the mantissa has bits below the whole seconds
-pub left_shifted : (m e : ℕ) → e < 1075 → eqb (parts_left m e) 0 ≡ eqb (m % 2 ^ (1075 - e)) 0
+left_shifted : (m e : ℕ) → e < 1075 → eqb (parts_left m e) 0 ≡ eqb (m % 2 ^ (1075 - e)) 0
 left_shifted m e h = rw (left_scaled m e h) (zero_scaled _ _ (power_pos e))
 
 multiple : (m c d power : ℕ) → 0 < d → power ≡ c * d → m * power % d ≡ 0
@@ -65,13 +65,22 @@ left_far m e h =
 above : (m k : ℕ) → m < 2 ^ 53 → 53 ≤ k → m < 2 ^ k
 above m k h big = let p = pow-le-pow_right {n = 2} (omega arith) big in omega arith
 
--- if all bits are shifted out, there are no whole seconds
-pub whole_none : (m e : ℕ) → m < 2 ^ 53 → e < 1075 → 64 ≤ 1075 - e → whole_seconds m e ≡ 0
-whole_none m e h lt far = whole_shifted m e lt ∙ div-eq_of_lt (above m _ h (omega arith))
+-- a shift by 53 bits or more removes all bits of a mantissa, as any longer one does
+module _ (m e shift : ℕ) (h : m < 2 ^ 53) (lt : e < 1075)
+    (by : (shift ≡ 1075 - e) ⊎ ((53 ≤ shift) × (53 ≤ 1075 - e))) where
+  whole_by : m / 2 ^ shift ≡ whole_seconds m e
+  whole_by = elim by [
+    | inl same ↦ rw same (sym (whole_shifted m e lt))
+    | inr (far, beyond) ↦ div-eq_of_lt (above m shift h far)
+        ∙ sym (whole_shifted m e lt ∙ div-eq_of_lt (above m _ h beyond))
+  ]
 
-pub left_all : (m e : ℕ) → m < 2 ^ 53 → e < 1075 → 64 ≤ 1075 - e → eqb (parts_left m e) 0 ≡ eqb m 0
-left_all m e h lt far =
-    left_shifted m e lt ∙ ap (λ k. eqb k 0) (mod-eq_of_lt (above m _ h (omega arith)))
+  left_by : eqb (m % 2 ^ shift) 0 ≡ eqb (parts_left m e) 0
+  left_by = elim by [
+    | inl same ↦ rw same (sym (left_shifted m e lt))
+    | inr (far, beyond) ↦ ap (λ k. eqb k 0) (mod-eq_of_lt (above m shift h far))
+        ∙ sym (left_shifted m e lt ∙ ap (λ k. eqb k 0) (mod-eq_of_lt (above m _ h beyond)))
+  ]
 
 far_second : (negative : Bool) (w left : ℕ) → 2 ^ 52 ≤ w
     → is_second_of_date (rounded_down negative w left) ≡ false
@@ -103,11 +112,6 @@ pub fraction_far : (bits : ℕ) → 1075 ≤ real_exponent bits → false ≡ ha
 unfolding has_fraction
 fraction_far bits h = rw (left_far _ _ (scale_far _ h)) refl
 
-pub fraction_is : (bits m e : ℕ) (is_left : Bool) → m ≡ real_mantissa bits → e ≡ real_scale bits
-    → is_left ≡ not (eqb (parts_left m e) 0) → is_left ≡ has_fraction bits
-unfolding has_fraction
-fraction_is bits m e is_left is_m is_e is = rw (is, is_m, is_e) refl
-
 none_of : (b : Bool) (z : ℤ) → is_second_of_date z ≡ false
     → ◌≡◌ {A = Option ℤ} (cond b None (if_second_of_date z)) None
 none_of true z h = refl
@@ -130,24 +134,34 @@ unfolding second_of_bits real_second
 second_near bits h =
     let n : eqb (real_exponent bits) 2047 ≡ false = grind (arith, nat_tests) in rw n refl
 
-pub whole_small : (m e : ℕ) → m < 2 ^ 53 → e < 1075 → m / 2 ^ (1075 - e) < 2 ^ 52
+whole_small : (m e : ℕ) → m < 2 ^ 53 → e < 1075 → m / 2 ^ (1075 - e) < 2 ^ 52
 whole_small m e h lt =
     let near : 1 ≤ 1075 - e = omega arith in
     let p = pow-le-pow_right (omega arith) near in
     let q : 2 * 2 ^ 52 ≤ 2 ^ (1075 - e) * 2 ^ 52 = mul-le-mul_right _ p in
     (div-lt_iff_lt-mul {k = 2 ^ (1075 - e)} {x = m} {y = 2 ^ 52} (omega arith)).1 (omega arith)
 
-pub left_masked : (m k : ℕ) → k < 64 → m % (1 * 2 ^ k % 18446744073709551616) ≡ m % 2 ^ k
+left_masked : (m k : ℕ) → k < 64 → m % (1 * 2 ^ k % 18446744073709551616) ≡ m % 2 ^ k
 left_masked m k h = search rules
 
-pub second_is : (bits m e w : ℕ) → m ≡ real_mantissa bits → e ≡ real_scale bits
-    → w ≡ whole_seconds m e → real_exponent bits < 1075
-    → if_second_of_date (rounded_down (is_negative bits) w (parts_left m e)) ≡ second_of_bits bits
-second_is bits m e w is_m is_e is_w lt = rw (is_w, is_m, is_e) (second_near _ lt)
+-- the whole seconds of a real below 2 ^ 52, and whether it has a fraction
+pub parts_near : (bits m e shift : ℕ) → m ≡ real_mantissa bits → e ≡ real_scale bits → m < 2 ^ 53
+    → e < 1075 → real_exponent bits < 1075 → shift < 64
+    → (shift ≡ 1075 - e) ⊎ ((53 ≤ shift) × (53 ≤ 1075 - e))
+    → (real_exponent bits < 1075)
+    × (m / 2 ^ shift ≡ whole_seconds (real_mantissa bits) (real_scale bits))
+    × (not (eqb (m % (1 * 2 ^ shift % 18446744073709551616)) 0) ≡ has_fraction bits)
+    × (m / 2 ^ shift < 2 ^ 52)
+unfolding has_fraction
+parts_near bits m e shift is_m is_e h lt near few by = (
+  near,
+  whole_by m e shift h lt by ∙ rw (is_m, is_e) refl,
+  rw (left_masked m shift few, left_by m e shift h lt by, is_m, is_e) refl,
+  rw (whole_by m e shift h lt by, whole_shifted m e lt) (whole_small m e h lt),
+)
 
--- rules for the whole seconds, for the parts that are left, and for whether there are any
-pub ruleset whole_parts = (whole_none, whole_shifted, whole_small)
-
-pub ruleset left_parts = (left_all, left_shifted, left_masked)
-
-pub ruleset fraction_parts = (fraction_far, fraction_is)
+pub second_is : (bits w : ℕ) → w ≡ whole_seconds (real_mantissa bits) (real_scale bits)
+    → real_exponent bits < 1075
+    → if_second_of_date (rounded_down (is_negative bits) w
+    (parts_left (real_mantissa bits) (real_scale bits))) ≡ second_of_bits bits
+second_is bits w is lt = rw is (second_near _ lt)

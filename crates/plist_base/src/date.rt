@@ -1,6 +1,6 @@
 //! Dates, which are stored as the eight bytes of a real.
 
-ghost use Rattle.std.specs.Prelude.{◌≡◌, ℕ, ◌^◌, ◌<◌, ◌≤◌, ◌↔◌, not, ◌==◌, false, pos, ℤ, ◌*ℤ◌, ◌-ℤ◌, Some, None, IsSome, IfSome, IsErr, IfOk, IfErr, List, MatchOption};
+ghost use Rattle.std.specs.Prelude.{◌≡◌, ℕ, ◌^◌, ◌<◌, ◌≤◌, ◌↔◌, not, ◌==◌, false, pos, ℤ, ◌*ℤ◌, ◌-ℤ◌, Some, None, IfNone, IsSome, IfSome, IsErr, IfOk, IfErr, List, MatchOption};
 ghost use Rattle.plist_base.specs.Date.{IsDate, IsSecondOf, IsSecondOfDate, IsWhole, date_bytes, date_of_bytes, has_fraction, if_second_of_date, is_second_of_date, parts_in_second, parts_left, plist_epoch, real_bits, real_exponent, real_mantissa, real_parts, real_scale, rounded_down, second_of_bits, second_of_bytes, whole_seconds, HasNoSecond, IsExactly, IsOnlyAt, IsWholeAt, whole_bits, AreBitsAt};
 
 use crate::ErrorKind;
@@ -159,79 +159,40 @@ impl Date {
     }
 
     /// Returns `true` if this date lies between two seconds.
-    #[tactic(auto, using(crate::proofs::DateShifts::fraction_parts))]
+    #[tactic(auto, using(crate::proofs::DateShifts::fraction_far))]
     pub fn has_fraction(&self) -> bool
         ensures { result ≡ has_fraction (real_bits self.now) }
     {
         // An absolute value of 2^52 or more has no fraction.
-        match RealParts::from_bits(u64::from_be_bytes(self.bytes)) {
+        match absolute_seconds(u64::from_be_bytes(self.bytes)) {
             None => false,
-            Some(parts) => parts.has_fraction(),
+            Some((_, has_fraction)) => has_fraction,
         }
     }
 }
 
-// A real whose absolute value is `mantissa * 2^(scale - 1075)`, which is below 2^52.
-#[derive(Clone, Copy)]
-struct RealParts {
-    mantissa: u64,
-    scale: u64,
-    ghost mantissa_high: { mantissa < 2 ^ 53 },
-    ghost scale_low: { 1 ≤ scale },
-    ghost scale_high: { scale < 1075 },
-}
-
-impl RealParts {
-    // Returns the parts of a real, or `None` if its absolute value is 2^52 or more, or if it is
-    // infinite or a NaN.
-    #[tactic(auto, unfolding(crate::specs::Date::real_exponent, crate::specs::Date::real_mantissa, crate::specs::Date::real_scale))]
-    fn from_bits(bits: u64) -> Option<RealParts>
-        ensures range { MatchOption result (1075 ≤ real_exponent bits)
-            (λ _. real_exponent bits < 1075) }
-        ensures mantissa { IfSome result (λ parts. parts.mantissa ≡ real_mantissa bits) }
-        ensures scale { IfSome result (λ parts. parts.scale ≡ real_scale bits) }
-    {
-        let exponent = (bits >> 52) & 0x7ff;
-        if exponent >= 1075 {
-            return None;
-        }
-        let fraction = bits & 0x000f_ffff_ffff_ffff;
-        Some(RealParts {
-            mantissa: if exponent == 0 {
-                fraction
-            } else {
-                (1 << 52) + fraction
-            },
-            scale: exponent.max(1),
-        })
+// Returns the whole seconds in the absolute value of a real, and whether it has a fraction as well.
+// Returns `None` if the absolute value is 2^52 or more, or if the real is infinite or a NaN.
+#[tactic(auto, unfolding(crate::specs::Date::real_exponent))]
+fn absolute_seconds(bits: u64) -> Option<(u64, bool)>
+    ensures far { IfNone result (1075 ≤ real_exponent bits) }
+    ensures near { IfSome result (λ found. (real_exponent bits < 1075)
+        × (found.0 ≡ whole_seconds (real_mantissa bits) (real_scale bits))
+        × (found.1 ≡ has_fraction bits) × (found.0 < 2 ^ 52)) }
+{
+    let exponent = (bits >> 52) % 0x800;
+    if exponent >= 1075 {
+        return None;
     }
-
-    // Returns the absolute value, rounded down to whole seconds.
-    #[tactic(auto, using(crate::proofs::DateShifts::whole_parts))]
-    fn whole(self) -> u64
-        ensures is { result ≡ whole_seconds self.mantissa self.scale }
-        ensures small { result < 2 ^ 52 }
-    {
-        let shift = 1075 - self.scale;
-        if shift >= 64 {
-            0
-        } else {
-            self.mantissa >> shift
-        }
-    }
-
-    // Returns whether the absolute value has a fraction.
-    #[tactic(auto, using(crate::proofs::DateShifts::left_parts))]
-    fn has_fraction(self) -> bool
-        ensures { result ≡ not (parts_left self.mantissa self.scale == 0) }
-    {
-        let shift = 1075 - self.scale;
-        if shift >= 64 {
-            self.mantissa != 0
-        } else {
-            self.mantissa % (1 << shift) != 0
-        }
-    }
+    let fraction = bits % (1 << 52);
+    let mantissa = if exponent == 0 {
+        fraction
+    } else {
+        (1 << 52) + fraction
+    };
+    // A mantissa has 53 bits, so a shift by 63 removes all of them.
+    let shift = (1075 - exponent.max(1)).min(63);
+    Some((mantissa >> shift, mantissa % (1 << shift) != 0))
 }
 
 // Rounds a value down, given its sign, its whole seconds, and whether it has a fraction as well.
@@ -243,8 +204,7 @@ fn round_down(negative: bool, whole: u64, has_fraction: bool) -> i64
     if !negative {
         return whole as i64;
     }
-    let up = if has_fraction { whole + 1 } else { whole };
-    -(up as i64)
+    -((whole + u64::from(has_fraction)) as i64)
 }
 
 // Returns the second, or `None` if it is outside the range of dates.
@@ -261,8 +221,8 @@ fn checked_second(second: i64) -> Option<i64>
 fn second_of_bits(bits: u64) -> Option<i64>
     ensures { result ≡ second_of_bits bits }
 {
-    let parts = RealParts::from_bits(bits)?;
-    checked_second(round_down(bits >= 1 << 63, parts.whole(), parts.has_fraction()))
+    let (whole, has_fraction) = absolute_seconds(bits)?;
+    checked_second(round_down(bits >= 1 << 63, whole, has_fraction))
 }
 
 #[tactic(auto, using(crate::proofs::DateEncoding::encoded, crate::proofs::DateEncoding::sum_is))]
