@@ -1,9 +1,10 @@
 -- Shifts of a mantissa, and the seconds that are out of range.
-use Rattle.std.proofs.Common.{rules, ◌≡◌, ℕ, zero, suc, ◌+◌, ◌-◌, ◌*◌, ◌/◌, ◌%◌, ◌^◌, ◌<◌, ◌≤◌, Bool, true, false, not, cond, eqb, ℤ, Option, None, refl, ap, sym, ◌∙◌, arith, pow-add, ◌⊎◌, inl, inr}
+use Rattle.std.proofs.Common.{rules, ◌≡◌, ℕ, zero, suc, ◌+◌, ◌-◌, ◌*◌, ◌/◌, ◌%◌, ◌^◌, ◌<◌, ◌≤◌, Bool, true, false, not, cond, eqb, ℤ, pos, neg_ℤ, Option, None, refl, ap, sym, ◌∙◌, arith, pow-add, ◌⊎◌, inl, inr}
 use Rattle.std.proofs.Math.Nat.{pow-le-pow_right, one-le-pow, div-eq_of_lt, mod-eq_of_lt, mul-le-mul_right, div-lt_iff_lt-mul, div-add-mod, mod-lt, le-div_iff_mul-le}
 use Rattle.std.proofs.lemmas.Nat.{div-mul-add, mod-mul-add}
 use Rattle.std.proofs.lemmas.Bool.Decides.{nat_tests}
 use Rattle.std.proofs.lemmas.Int.{ints}
+use mir.Val.{bool_byte}
 use Rattle.plist_base.specs.Date.{real_exponent, real_mantissa, real_scale, parts_in_second, parts_of, whole_seconds, parts_left, has_fraction, real_second, rounded_down, is_second_of_date, if_second_of_date, is_negative, second_of_bits}
 
 -- the number of parts in a second is the product of two powers
@@ -160,8 +161,24 @@ parts_near bits m e shift is_m is_e h lt near few by = (
   rw (whole_by m e shift h lt by, whole_shifted m e lt) (whole_small m e h lt),
 )
 
-pub second_is : (bits w : ℕ) → w ≡ whole_seconds (real_mantissa bits) (real_scale bits)
-    → real_exponent bits < 1075
-    → if_second_of_date (rounded_down (is_negative bits) w
-    (parts_left (real_mantissa bits) (real_scale bits))) ≡ second_of_bits bits
-second_is bits w is lt = rw is (second_near _ lt)
+pub byte_small : (b : Bool) → bool_byte b ≤ 1
+byte_small b = grind arith
+
+-- the second of a real below 2 ^ 52 that isn't negative, and of one that is
+module _ (bits w : ℕ) (is : w ≡ whole_seconds (real_mantissa bits) (real_scale bits))
+    (near : real_exponent bits < 1075) where
+  rounded : (negative : Bool) → is_negative bits ≡ negative
+      → if_second_of_date (rounded_down negative w
+      (parts_left (real_mantissa bits) (real_scale bits))) ≡ second_of_bits bits
+  rounded negative sign = rw (is, ← sign) (second_near _ near)
+
+  pub from_zero : bits < 2 ^ 63 → if_second_of_date (pos w) ≡ second_of_bits bits
+  from_zero h = rounded false (grind (arith, nat_tests))
+
+  pub below_zero : (n : ℕ) (is_left : Bool) → is_left ≡ has_fraction bits → n ≡ bool_byte is_left
+      → 2 ^ 63 ≤ bits → if_second_of_date (neg_ℤ (pos (w + n))) ≡ second_of_bits bits
+  unfolding has_fraction
+  below_zero n is_left left one h =
+      let up : w + n ≡ cond (eqb (parts_left (real_mantissa bits) (real_scale bits)) 0) w (w + 1) =
+      grind (arith, nat_tests, left, one) in
+      ap (λ k. if_second_of_date (neg_ℤ (pos k))) up ∙ rounded true (grind (arith, nat_tests))

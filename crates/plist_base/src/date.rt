@@ -195,18 +195,6 @@ fn absolute_seconds(bits: u64) -> Option<(u64, bool)>
     Some((mantissa >> shift, mantissa % (1 << shift) != 0))
 }
 
-// Rounds a value down, given its sign, its whole seconds, and whether it has a fraction as well.
-fn round_down(negative: bool, whole: u64, has_fraction: bool) -> i64
-    requires { whole < 2 ^ 52 }
-    ensures { (left : ℕ) → has_fraction ≡ not (left == 0)
-        → result ≡ rounded_down negative whole left }
-{
-    if !negative {
-        return whole as i64;
-    }
-    -((whole + u64::from(has_fraction)) as i64)
-}
-
 // Returns the second, or `None` if it is outside the range of dates.
 fn checked_second(second: i64) -> Option<i64>
     ensures { result ≡ if_second_of_date second }
@@ -222,7 +210,10 @@ fn second_of_bits(bits: u64) -> Option<i64>
     ensures { result ≡ second_of_bits bits }
 {
     let (whole, has_fraction) = absolute_seconds(bits)?;
-    checked_second(round_down(bits >= 1 << 63, whole, has_fraction))
+    if bits < 1 << 63 {
+        return checked_second(whole as i64);
+    }
+    checked_second(-((whole + u64::from(has_fraction)) as i64))
 }
 
 #[tactic(auto, using(crate::proofs::DateEncoding::encoded, crate::proofs::DateEncoding::sum_is))]
