@@ -115,17 +115,6 @@ fn zone_in(text: &[u8]) -> Option<i32>
     offset(text[19], hours, minutes)
 }
 
-// Returns the Unix second, given the number of days since 1970-01-01, the second of the day, and
-// how many seconds the zone is ahead of UTC.
-fn unix_second(day: i32, time: u32, zone: i32) -> i64
-    requires day { IsEpochDay day }
-    requires time { time < 86400 }
-    requires zone { IsWithin 86399 zone }
-    ensures { result ≡ ((day *ℤ pos 86400 +ℤ pos time) -ℤ zone) }
-{
-    i64::from(day) * 86_400 + i64::from(time) - i64::from(zone)
-}
-
 /// Returns the Unix second that a string spells, or `None` if it isn't a date.
 ///
 /// The form is `YYYY-MM-DD`, then `T`, `t` or a space, then `HH:MM:SS`, and then `Z`, `z` or a sign
@@ -142,5 +131,5 @@ pub fn unix_second_of_text(text: &str) -> Option<i64>
     let day = day_in(text)?;
     let time = time_in(text)?;
     let zone = zone_in(text)?;
-    Some(unix_second(day, time, zone))
+    Some(i64::from(day) * 86_400 + i64::from(time) - i64::from(zone))
 }

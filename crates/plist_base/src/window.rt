@@ -102,24 +102,8 @@ fn window_for(headers: &mut [Header], size: usize, place: u64) -> Option<usize>
     Some(first + usize::from(turn))
 }
 
-// Fills a window with one read from `start` on. If the seek or the read fails, the window is empty.
-fn fill_window<R: Read + Seek>(
-    header: &mut Header,
-    memory: &mut [u8],
-    start: u64,
-    reader: &mut R,
-) -> Result<(), io::Error>
-    ensures start { header.new.start ≡ start }
-    ensures failed { OnErr result (header.new.filled ≡ 0) }
-{
-    header.start = start;
-    header.filled = 0;
-    reader.seek(SeekFrom::Start(start))?;
-    header.filled = reader.read(memory)?;
-    Ok(())
-}
-
-/// Fills the window to which this offset belongs. Does nothing if there are fewer than two windows.
+/// Fills the window to which this offset belongs with one read. If the seek or the read fails, the
+/// window is empty. Does nothing if there are fewer than two windows.
 pub(crate) fn fill_in<R: Read + Seek>(
     headers: &mut [Header],
     bytes: &mut [u8],
@@ -132,12 +116,13 @@ pub(crate) fn fill_in<R: Read + Seek>(
     ensures headers { length headers.new ≡ length headers.old }
     ensures bytes { length bytes.new ≡ length bytes.old }
 {
-    match window_for(headers, size, place) {
-        Some(i) => {
-            let memory = &mut bytes[i * (size + OVERLAP)..][..size + OVERLAP];
-            let start = place - place % size as u64;
-            fill_window(&mut headers[i], memory, start, reader)
-        }
-        None => Ok(()),
-    }
+    let Some(i) = window_for(headers, size, place) else {
+        return Ok(());
+    };
+    let header = &mut headers[i];
+    header.start = place - place % size as u64;
+    header.filled = 0;
+    reader.seek(SeekFrom::Start(header.start))?;
+    header.filled = reader.read(&mut bytes[i * (size + OVERLAP)..][..size + OVERLAP])?;
+    Ok(())
 }
