@@ -21,17 +21,6 @@ fn two_digits_at(text: &[u8], place: usize) -> Option<u8>
     }
 }
 
-// Returns the number that the four digits at an offset spell, or `None` if one isn't a digit.
-fn four_digits_at(text: &[u8], place: usize) -> Option<u16>
-    requires { place + 3 < length text.now }
-    ensures is { result ≡ spec.four_digits_at text.now place }
-    ensures small { IfSome result (λ n. n < 10000) }
-{
-    let high = two_digits_at(text, place)?;
-    let low = two_digits_at(text, place + 2)?;
-    Some(u16::from(high) * 100 + u16::from(low))
-}
-
 // Parses the `YYYY-MM-DD` at offset 0, and returns the number of days from 1970-01-01 to it, or
 // `None` if the calendar doesn't have it.
 #[tactic(auto, unfolding(crate::specs::UnixSeconds::day_number))]
@@ -40,13 +29,15 @@ fn day_in(text: &[u8]) -> Option<i32>
     ensures is { result ≡ spec.day_in text.now }
     ensures bound { IfSome result (λ n. IsEpochDay n) }
 {
-    let year = four_digits_at(text, 0)?;
+    let century = two_digits_at(text, 0)?;
+    let year = two_digits_at(text, 2)?;
     let month = two_digits_at(text, 5)?;
     let day = two_digits_at(text, 8)?;
     // A greater month or day might not fit into an `i8`, the type of the calendar's parameters.
     if month > 12 || day > 31 {
         return None;
     }
+    let year = u16::from(century) * 100 + u16::from(year);
     let date = Date::new(year as i16, month as i8, day as i8).ok()?;
     Some(date.to_unix_epoch_day())
 }
@@ -80,23 +71,6 @@ fn has_separators(text: &[u8]) -> bool
         && text[16] == b':'
 }
 
-// Returns how many seconds the zone with this sign, hours and minutes is ahead of UTC, or `None` if
-// a part is out of range.
-fn offset(sign: u8, hours: u8, minutes: u8) -> Option<i32>
-    ensures is { result ≡ spec.offset sign hours minutes }
-    ensures bound { IfSome result (λ n. IsWithin 86399 n) }
-{
-    if hours >= 24 || minutes >= 60 {
-        return None;
-    }
-    let seconds = i32::from(hours) * 3600 + i32::from(minutes) * 60;
-    match sign {
-        b'+' => Some(seconds),
-        b'-' => Some(-seconds),
-        _ => None,
-    }
-}
-
 // Parses the zone at offset 19, which is `Z`, `z`, or a sign with `HH:MM`, and returns how many
 // seconds it is ahead of UTC.
 fn zone_in(text: &[u8]) -> Option<i32>
@@ -112,7 +86,15 @@ fn zone_in(text: &[u8]) -> Option<i32>
     }
     let hours = two_digits_at(text, 20)?;
     let minutes = two_digits_at(text, 23)?;
-    offset(text[19], hours, minutes)
+    if hours >= 24 || minutes >= 60 {
+        return None;
+    }
+    let seconds = i32::from(hours) * 3600 + i32::from(minutes) * 60;
+    match text[19] {
+        b'+' => Some(seconds),
+        b'-' => Some(-seconds),
+        _ => None,
+    }
 }
 
 /// Returns the Unix second that a string spells, or `None` if it isn't a date.
