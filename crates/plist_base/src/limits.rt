@@ -5,7 +5,7 @@ ghost use Rattle.plist_base.specs.Allowances.{AdmitsEvent, RefusesEvent};
 ghost use Rattle.plist_base.specs.Budgets.{within_budget, within_bytes, IsBudgetUsedUp};
 ghost use Rattle.plist_base.specs.Events.{event_of};
 ghost use Rattle.plist_base.specs.Outcomes.{IfFault};
-ghost use Rattle.plist_base.specs.Faults.{LimitReached, limit_name};
+ghost use Rattle.plist_base.specs.Faults.{LimitReached};
 ghost use Rattle.plist_base.specs.Limits.{Admits, Refuses, limited_items, limited_by, IsLimitReached};
 
 use crate::{Allowance, Error, ErrorKind, Event, EventShape};
@@ -30,18 +30,6 @@ pub enum Limit {
     Depth,
     /// An event would exceed [`Limits::items`].
     Items,
-}
-
-impl Limit {
-    // Returns the variant's name.
-    pub(crate) fn name(self) -> &'static str
-        ensures { result.now ≡ limit_name self }
-    {
-        match self {
-            Limit::Depth => "Depth",
-            Limit::Items => "Items",
-        }
-    }
 }
 
 /// Counts the events and the open collections of a property list under [`Limits`].
