@@ -262,10 +262,8 @@ fn unsigned(text: &str, radix: u32) -> Option<Integer>
     requires radix { (2 ≤ radix) × (radix ≤ 36) }
     ensures { result ≡ unsigned_of_text radix text.now }
 {
-    match u64::from_str_radix(text, radix) {
-        Ok(number) => Some(Integer::from(number)),
-        Err(_) => None,
-    }
+    let number = u64::from_str_radix(text, radix).ok()?;
+    Some(Integer::from(number))
 }
 
 // Returns the string without its leading `0x`s.

@@ -79,8 +79,7 @@ fn padded_number(bytes: &[u8]) -> u64
     ensures { content_bytes result ≡ padded bytes.now }
 {
     let mut content = [0; 8];
-    let target = &mut content[..bytes.len()];
-    target.copy_from_slice(bytes);
+    content[..bytes.len()].copy_from_slice(bytes);
     content_from(content)
 }
 

@@ -74,8 +74,7 @@ pub(crate) fn copy_at(bytes: &[u8], place: u64, buf: &mut [u8]) -> usize
 {
     let rest = rest_from(bytes, place);
     let count = rest.len().min(buf.len());
-    let part = &mut buf[..count];
-    part.copy_from_slice(&rest[..count]);
+    buf[..count].copy_from_slice(&rest[..count]);
     count
 }
 
