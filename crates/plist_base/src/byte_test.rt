@@ -65,15 +65,6 @@ fn many_pass<T: ByteTest>(bytes: &[u8]) -> bool
     T::sixteen(u8x16::from_slice(&bytes[last..]))
 }
 
-// Tests eight to sixteen bytes: the first eight together, and then the last eight together.
-#[inline(always)]
-fn some_pass<T: ByteTest>(bytes: &[u8]) -> bool
-    requires { (8 ≤ length bytes.now) × (length bytes.now ≤ 16) }
-    ensures { result ≡ true → EachByte T.passes bytes.now }
-{
-    T::eight(u8x8::from_slice(bytes)) && T::eight(u8x8::from_slice(&bytes[bytes.len() - 8..]))
-}
-
 // Tests the bytes one by one.
 #[inline(always)]
 fn few_pass<T: ByteTest>(bytes: &[u8]) -> bool
@@ -96,7 +87,9 @@ pub fn all_pass<T: ByteTest>(bytes: &[u8]) -> bool
         return many_pass::<T>(bytes);
     }
     if bytes.len() >= 8 {
-        return some_pass::<T>(bytes);
+        // The first eight bytes, and then the last eight, which may include some of the first.
+        return T::eight(u8x8::from_slice(bytes))
+            && T::eight(u8x8::from_slice(&bytes[bytes.len() - 8..]));
     }
     few_pass::<T>(bytes)
 }
@@ -158,22 +151,6 @@ fn copy_many<T: ByteTest>(bytes: &[u8], target: &mut [u8]) -> bool
     copy_sixteen::<T>(bytes, target, last)
 }
 
-// Copies eight to sixteen bytes if they pass a test, and returns whether they do: the first eight
-// together, and then the last eight together.
-#[inline(always)]
-fn copy_some<T: ByteTest>(bytes: &[u8], target: &mut [u8]) -> bool
-    requires some { (8 ≤ length bytes.now) × (length bytes.now ≤ 16) }
-    requires same { length target.old ≡ length bytes.now }
-    ensures copied { result ≡ true
-        → CopiesPassing T.passes (length bytes.now) bytes.now target.new }
-    ensures size { length target.new ≡ length target.old }
-{
-    if !copy_eight::<T>(bytes, target, 0) {
-        return false;
-    }
-    copy_eight::<T>(bytes, target, bytes.len() - 8)
-}
-
 // Copies bytes one by one if they pass a test, and returns whether they do.
 #[inline(always)]
 fn copy_few<T: ByteTest>(bytes: &[u8], target: &mut [u8]) -> bool
@@ -204,7 +181,10 @@ pub(crate) fn copy_passing<T: ByteTest>(bytes: &[u8], target: &mut [u8]) -> bool
         return copy_many::<T>(bytes, target);
     }
     if bytes.len() >= 8 {
-        return copy_some::<T>(bytes, target);
+        if !copy_eight::<T>(bytes, target, 0) {
+            return false;
+        }
+        return copy_eight::<T>(bytes, target, bytes.len() - 8);
     }
     copy_few::<T>(bytes, target)
 }
