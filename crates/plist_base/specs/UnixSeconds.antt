@@ -5,7 +5,7 @@ use Rattle.std.specs.Char.{is_ascii_digit}
 use Rattle.std.specs.Fmt.{format_spec, styled_decimal}
 use Rattle.std.specs.Int.{is_in_range}
 use Rattle.jiff_core.specs.Calendar.{days_from_civil, days_in_month}
-use Rattle.plist_base.specs.declared.utc_second.UtcSecond.{UtcSecond}
+use Rattle.plist_base.specs.declared.date_text.UtcSecond.{UtcSecond}
 
 -- ---- numbers
 

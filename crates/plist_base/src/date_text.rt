@@ -1,14 +1,17 @@
 //! Parses and prints dates.
 
-ghost use Rattle.std.specs.Prelude.{◌≡◌, ◌↔◌, ℕ, List, true, codes, Some, None, Ok, IsErr, IfOk, string_bytes};
+ghost use Rattle.std.specs.Prelude.{◌≡◌, ◌↔◌, ◌+◌, ◌<◌, ◌≤◌, ◌+ℤ◌, ◌*ℤ◌, ◌≤ℤ◌, ℕ, List, length, pos, true, codes, Some, None, Ok, IsErr, IsSome, IsTrue, IfOk, IfSome, MatchOption, string_bytes};
+ghost use Rattle.jiff_core.specs.Calendar.{IsEpochDay, IsWithin};
+ghost use Rattle.jiff_core.specs.Date.{epoch_day};
 ghost use Rattle.plist_base.specs.Outcomes.{OnlyMemory};
 ghost use Rattle.plist_base.specs.Date.{IsWhole, has_fraction, real_bits, second_of_bytes};
 ghost use Rattle.plist_base.specs.DateTexts.{HasTextYear, IsDateText, IsInUtc, IsRefused, second_of_text, PrintsOnly};
 ghost use Rattle.plist_base.specs.Faults.{FractionalDate, InvalidDateString, YearOutOfRange, fault_without_offset, fault_of};
+ghost use Rattle.plist_base.specs.UnixSeconds as spec;
+ghost use Rattle.plist_base.specs.UnixSeconds.{HasFourDigitYear, IsTextOfSecond, utc_text};
 
-use crate::date_reading::unix_second_of_text;
-use crate::utc_second::UtcSecond;
 use crate::{Date, Error, ErrorKind};
+use jiff_core::civil;
 use std::alloc::Global;
 use std::fmt;
 
@@ -70,7 +73,8 @@ impl Date {
         // Result.
         ensures text { IfOk result (λ text. IsDateText self.now (string_bytes text)) }
         // Errors.
-        ensures fraction { has_fraction (real_bits self.now) ≡ true → IsRefused FractionalDate result }
+        ensures fraction { has_fraction (real_bits self.now) ≡ true
+            → IsRefused FractionalDate result }
         ensures year { IsWhole self.now → ¬ (HasTextYear self.now)
             → IsRefused YearOutOfRange result }
         ensures memory { IsWhole self.now → HasTextYear self.now → OnlyMemory result }
@@ -103,5 +107,180 @@ impl From<InvalidXmlDate> for Error {
 
     fn from(_error: InvalidXmlDate) -> Error {
         ErrorKind::InvalidDateString.without_position()
+    }
+}
+
+// Returns the number that the two digits at an offset spell, or `None` if one isn't a digit.
+#[tactic(auto, unfolding(crate::specs::UnixSeconds::two_digits))]
+fn two_digits_at(text: &[u8], place: usize) -> Option<u8>
+    requires { place + 1 < length text.now }
+    ensures is { result ≡ spec.two_digits_at text.now place }
+    ensures small { IfSome result (λ n. n < 100) }
+{
+    let (tens, ones) = (text[place], text[place + 1]);
+    if tens.is_ascii_digit() && ones.is_ascii_digit() {
+        Some((tens - b'0') * 10 + (ones - b'0'))
+    } else {
+        None
+    }
+}
+
+// Parses the `YYYY-MM-DD` at offset 0, and returns the number of days from 1970-01-01 to it, or
+// `None` if the calendar doesn't have it.
+#[tactic(auto, unfolding(crate::specs::UnixSeconds::day_number))]
+fn day_in(text: &[u8]) -> Option<i32>
+    requires { 10 ≤ length text.now }
+    ensures is { result ≡ spec.day_in text.now }
+    ensures bound { IfSome result (λ n. IsEpochDay n) }
+{
+    let century = two_digits_at(text, 0)?;
+    let year = two_digits_at(text, 2)?;
+    let month = two_digits_at(text, 5)?;
+    let day = two_digits_at(text, 8)?;
+    // A greater month or day might not fit into an `i8`, the type of the calendar's parameters.
+    if month > 12 || day > 31 {
+        return None;
+    }
+    let year = u16::from(century) * 100 + u16::from(year);
+    let date = civil::Date::new(year as i16, month as i8, day as i8).ok()?;
+    Some(date.to_unix_epoch_day())
+}
+
+// Parses the `HH:MM:SS` at offset 11, and returns the second of the day, or `None` if a part is out
+// of range.
+#[tactic(auto, unfolding(crate::specs::UnixSeconds::second_of_day))]
+fn time_in(text: &[u8]) -> Option<u32>
+    requires { 19 ≤ length text.now }
+    ensures is { result ≡ spec.time_in text.now }
+    ensures bound { IfSome result (λ n. n < 86400) }
+{
+    let hour = two_digits_at(text, 11)?;
+    let minute = two_digits_at(text, 14)?;
+    let second = two_digits_at(text, 17)?;
+    (hour < 24 && minute < 60 && second < 60).then_some(
+        u32::from(hour) * 3600 + u32::from(minute) * 60 + u32::from(second),
+    )
+}
+
+// Returns whether the text is long enough and has the separators at their offsets.
+fn has_separators(text: &[u8]) -> bool
+    ensures is { result ≡ spec.has_separators text.now }
+    ensures long { IsTrue result → 20 ≤ length text.now }
+{
+    text.len() >= 20
+        && text[4] == b'-'
+        && text[7] == b'-'
+        && (text[10] == b'T' || text[10] == b't' || text[10] == b' ')
+        && text[13] == b':'
+        && text[16] == b':'
+}
+
+// Parses the zone at offset 19, which is `Z`, `z`, or a sign with `HH:MM`, and returns how many
+// seconds it is ahead of UTC.
+fn zone_in(text: &[u8]) -> Option<i32>
+    requires { 20 ≤ length text.now }
+    ensures is { result ≡ spec.zone_in text.now }
+    ensures bound { IfSome result (λ n. IsWithin 86399 n) }
+{
+    if text.len() == 20 {
+        return (text[19] == b'Z' || text[19] == b'z').then_some(0);
+    }
+    if text.len() != 25 || text[22] != b':' {
+        return None;
+    }
+    let hours = two_digits_at(text, 20)?;
+    let minutes = two_digits_at(text, 23)?;
+    if hours >= 24 || minutes >= 60 {
+        return None;
+    }
+    let seconds = i32::from(hours) * 3600 + i32::from(minutes) * 60;
+    match text[19] {
+        b'+' => Some(seconds),
+        b'-' => Some(-seconds),
+        _ => None,
+    }
+}
+
+// Returns the Unix second that a string spells, or `None` if it isn't a date.
+//
+// The form is `YYYY-MM-DD`, then `T`, `t` or a space, then `HH:MM:SS`, and then `Z`, `z` or a sign
+// with `HH:MM`, in the years 0 to 9999. The calendar must have the day. Hours are from 00 to 23,
+// and minutes and seconds from 00 to 59, so the second 60 isn't allowed.
+#[tactic(auto, unfolding(crate::specs::UnixSeconds::unix_second_of_text))]
+fn unix_second_of_text(text: &str) -> Option<i64>
+    ensures is { result ≡ spec.unix_second_of_text text.now }
+{
+    let text = text.as_bytes();
+    if !has_separators(text) {
+        return None;
+    }
+    let day = day_in(text)?;
+    let time = time_in(text)?;
+    let zone = zone_in(text)?;
+    Some(i64::from(day) * 86_400 + i64::from(time) - i64::from(zone))
+}
+
+const SECONDS_A_DAY: i64 = 86_400;
+
+// A second of the years 0 to 9999, in UTC.
+#[derive(Clone, Copy)]
+struct UtcSecond {
+    century: u8,
+    // The year within its century.
+    year: u8,
+    month: u8,
+    day: u8,
+    hour: u8,
+    minute: u8,
+    second: u8,
+}
+
+impl UtcSecond {
+    // Returns the calendar parts of a Unix second, or `None` if its year isn't from 0 to 9999.
+    #[tactic(auto, using(crate::proofs::OneDateText::years))]
+    fn from_unix_secs(second: i64) -> Option<UtcSecond>
+        ensures year { IsSome result ↔ HasFourDigitYear second }
+        ensures text { IfSome result (λ parts. IsTextOfSecond second (utc_text parts)) }
+        ensures only { (other : List ℕ) → IsTextOfSecond second other
+            → MatchOption result ⊥ (λ parts. other ≡ utc_text parts) }
+    {
+        match civil::Date::from_unix_epoch_day(second.div_euclid(SECONDS_A_DAY)) {
+            Ok(date) if date.year >= 0 => Some(utc_second_of(
+                date,
+                second.rem_euclid(SECONDS_A_DAY).unsigned_abs() as u32,
+            )),
+            _ => None,
+        }
+    }
+}
+
+// Returns the calendar parts of this second of a day.
+fn utc_second_of(date: civil::Date, second: u32) -> UtcSecond
+    requires year { pos 0 ≤ℤ date.year }
+    requires second { second < 86400 }
+    ensures { IsTextOfSecond (epoch_day date *ℤ pos 86400 +ℤ pos second) (utc_text result) }
+{
+    let year = date.year.unsigned_abs();
+    UtcSecond {
+        century: (year / 100) as u8,
+        year: (year % 100) as u8,
+        month: date.month,
+        day: date.day,
+        hour: (second / 3600) as u8,
+        minute: (second / 60 % 60) as u8,
+        second: (second % 60) as u8,
+    }
+}
+
+// Formats the second as `YYYY-MM-DDTHH:MM:SSZ`.
+impl fmt::Display for UtcSecond {
+    ghost output = { λ second. Some (utc_text second) };
+
+    fn fmt<W: fmt::Write>(&self, f: &mut fmt::Formatter<W>) -> fmt::Result {
+        write!(
+            f,
+            "{:02}{:02}-{:02}-{:02}T{:02}:{:02}:{:02}Z",
+            self.century, self.year, self.month, self.day, self.hour, self.minute, self.second
+        )
     }
 }

@@ -73,8 +73,7 @@ impl LongWindows {
     }
 
     // Allocates the first windows if there are none, and returns whether there are any.
-    fn allocate_first(&mut self) -> bool
-    {
+    fn allocate_first(&mut self) -> bool {
         if !self.headers.is_empty() {
             return true;
         }
@@ -83,8 +82,7 @@ impl LongWindows {
     }
 
     // Counts the fill of a window, and doubles the number of windows if refills are frequent.
-    fn count_fill(&mut self, number: u64)
-    {
+    fn count_fill(&mut self, number: u64) {
         let bit = number % FILL_BITS as u64;
         let mask = 1 << (bit % 64);
         let was_filled = match self.ever_filled.get_mut((bit / 64) as usize) {

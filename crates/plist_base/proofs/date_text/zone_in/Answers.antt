@@ -1,7 +1,7 @@
 use Rattle.std.proofs.Common.{rules, ap, ◌≡◌, ◌∙◌, ◌+◌, ◌*◌, pos, neg_ℤ, sym, Some, arith}
 use Rattle.std.proofs.lemmas.Int.{ints}
 use Rattle.plist_base.specs.UnixSeconds.{zone_in}
-use Rattle.plist_base.proofs.date_reading.zone_in.Goals as goal
+use Rattle.plist_base.proofs.date_text.zone_in.Goals as goal
 
 pub returns-in-45-clause-is : goal.returns-in-45-clause-is
 returns-in-45-clause-is c =

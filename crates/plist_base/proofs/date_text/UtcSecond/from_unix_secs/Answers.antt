@@ -5,8 +5,8 @@ use Rattle.jiff_core.proofs.SignedLemmas.{signed_arith, int_div_euclid-parts}
 use Rattle.jiff_core.specs.Date.{epoch_day}
 use Rattle.plist_base.proofs.DatePrinting.{before_years, in_years}
 use Rattle.plist_base.proofs.OneDateText.{one_text, year_of_text}
-use Rattle.plist_base.proofs.utc_second.UtcSecond.from_unix_secs.Goals as goal
-use Rattle.plist_base.proofs.utc_second.UtcSecond.from_unix_secs.Goals.{In-Ok}
+use Rattle.plist_base.proofs.date_text.UtcSecond.from_unix_secs.Goals as goal
+use Rattle.plist_base.proofs.date_text.UtcSecond.from_unix_secs.Goals.{In-Ok}
 
 day_fits : (second day : ℤ) → FitsSigned w64 second → day ≡ int_div_euclid second (pos 86400)
     → FitsSigned w64 day

@@ -3,7 +3,7 @@ use Rattle.std.proofs.lemmas.Int.{ints, to_z-of_z}
 use Rattle.jiff_core.proofs.SignedLemmas.{signed_arith}
 use Rattle.plist_base.specs.UnixSeconds.{day_in, has_separators, time_in, zone_in}
 use Rattle.plist_base.proofs.DatePrinting.{spelled}
-use Rattle.plist_base.proofs.date_reading.unix_second_of_text.Goals as goal
+use Rattle.plist_base.proofs.date_text.unix_second_of_text.Goals as goal
 
 pub returns : goal.returns
 returns c =

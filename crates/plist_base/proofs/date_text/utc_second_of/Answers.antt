@@ -2,7 +2,7 @@ use Rattle.std.proofs.Common.{◌≡◌, pos, arith, FitsSigned, w16}
 use Rattle.std.proofs.lemmas.Int.{ints, to_z-of_z}
 use Rattle.jiff_core.proofs.SignedLemmas.{signed_arith}
 use Rattle.plist_base.proofs.DatePrinting.{printed}
-use Rattle.plist_base.proofs.utc_second.utc_second_of.Goals as goal
+use Rattle.plist_base.proofs.date_text.utc_second_of.Goals as goal
 
 pub returns : goal.returns
 returns c =
