@@ -25,25 +25,28 @@ pub trait ByteTest {
         ensures { result ≡ true → passes byte };
 }
 
-/// Tests whether bytes are ASCII.
-pub struct Ascii;
+/// Tests whether bytes are less than a limit.
+pub struct Below<const LIMIT: u8>;
 
-impl ByteTest for Ascii {
-    ghost passes = { λ byte. byte < 128 };
+/// Tests whether bytes are ASCII.
+pub type Ascii = Below<128>;
+
+impl<const LIMIT: u8> ByteTest for Below<LIMIT> {
+    ghost passes = { λ byte. byte < LIMIT };
 
     #[inline(always)]
     fn sixteen(bytes: u8x16) -> bool {
-        bytes.simd_ge(u8x16::splat(128)).to_bitmask() == 0
+        bytes.simd_ge(u8x16::splat(LIMIT)).to_bitmask() == 0
     }
 
     #[inline(always)]
     fn eight(bytes: u8x8) -> bool {
-        bytes.simd_ge(u8x8::splat(128)).to_bitmask() == 0
+        bytes.simd_ge(u8x8::splat(LIMIT)).to_bitmask() == 0
     }
 
     #[inline(always)]
     fn one(byte: u8) -> bool {
-        byte < 128
+        byte < LIMIT
     }
 }
 

@@ -11,30 +11,11 @@ ghost use Rattle.plist_base.specs.Object.{Faulty, Scalar, wide_text};
 ghost use Rattle.plist_base.specs.Trees.{String};
 ghost use Rattle.plist_base.specs.Utf16.{ArePaired, IsAsciiBlock, IsNextChar, IsUnpaired, IsUtf16, unit_at, chars_of_utf16, utf8_of_utf16, utf8_share};
 
-use crate::byte_test::{ByteTest, all_pass};
+use crate::byte_test::{Below, all_pass};
 use std::simd::prelude::*;
 
 // Tests whether bytes are less than the first bytes of all surrogates.
-struct BelowSurrogates;
-
-impl ByteTest for BelowSurrogates {
-    ghost passes = { λ byte. byte < 0xd8 };
-
-    #[inline(always)]
-    fn sixteen(bytes: u8x16) -> bool {
-        bytes.simd_ge(u8x16::splat(0xd8)).to_bitmask() == 0
-    }
-
-    #[inline(always)]
-    fn eight(bytes: u8x8) -> bool {
-        bytes.simd_ge(u8x8::splat(0xd8)).to_bitmask() == 0
-    }
-
-    #[inline(always)]
-    fn one(byte: u8) -> bool {
-        byte < 0xd8
-    }
-}
+type BelowSurrogates = Below<0xd8>;
 
 // Returns the unit at an index.
 #[inline(always)]

@@ -1,6 +1,0 @@
-use Rattle.std.proofs.Common.{arith}
-use Rattle.plist_base.proofs.ByteBlocks.{each_below}
-use Rattle.plist_base.proofs.byte_test.AsciiByteTest.sixteen.Goals as goal
-
-pub returns : goal.returns
-returns c = each_below 16 128 c.args.bytes (omega arith) c.fits-bytes.0
