@@ -28,13 +28,6 @@ const REFILL_WEIGHT: u64 = 8;
 // refills.
 const FILL_BITS: usize = 65_536;
 
-// Short windows, which need no allocation.
-#[derive(Drop)]
-struct ShortWindows {
-    headers: [Header; INITIAL_WINDOWS],
-    bytes: [u8; INITIAL_WINDOWS * (SHORT_WINDOW + OVERLAP)],
-}
-
 // Long windows on the heap. None are allocated before one has to be filled.
 //
 // Their number doubles when there are more refills than half as many windows, up to 8,192 windows.
@@ -120,7 +113,9 @@ impl LongWindows {
 /// first.
 #[derive(Drop)]
 pub(crate) struct Windows {
-    short: ShortWindows,
+    // The short windows, which need no allocation.
+    headers: [Header; INITIAL_WINDOWS],
+    bytes: [u8; INITIAL_WINDOWS * (SHORT_WINDOW + OVERLAP)],
     long: Option<LongWindows>,
 }
 
@@ -131,10 +126,8 @@ impl Windows {
     /// allocated when the first is filled.
     pub(crate) fn new(alloc: Option<Global>) -> Self {
         Windows {
-            short: ShortWindows {
-                headers: [UNFILLED; INITIAL_WINDOWS],
-                bytes: [0; INITIAL_WINDOWS * (SHORT_WINDOW + OVERLAP)],
-            },
+            headers: [UNFILLED; INITIAL_WINDOWS],
+            bytes: [0; INITIAL_WINDOWS * (SHORT_WINDOW + OVERLAP)],
             long: alloc.map(LongWindows::new),
         }
     }
@@ -158,7 +151,7 @@ impl Windows {
             Some(long) if long.headers.len() >= 2 => {
                 buffered_in(&long.headers, &long.bytes, LONG_WINDOW, place)
             }
-            _ => buffered_in(&self.short.headers, &self.short.bytes, SHORT_WINDOW, place),
+            _ => buffered_in(&self.headers, &self.bytes, SHORT_WINDOW, place),
         }
     }
 
@@ -173,7 +166,6 @@ impl Windows {
                 return long.fill(place, reader);
             }
         }
-        let ShortWindows { headers, bytes } = &mut self.short;
-        fill_in(headers, bytes, SHORT_WINDOW, place, reader)
+        fill_in(&mut self.headers, &mut self.bytes, SHORT_WINDOW, place, reader)
     }
 }

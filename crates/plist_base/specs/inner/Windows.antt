@@ -23,4 +23,4 @@ abbrev pub Lends : Windows → (place : ℕ) → (lent : List ℕ) → Type 0
 Lends windows place lent =
     ((long : LongWindows) × (windows.long ≡ Some long)
     × LendsFrom 8192 long.headers.items long.bytes.items place lent)
-    ⊎ LendsFrom 512 windows.short.headers windows.short.bytes place lent
+    ⊎ LendsFrom 512 windows.headers windows.bytes place lent
