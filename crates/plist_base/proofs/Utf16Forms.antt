@@ -361,6 +361,3 @@ pub no_fewer_bytes : (bytes : List ℕ) → ArePaired bytes
     → length bytes / 2 ≤ length (utf8_of_utf16 bytes)
 no_fewer_bytes bytes paired =
     omega (arith, units_length bytes, (has_chars (numbers_spelled 2 bytes) paired).enough)
-
--- rules for the length in UTF-8
-pub ruleset shares = (share_more, shares_all)

@@ -11,7 +11,7 @@ use Rattle.plist_base.specs.Container.{numbers_spelled}
 use Rattle.plist_base.specs.Utf16.{utf8_share}
 use Rattle.plist_base.proofs.ByteBlocks.{turned}
 use Rattle.plist_base.proofs.Utf16Blocks.{unit_is}
-use Rattle.plist_base.proofs.Utf16Forms.{IsBytes}
+use Rattle.plist_base.proofs.Utf16Forms.{IsBytes, share_more, shares_all}
 use Rattle.plist_base.proofs.Utf16Units.{nth_unit, units_length}
 
 -- ---- the shares of units
@@ -140,3 +140,6 @@ shares_more us block size eight before more =
     ∙ sym (sum_by-append utf8_share (take (8 * block) us) (take 8 (drop (8 * block) us)))
     ∙ ap (sum_by utf8_share) (sym (take-add (8 * block) 8 us)
     ∙ ap (λ n. take n us) {x = 8 * block + 8} {y = 8 * (block + 1)} (omega arith))
+
+-- rules for the bytes of all units
+pub ruleset shares = (share_more, shares_all, shares_more)

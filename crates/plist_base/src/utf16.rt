@@ -184,7 +184,7 @@ impl<'a> Utf16Str<'a> {
     }
 
     /// Returns the number of bytes that the string has in UTF-8.
-    #[tactic(auto, using(crate::proofs::Utf16Forms::shares, crate::proofs::Utf16Shares::shares_more))]
+    #[tactic(auto, using(crate::proofs::Utf16Shares::shares))]
     pub fn len_utf8(self) -> usize
         ensures { result ≡ length (string_of_utf16 self.entry) }
     {
