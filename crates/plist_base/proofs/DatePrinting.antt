@@ -1,11 +1,11 @@
 -- What is printed for a second in UTC is parsed as that second. A second is in the years 0 to 9999
 -- if its day is.
 use Rattle.std.proofs.Common.{◌≡◌, ℕ, ℤ, pos, ◌+ℤ◌, ◌*ℤ◌, ◌<ℤ◌, ◌≤ℤ◌, ◌<◌, inl, inr, refl, arith, ◌+◌, ◌*◌, ◌/◌, ◌%◌, true, List, [], ◌∷◌, ◌++◌, ◌-ℤ◌, Some, sym, ap, subst, ◌∙◌}
-use Rattle.std.specs.Int.{int_div_euclid, IsInRange}
+use Rattle.std.specs.Int.{int_div_euclid, int_rem_euclid, IsInRange}
 use Rattle.jiff_core.specs.Calendar.{days_from_civil, IsEpochDay, days_in_month}
 use Rattle.jiff_core.specs.Date.{epoch_day}
 use Rattle.jiff_core.specs.declared.civil.date.Date.{Date}
-use Rattle.jiff_core.proofs.SignedLemmas.{signed_arith, int_div_euclid-parts}
+use Rattle.jiff_core.proofs.SignedLemmas.{signed_arith, int_div_euclid-parts, int_rem_euclid-parts}
 use Rattle.jiff_core.proofs.DateLemmas.{cases_date, epoch_day-lt, epoch_day_range, epoch_day_same, days_from_civil-max}
 use Rattle.plist_base.specs.UnixSeconds.{HasFourDigitYear, day_in, day_number, has_separators, second_of_day, time_in, two_digits, unix_second_of_text, zone_in, IsTextOfSecond}
 use Rattle.std.proofs.lemmas.Bool.{cases_lt}
@@ -192,3 +192,12 @@ pub spelled : (text : List ℕ) (day zone : ℤ) (time : ℕ) → has_separators
     → unix_second_of_text text ≡ Some ((day *ℤ pos 86400 +ℤ pos time) -ℤ zone)
 unfolding unix_second_of_text
 spelled text day zone time marks is_day is_time is_zone = rw (marks, is_day, is_time, is_zone) refl
+
+-- a text of a second, given its day and the second of its day
+pub on_day : (second day : ℤ) (time : ℕ) (text : List ℕ) → day ≡ int_div_euclid second (pos 86400)
+    → pos time ≡ int_rem_euclid second (pos 86400)
+    → IsTextOfSecond (day *ℤ pos 86400 +ℤ pos time) text → IsTextOfSecond second text
+on_day second day time text is_day is_time of_parts =
+    let parts = int_rem_euclid-parts second 86400 (omega arith) in
+    let sum : (day *ℤ pos 86400 +ℤ pos time) ≡ second = omega
+    (arith, signed_arith, is_day, is_time, parts) in subst (λ s. IsTextOfSecond s text) sum of_parts

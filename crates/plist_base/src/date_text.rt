@@ -245,30 +245,21 @@ impl UtcSecond {
             → MatchOption result ⊥ (λ parts. other ≡ utc_text parts) }
     {
         match civil::Date::from_unix_epoch_day(second.div_euclid(SECONDS_A_DAY)) {
-            Ok(date) if date.year >= 0 => Some(utc_second_of(
-                date,
-                second.rem_euclid(SECONDS_A_DAY).unsigned_abs() as u32,
-            )),
+            Ok(date) if date.year >= 0 => {
+                let year = date.year.unsigned_abs();
+                let second = second.rem_euclid(SECONDS_A_DAY).unsigned_abs() as u32;
+                Some(UtcSecond {
+                    century: (year / 100) as u8,
+                    year: (year % 100) as u8,
+                    month: date.month,
+                    day: date.day,
+                    hour: (second / 3600) as u8,
+                    minute: (second / 60 % 60) as u8,
+                    second: (second % 60) as u8,
+                })
+            }
             _ => None,
         }
-    }
-}
-
-// Returns the calendar parts of this second of a day.
-fn utc_second_of(date: civil::Date, second: u32) -> UtcSecond
-    requires year { pos 0 ≤ℤ date.year }
-    requires second { second < 86400 }
-    ensures { IsTextOfSecond (epoch_day date *ℤ pos 86400 +ℤ pos second) (utc_text result) }
-{
-    let year = date.year.unsigned_abs();
-    UtcSecond {
-        century: (year / 100) as u8,
-        year: (year % 100) as u8,
-        month: date.month,
-        day: date.day,
-        hour: (second / 3600) as u8,
-        minute: (second / 60 % 60) as u8,
-        second: (second % 60) as u8,
     }
 }
 

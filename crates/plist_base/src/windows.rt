@@ -166,6 +166,12 @@ impl Windows {
                 return long.fill(place, reader);
             }
         }
-        fill_in(&mut self.headers, &mut self.bytes, SHORT_WINDOW, place, reader)
+        fill_in(
+            &mut self.headers,
+            &mut self.bytes,
+            SHORT_WINDOW,
+            place,
+            reader,
+        )
     }
 }
