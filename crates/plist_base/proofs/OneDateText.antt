@@ -8,7 +8,7 @@ use Rattle.jiff_core.specs.Date.{epoch_day}
 use Rattle.jiff_core.specs.declared.civil.date.Date.{Date}
 use Rattle.jiff_core.proofs.DateLemmas.{epoch_day_injective}
 use Rattle.jiff_core.proofs.SignedLemmas.{signed_arith}
-use Rattle.plist_base.specs.UnixSeconds.{day_number, has_separators, second_of_parts, of_both, of_three, second_of_day, two_digits_at, two_digits, unix_second_of_text, zone_in, HasFourDigitYear, IsTextOfSecond}
+use Rattle.plist_base.specs.UnixSeconds.{day_number, has_separators, of_both, of_three, second_of_day, two_digits_at, two_digits, unix_second_of_text, zone_in, HasFourDigitYear, IsTextOfSecond}
 use Rattle.plist_base.proofs.DatePrinting.{before_years, day_of_years, in_years, second_in_years, two_text, text_from}
 
 -- ---- the parts of a result
@@ -30,10 +30,10 @@ three : {A : Type 0} (a b c : Option ℕ) (make : ℕ → ℕ → ℕ → Option
     × IsSome c z × IsSome (make x y z) value
 three a b c make value is = search rules
 
-has_parts : (day : Option ℤ) (time : Option ℕ) (zone : Option ℤ) (second : ℤ)
-    → IsSome (second_of_parts day time zone) second → (d : ℤ) × (t : ℕ) × (z : ℤ) × IsSome day d
-    × IsSome time t × IsSome zone z × (((d *ℤ pos 86400 +ℤ pos t) -ℤ z) ≡ second)
-has_parts day time zone second is = search rules
+has_parts : (day : Option ℤ) (time : Option ℕ) (at : Option ℤ) (second : ℤ)
+    → IsSome (of_three day time at (λ d t z. Some ((d *ℤ pos 86400 +ℤ pos t) -ℤ z))) second → (d : ℤ) × (t : ℕ) × (z : ℤ) × IsSome day d
+    × IsSome time t × IsSome at z × (((d *ℤ pos 86400 +ℤ pos t) -ℤ z) ≡ second)
+has_parts day time at second is = search rules
 
 -- ---- the digits
 

@@ -18,14 +18,14 @@ two_digits tens ones =
 abbrev pub two_digits_at : (text : List ℕ) (place : ℕ) → Option ℕ
 two_digits_at text place = two_digits (slice_index text place) (slice_index text (place + 1))
 
--- `make` applied to two numbers, if both exist
-abbrev pub of_both : {A : Type 0} → Option ℕ → Option ℕ → (ℕ → ℕ → Option A) → Option A
+-- `make` applied to two values, if both exist
+abbrev pub of_both : {A B C : Type 0} → Option A → Option B → (A → B → Option C) → Option C
 of_both (Some a) (Some b) make = make a b
 of_both a b make = None
 
--- `make` applied to three numbers, if all exist
-abbrev pub of_three : {A : Type 0} → Option ℕ → Option ℕ → Option ℕ → (ℕ → ℕ → ℕ → Option A)
-    → Option A
+-- `make` applied to three values, if all exist
+abbrev pub of_three : {A B C D : Type 0} → Option A → Option B → Option C → (A → B → C → Option D)
+    → Option D
 of_three (Some a) b c make = of_both b c (make a)
 of_three None b c make = None
 
@@ -81,15 +81,11 @@ zone_in text =
     else (if (length text == 25) && (slice_index text 22 == 58) then
     of_both (two_digits_at text 20) (two_digits_at text 23) (offset (slice_index text 19)) else None)
 
--- the Unix second of a day, a second of the day and a zone, if all exist
-abbrev pub second_of_parts : Option ℤ → Option ℕ → Option ℤ → Option ℤ
-second_of_parts (Some day) (Some time) (Some offset) = Some ((day *ℤ pos 86400 +ℤ pos time) -ℤ offset)
-second_of_parts day time offset = None
-
 -- the Unix second that a text spells, or `None` if it spells no date
 unfoldable pub unix_second_of_text : List ℕ → Option ℤ
 unix_second_of_text text =
-    if has_separators text then second_of_parts (day_in text) (time_in text) (zone_in text) else None
+    if has_separators text then of_three (day_in text) (time_in text) (zone_in text)
+    (λ day time zone. Some ((day *ℤ pos 86400 +ℤ pos time) -ℤ zone)) else None
 
 -- the text spells this second as it is printed, with `T` and `Z`
 pub record IsTextOfSecond (second : ℤ) (text : List ℕ) : Type 0 where
