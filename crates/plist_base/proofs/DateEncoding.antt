@@ -10,7 +10,7 @@ use Rattle.std.specs.Int.Signed.{lt_z}
 use Rattle.std.proofs.lemmas.Int.{ints}
 use Rattle.std.specs.Option.{option_map}
 use Rattle.plist_base.specs.Date.{real_exponent, real_mantissa, real_scale, parts_in_second, parts_of, whole_seconds, parts_left, real_second, rounded_down, is_second_of_date, if_second_of_date, is_negative, second_of_bits, has_fraction, real_bits, real_parts, date_bytes, IsWholeAt}
-use Rattle.plist_base.specs.Date.{whole_bits, second_bits, AreBitsAt}
+use Rattle.plist_base.specs.Date.{whole_bits}
 use Rattle.plist_base.proofs.DateShifts.{second_pos}
 
 pub record Encoded (n : ℕ) : Type 0 where
@@ -122,17 +122,17 @@ whole_small n k = omega arith
 
 -- the bits are those of the second, encode it without a fraction, and have exactly its value
 pub record AreWritten (second : ℤ) (bits : ℕ) : Type 0 where
-  pub is : AreBitsAt second bits
+  pub is : (is_second_of_date second ≡ true) × (eqb bits (2 ^ 63) ≡ false)
   pub back : IsWholeAt second bits
   pub exact : real_parts bits ≡ (second *ℤ pos parts_in_second)
 
 zero_written : AreWritten (pos 0) (whole_bits 0)
 unfolding second_of_bits real_second real_exponent real_mantissa real_scale whole_seconds parts_left
-    parts_of parts_in_second has_fraction whole_bits second_bits real_parts
+    parts_of parts_in_second has_fraction whole_bits real_parts
 zero_written = record { is = (refl, refl); back = (refl, refl); exact = refl }
 
 written_pos : (n : ℕ) → is_second_of_date (pos n) ≡ true → AreWritten (pos n) (whole_bits n)
-unfolding real_parts second_bits
+unfolding real_parts
 written_pos zero h = zero_written
 written_pos (suc n) h =
     let small : suc n < 2 ^ 53 = grind (arith, nat_tests) in
@@ -141,7 +141,7 @@ written_pos (suc n) h =
     let bits = whole_bits (suc n) in
     let plus : is_negative bits ≡ false = grind (arith, nat_tests) in
     record {
-      is = (h, refl);
+      is = (h, grind (arith, nat_tests));
       back = (
         second_is _ 0 k bits (omega arith) (omega arith) ∙ rw (plus, h) refl,
         no_fraction
@@ -152,14 +152,15 @@ written_pos (suc n) h =
 
 written_neg : (n : ℕ) → is_second_of_date (negsuc n) ≡ true
     → AreWritten (negsuc n) (2 ^ 63 + whole_bits (suc n))
-unfolding real_parts second_bits
+unfolding real_parts
 written_neg n h =
     let small : suc n < 2 ^ 53 = grind (arith, nat_tests) in
     let k = encoded _ (omega arith) small in
     let bits = 2 ^ 63 + whole_bits _ in
     let minus : is_negative bits ≡ true = grind (arith, nat_tests) in
+    let some : 0 < whole_bits (suc n) = omega (arith, k.is, k.low) in
     record {
-      is = (h, rw add-one refl);
+      is = (h, grind (arith, nat_tests));
       back = (
         second_is _ 1 k bits (omega arith) (omega arith) ∙ rw
             (minus, h) refl,
@@ -184,18 +185,6 @@ pub from_zero : (z x y : ℤ) (b n : ℕ) → x ≡ z → Some y ≡ if_second_o
 from_zero z (pos n) y b m same h le is e =
     rw (← same, e, is) (written_pos n (tested _ _ y h))
 from_zero z (negsuc n) y b m same h le is e = absurd (cc)
-
--- no second is written as the negative zero
-pub plain_bits : (z : ℤ) → is_second_of_date z ≡ true → eqb (second_bits z) (2 ^ 63) ≡ false
-unfolding second_bits whole_bits
-plain_bits (pos zero) h = refl
-plain_bits (pos (suc n)) h =
-    let k = encoded (suc n) (omega arith) (grind (arith, nat_tests)) in
-    let low = whole_small (suc n) k in grind (arith, nat_tests)
-plain_bits (negsuc n) h =
-    let k = encoded (suc n) (omega arith) (grind (arith, nat_tests)) in
-    let some : 0 < whole_bits (suc n) = omega (arith, k.is, k.low) in
-    rw add-one (grind (arith, nat_tests))
 
 pub bytes_are : (bs : List ℕ) (b : ℕ) → bs ≡ to_be_bytes w64 b → b < 2 ^ 64 → real_bits bs ≡ b
 bytes_are bs b e h = cc (from_be_bytes-to_be_bytes_8 b h)

@@ -8,7 +8,8 @@ use Rattle.plist_base.proofs.date.absolute_seconds.Goals.{then-exponent-eq0, els
 pub returns-clause-near : goal.returns-clause-near
 unfolding real_exponent real_mantissa real_scale
 returns-clause-near c =
-    let mantissa : (c.if-exponent-eq0.mantissa ≡ real_mantissa c.args.bits) × (c.if-exponent-eq0.mantissa < 2 ^ 53) =
+    let mantissa : (c.if-exponent-eq0.mantissa ≡ real_mantissa c.args.bits)
+    × (c.if-exponent-eq0.mantissa < 2 ^ 53) =
     elim c.if-exponent-eq0.branch [
       | then-exponent-eq0 w ↦ (grind (arith, nat_tests), omega arith)
       | else-exponent-eq0 w ↦ (grind (arith, nat_tests), omega arith)

@@ -7,7 +7,8 @@ use Rattle.plist_base.proofs.date.second_of_bits.Goals as goal
 pub returns-then-bits : goal.returns-then-bits
 returns-then-bits c =
     let (near, whole, fraction, small) = c.in_ok-whole.ensures.near in
-    let second : to_z w64 c.in_ok-whole.whole ≡ pos c.in_ok-whole.whole = omega (arith, ints, small) in
+    let second : to_z w64 c.in_ok-whole.whole ≡ pos c.in_ok-whole.whole =
+    omega (arith, ints, small) in
     c.checked_second.ensures ∙ ap if_second_of_date second
     ∙ from_zero c.args.bits _ whole near c.if-bits.true
 
