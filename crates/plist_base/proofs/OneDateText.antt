@@ -32,7 +32,8 @@ three a b c make value is = search rules
 
 has_parts : (day : Option ℤ) (time : Option ℕ) (at : Option ℤ) (second : ℤ)
     → IsSome (of_three day time at (λ d t z. Some ((d *ℤ pos 86400 +ℤ pos t) -ℤ z))) second
-    → (d : ℤ) × (t : ℕ) × (z : ℤ) × IsSome day d × IsSome time t × IsSome at z × (((d *ℤ pos 86400 +ℤ pos t) -ℤ z) ≡ second)
+    → (d : ℤ) × (t : ℕ) × (z : ℤ) × IsSome day d × IsSome time t × IsSome at z
+    × (((d *ℤ pos 86400 +ℤ pos t) -ℤ z) ≡ second)
 has_parts day time at second is = search rules
 
 -- ---- the digits

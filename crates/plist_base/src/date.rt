@@ -1,7 +1,7 @@
 //! Dates, which are stored as the eight bytes of a real.
 
-ghost use Rattle.std.specs.Prelude.{◌≡◌, ℕ, ◌^◌, ◌<◌, ◌≤◌, ◌↔◌, not, ◌==◌, false, true, pos, ℤ, ◌*ℤ◌, ◌-ℤ◌, Some, None, IfNone, IsSome, IfSome, IsErr, IfOk, IfErr, List, MatchOption};
-ghost use Rattle.plist_base.specs.Date.{IsDate, IsSecondOf, IsSecondOfDate, IsWhole, date_bytes, date_of_bytes, has_fraction, if_second_of_date, is_second_of_date, parts_in_second, parts_left, plist_epoch, real_bits, real_exponent, real_mantissa, real_parts, real_scale, rounded_down, second_of_bits, second_of_bytes, whole_seconds, HasNoSecond, IsExactly, IsOnlyAt, IsWholeAt, whole_bits};
+ghost use Rattle.std.specs.Prelude.{◌≡◌, ℕ, ◌^◌, ◌<◌, ◌≤◌, ◌↔◌, ◌==◌, false, true, pos, ℤ, ◌*ℤ◌, ◌-ℤ◌, Some, None, IfNone, IsSome, IfSome, IsErr, IfOk, IfErr, List, MatchOption};
+ghost use Rattle.plist_base.specs.Date.{IsDate, IsSecondOf, IsSecondOfDate, IsWhole, date_bytes, date_of_bytes, has_fraction, if_second_of_date, is_second_of_date, parts_in_second, plist_epoch, real_bits, real_exponent, real_mantissa, real_parts, real_scale, second_of_bits, second_of_bytes, whole_seconds, HasNoSecond, IsExactly, IsOnlyAt, IsWholeAt, whole_bits};
 
 use crate::ErrorKind;
 use std::marker::Model;

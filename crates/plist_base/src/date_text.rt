@@ -1,8 +1,7 @@
 //! Parses and prints dates.
 
-ghost use Rattle.std.specs.Prelude.{◌≡◌, ◌↔◌, ◌+◌, ◌<◌, ◌≤◌, ◌+ℤ◌, ◌*ℤ◌, ◌≤ℤ◌, ℕ, List, length, pos, true, codes, Some, None, Ok, IsErr, IsSome, IsTrue, IfOk, IfSome, MatchOption, string_bytes};
+ghost use Rattle.std.specs.Prelude.{◌≡◌, ◌↔◌, ◌+◌, ◌<◌, ◌≤◌, ℕ, List, length, true, codes, Some, None, Ok, IsErr, IsSome, IsTrue, IfOk, IfSome, MatchOption, string_bytes};
 ghost use Rattle.jiff_core.specs.Calendar.{IsEpochDay, IsWithin};
-ghost use Rattle.jiff_core.specs.Date.{epoch_day};
 ghost use Rattle.plist_base.specs.Outcomes.{OnlyMemory};
 ghost use Rattle.plist_base.specs.Date.{IsWhole, has_fraction, real_bits, second_of_bytes};
 ghost use Rattle.plist_base.specs.DateTexts.{HasTextYear, IsDateText, IsInUtc, IsRefused, second_of_text, PrintsOnly};

@@ -1,7 +1,7 @@
 //! Windows of a file, stored in two slices: one has a header for every window, the other the bytes
 //! of all windows.
 
-ghost use Rattle.std.specs.Prelude.{◌≡◌, ◌+◌, ◌*◌, ◌<◌, ◌≤◌, length, IfSome, OnErr};
+ghost use Rattle.std.specs.Prelude.{◌≡◌, ◌+◌, ◌*◌, ◌<◌, ◌≤◌, length, IfSome};
 ghost use Rattle.plist_base.specs.inner.Windows.{IsWindowOf, LendsFrom};
 
 use std::io;

@@ -57,7 +57,8 @@ returns-in-Ok-clause-text c =
     let year_fits : FitsSigned w16 date.year = omega (arith, signed_arith, date.year_in) in
     let test = simp to_z-of_z at c.if-date-ge0.true in
     let year = simp to_z-of_z at c.unsigned_abs-year.ensures.value in
-    let same : pos c.unsigned_abs-year.result ≡ date.year = omega (arith, signed_arith, ints, year, test) in
+    let same : pos c.unsigned_abs-year.result ≡ date.year = omega
+    (arith, signed_arith, ints, year, test) in
     let below : c.unsigned_abs-second.result < 86400 = omega (arith, signed_arith, of_day, parts) in
     on_day c.args.second _ c.unsigned_abs-second.result _
     (date_of_second (goal.at.returns-in-Ok-clause-text c).In-Ok) of_day
