@@ -48,6 +48,8 @@ struct LongWindows {
 }
 
 impl LongWindows {
+    ghost use Rattle.plist_base.specs.inner.Windows.{KeepsWindows};
+
     fn new(alloc: Global) -> Self {
         LongWindows {
             headers: Vec::new(alloc),
@@ -59,14 +61,17 @@ impl LongWindows {
 
     // Extends the windows to this number, and returns whether memory for them could be allocated.
     fn extend_to(&mut self, count: usize) -> bool
-        requires { count ≤ 8192 }
+        requires { (length self.old.headers.items ≤ count) × (count ≤ 8192) }
+        ensures { KeepsWindows self.old self.new }
     {
         let size = (count * (LONG_WINDOW + OVERLAP)).max(self.bytes.len());
         self.bytes.resize(size, 0).is_ok() && self.headers.resize(count, UNFILLED).is_ok()
     }
 
     // Allocates the first windows if there are none, and returns whether there are any.
-    fn allocate_first(&mut self) -> bool {
+    fn allocate_first(&mut self) -> bool
+        ensures { KeepsWindows self.old self.new }
+    {
         if !self.headers.is_empty() {
             return true;
         }
@@ -75,7 +80,9 @@ impl LongWindows {
     }
 
     // Counts the fill of a window, and doubles the number of windows if refills are frequent.
-    fn count_fill(&mut self, number: u64) {
+    fn count_fill(&mut self, number: u64)
+        ensures { KeepsWindows self.old self.new }
+    {
         let bit = number % FILL_BITS as u64;
         let mask = 1 << (bit % 64);
         let was_filled = match self.ever_filled.get_mut((bit / 64) as usize) {

@@ -1,5 +1,5 @@
 -- The bytes that the windows of a file contain.
-use Rattle.std.specs.Prelude.{◌≡◌, ℕ, ◌+◌, ◌*◌, ◌-◌, ◌%◌, ◌⊎◌, List, [], take, drop, Some, slice_get}
+use Rattle.std.specs.Prelude.{◌≡◌, ℕ, ◌+◌, ◌*◌, ◌-◌, ◌%◌, ◌⊎◌, List, [], ◌++◌, take, drop, Some, slice_get}
 use Rattle.plist_base.specs.declared.window.Header.{Header}
 use Rattle.plist_base.specs.declared.windows.LongWindows.{LongWindows}
 use Rattle.plist_base.specs.declared.windows.Windows.{Windows}
@@ -24,3 +24,12 @@ Lends windows place lent =
     ((long : LongWindows) × (windows.long ≡ Some long)
     × LendsFrom 8192 long.headers.items long.bytes.items place lent)
     ⊎ LendsFrom 512 windows.headers windows.bytes place lent
+
+-- the second list begins with the first
+abbrev pub IsBeginning : {A : Type 0} → (front whole : List A) → Type 0
+IsBeginning {A = A} front whole = (more : List A) × (whole ≡ front ++ more)
+
+-- the old windows are kept, and new ones may follow them
+abbrev pub KeepsWindows : (old new : LongWindows) → Type 0
+KeepsWindows old new =
+    IsBeginning old.headers.items new.headers.items × IsBeginning old.bytes.items new.bytes.items
