@@ -129,7 +129,10 @@ impl<V> BoxedPairs<V> {
         ensures distinct { IsDistinct bytes_eq (keys_of self.now) }
     {
         let (keys, values) = self.columns();
-        Iter::new(keys, values)
+        Iter {
+            keys: keys.iter(),
+            items: values.iter(),
+        }
     }
 
     /// Returns an iterator over the keys, in the order of the pairs.
@@ -137,14 +140,18 @@ impl<V> BoxedPairs<V> {
         ensures rest { result ≡ keys_of self.now }
         ensures distinct { IsDistinct bytes_eq (keys_of self.now) }
     {
-        Keys::new(self.columns().0)
+        Keys {
+            texts: self.columns().0.iter(),
+        }
     }
 
     /// Returns an iterator over the values, in the order of the pairs.
     pub fn values(&self) -> Values<'_, V>
         ensures { result ≡ values_of self.now }
     {
-        Values::new(self.columns().1)
+        Values {
+            values: self.columns().1.iter(),
+        }
     }
 
     /// Returns the pairs. It allocates no memory, even if nothing was inserted yet.

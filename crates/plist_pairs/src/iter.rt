@@ -1,21 +1,20 @@
 //! The iterators over a dictionary. Contracts see an iterator as the list of its remaining items,
 //! in which a key is its bytes.
 
-ghost use Rattle.std.specs.Prelude.{◌≡◌, length, map, string_bytes};
+ghost use Rattle.std.specs.Prelude.{length};
 ghost use Rattle.std.specs.Iterator.{at_most};
-ghost use Rattle.std.specs.List.{zip};
 ghost use Rattle.std.specs.Map.Iter.{TakesFirst, deref};
 ghost use Rattle.plist_pairs.specs.Keys.{HintsExactly, shown_key, shown_pair, shown_owned_pair};
 
-use indexmap::{IndexSet, set};
+use indexmap::set;
 use std::marker::Model;
 use std::{slice, vec};
 
 /// An iterator over the pairs, in their order.
 #[derive(Drop)]
 pub struct Iter<'a, V> {
-    keys: slice::Iter<'a, String>,
-    items: slice::Iter<'a, V>,
+    pub(crate) keys: slice::Iter<'a, String>,
+    pub(crate) items: slice::Iter<'a, V>,
 }
 
 impl<'a, V> Model for Iter<'a, V> {
@@ -31,18 +30,6 @@ impl<'a, V> Model for Iter<'a, V> {
     ghost view = { λ a. zip (map string_bytes (iter_rest a.keys)) (iter_rest a.items) };
 
     ghost invariant = { λ a. length (iter_rest a.items) ≡ length (iter_rest a.keys) };
-}
-
-impl<'a, V> Iter<'a, V> {
-    pub(crate) fn new(keys: &'a [String], items: &'a [V]) -> Iter<'a, V>
-        requires { length items.now ≡ length keys.now }
-        ensures { result ≡ zip (map string_bytes keys.now) items.now }
-    {
-        Iter {
-            keys: keys.iter(),
-            items: items.iter(),
-        }
-    }
 }
 
 impl<'a, V> Iterator for Iter<'a, V> {
@@ -75,7 +62,7 @@ impl<'a, V> ExactSizeIterator for Iter<'a, V> {
 /// An iterator over the keys, in the order of the pairs.
 #[derive(Drop)]
 pub struct Keys<'a> {
-    texts: slice::Iter<'a, String>,
+    pub(crate) texts: slice::Iter<'a, String>,
 }
 
 impl<'a> Model for Keys<'a> {
@@ -88,14 +75,6 @@ impl<'a> Model for Keys<'a> {
     ghost coded = { coded_list (coded_list coded_ℕ) };
 
     ghost view = { λ a. map string_bytes (iter_rest a.texts) };
-}
-
-impl<'a> Keys<'a> {
-    pub(crate) fn new(keys: &'a [String]) -> Keys<'a>
-        ensures { result ≡ map string_bytes keys.now }
-    {
-        Keys { texts: keys.iter() }
-    }
 }
 
 impl<'a> Iterator for Keys<'a> {
@@ -126,7 +105,7 @@ impl<'a> ExactSizeIterator for Keys<'a> {
 /// An iterator over the values, in the order of the pairs.
 #[derive(Drop)]
 pub struct Values<'a, V> {
-    values: slice::Iter<'a, V>,
+    pub(crate) values: slice::Iter<'a, V>,
 }
 
 impl<'a, V> Model for Values<'a, V> {
@@ -136,16 +115,6 @@ impl<'a, V> Model for Values<'a, V> {
     ghost Value = { List V };
 
     ghost view = { λ a. iter_rest a.values };
-}
-
-impl<'a, V> Values<'a, V> {
-    pub(crate) fn new(values: &'a [V]) -> Values<'a, V>
-        ensures { result ≡ values.now }
-    {
-        Values {
-            values: values.iter(),
-        }
-    }
 }
 
 impl<'a, V> Iterator for Values<'a, V> {
@@ -176,8 +145,8 @@ impl<'a, V> ExactSizeIterator for Values<'a, V> {
 /// An iterator over the pairs by value, in their order.
 #[derive(Drop)]
 pub struct IntoIter<V> {
-    keys: set::IntoIter<String>,
-    items: vec::IntoIter<V>,
+    pub(crate) keys: set::IntoIter<String>,
+    pub(crate) items: vec::IntoIter<V>,
 }
 
 impl<V> Model for IntoIter<V> {
@@ -193,18 +162,6 @@ impl<V> Model for IntoIter<V> {
     ghost view = { λ a. zip (map string_bytes a.keys) (into_iter_items a.items) };
 
     ghost invariant = { λ a. length (into_iter_items a.items) ≡ length a.keys };
-}
-
-impl<V> IntoIter<V> {
-    pub(crate) fn new(keys: IndexSet<String>, items: Vec<V>) -> IntoIter<V>
-        requires { length items.items ≡ length keys.keys }
-        ensures { result ≡ zip (map string_bytes keys.keys) items.items }
-    {
-        IntoIter {
-            keys: keys.into_iter(),
-            items: items.into_iter(),
-        }
-    }
 }
 
 impl<V: Drop> Iterator for IntoIter<V> {

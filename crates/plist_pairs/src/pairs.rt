@@ -172,7 +172,10 @@ impl<V> Pairs<V> {
         ensures distinct { IsDistinct bytes_eq (keys_of self) }
     {
         let Pairs { keys, items } = self;
-        IntoIter::new(keys, items)
+        IntoIter {
+            keys: keys.into_iter(),
+            items: items.into_iter(),
+        }
     }
 
     /// Returns the values, without their keys, in the order of the pairs.
