@@ -1,6 +1,5 @@
 -- What is written by a writer of files that took all events of a tree.
 use Rattle.std.proofs.Common.{◌≡◌, ◌⊎◌, inl, inr, ℕ, false, List, [], ◌∷◌, ◌++◌, Ok, Err, refl, sym, ap, ◌∙◌, subst, append_assoc, map}
-use Rattle.std.proofs.iter.Next as it
 use Rattle.std.specs.Prelude.{⊤}
 use Rattle.std.specs.Io.KnownBytes.{Appends}
 use Rattle.std.specs.declared.io.traits.Write.{Ghosts}
@@ -12,7 +11,7 @@ use Rattle.plist_base.specs.Writing.{Answer, MatchKind}
 use Rattle.plist_base.proofs.Lengths.{alike_last, alike_with}
 use Rattle.plist_binwrite.specs.declared.sharing.Sharing.{Ghosts as SharingGhosts}
 use Rattle.plist_binwrite.specs.declared.writer.FileWriter.{FileWriter}
-use Rattle.plist_binwrite.specs.FileWriter.{Completes, Holds, IsWriterStep, TakesEvent, open_events, failed_of, sink_of}
+use Rattle.plist_binwrite.specs.FileWriter.{Completes, Holds, IsWriterStep, open_events, failed_of, sink_of}
 use Rattle.plist.specs.WrittenEvents.{RefusesNext, StopsForMemory, StopsWriter, TakesAll, WritesEvents}
 
 begins : (tree : Tree) → (event : PlainEvent) × (events : List PlainEvent)
@@ -45,18 +44,13 @@ module _ {W S : Type 0} {g : Ghosts W} {h : SharingGhosts S} (tree : Tree) where
       (file : List ℕ) × h.kind.IsFile tree file
       × Appends (g.contents start) (g.contents (sink_of after)) file
 
-  took : (before after : FileWriter W S g h) (event : PlainEvent) → failed_of before ≡ false
-      → Step before event (Ok tt) after
-      → TakesEvent before event (Ok tt) after
-  took before after event fine step = it.if_no _ _ fine step
-
   -- an event that isn't the last one is buffered
   still-holding : (start : W) (done : List PlainEvent) (e d : PlainEvent)
       (events : List PlainEvent) (before between : FileWriter W S g h)
       → bracketing tree ≡ done ++ e ∷ d ∷ events → IsHolding start done before
       → Step before e (Ok tt) between → IsHolding start (done ++ e ∷ []) between
   still-holding start done e d events before between is (alike, fine, inner) step =
-      let t = took before between e fine step in next t.1 t.2
+      next (step.order fine).1 (step.effect fine)
     where
       following : CanContinue (open_events before ++ e ∷ []) d
       following = (
@@ -82,7 +76,7 @@ module _ {W S : Type 0} {g : Ghosts W} {h : SharingGhosts S} (tree : Tree) where
       → IsHolding start done before → TakesAll Step before (e ∷ events) after
       → SendsFrom start after
   sent start done e [] before after is (alike, fine, inner) (between, step, ends) =
-      last (took before between e fine step).2
+      last (step.effect fine)
     where
       all : AreAlike (open_events before ++ e ∷ []) (bracketing tree)
       all = alike_with (open_events before) done (e ∷ []) alike ∙ ap (map without_length) (sym is)
@@ -134,8 +128,7 @@ module _ {W S : Type 0} {g : Ghosts W} {h : SharingGhosts S} (tree : Tree) where
   stops start done [] [] before between after fault is holding took (inl refused) = absurd refused
   stops start done [] (e ∷ left) before between after fault is (alike, fine, inner) took
       (inl refused) =
-      let answered = it.if_no _ _ fine
-      (subst (λ w. Step w e (Err fault) after) (sym took) refused) in
+      let answered = (subst (λ w. Step w e (Err fault) after) (sym took) refused).order fine in
       (answered.0, not-rejected fault.kind _ _ (λ rejected. rejected.0 can) answered.1)
     where
       can : CanContinue (open_events before) e

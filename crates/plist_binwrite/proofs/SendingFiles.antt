@@ -1,11 +1,11 @@
 -- What writing a file does, and the paths through a call of a writer.
-use Rattle.std.proofs.Common.{◌≡◌, ◌⊎◌, inl, inr, ℕ, ◌^◌, ◌<◌, ◌≤◌, List, Option, Ok, Err, ◌∙◌, subst, refl, Bool, true, false, MatchBool, [], ◌∷◌, ◌++◌}
+use Rattle.std.proofs.Common.{◌≡◌, ◌⊎◌, inl, inr, ℕ, ◌^◌, ◌<◌, ◌≤◌, List, Option, Ok, Err, ◌∙◌, ap, map, subst, sym, refl, true, false, true≢false, [], ◌∷◌, ◌++◌}
 use Rattle.plist_base.specs.Bracketing.{bracketing, lengthless, AreAlike, AreComplete, without_length, CanContinue}
 use Rattle.plist_base.specs.Events.{PlainEvent}
 use Rattle.plist_base.specs.Faults.{FaultKind, Fault, Io, OutOfMemory, PlistTooLarge, fault_without_offset}
 use Rattle.plist_base.specs.Trees.{Tree}
-use Rattle.plist_base.specs.Writing.{Answer, MatchKind}
-use Rattle.plist_base.proofs.Lengths.{whole_alike, alike_last}
+use Rattle.plist_base.specs.Writing.{Answer, AnswersByOrder, IsHeldAfter, MatchKind}
+use Rattle.plist_base.proofs.Lengths.{whole_alike, alike_last, continue_alike}
 use Rattle.plist_buffer.proofs.Grammar.{complete_of_whole}
 use Rattle.plist_binwrite.specs.Classes.{IsFileBy, files_by, size_by, class_in, events_in}
 use Rattle.plist_binwrite.specs.declared.classes.Classed.{Classed}
@@ -22,7 +22,7 @@ use Rattle.plist_buffer.specs.declared.event_buffer.EventBuffer.{EventBuffer}
 use Rattle.plist_buffer.specs.EventBuffers.{is_whole, misplaced_fault}
 use Rattle.plist_binwrite.specs.declared.sharing.Sharing.{Ghosts as SharingGhosts}
 use Rattle.plist_binwrite.specs.declared.writer.FileWriter.{FileWriter}
-use Rattle.plist_binwrite.specs.FileWriter.{IsWriterStep, open_events, failed_of, sink_of}
+use Rattle.plist_binwrite.specs.FileWriter.{Completes, Holds, IsWriterStep, TakesEvent, open_events, failed_of, sink_of}
 
 -- for events that are alike, a file of the first kind is one of the second kind, and has the same
 -- size
@@ -85,10 +85,6 @@ owned_file tree file o f = record {
 
 -- ---- a call of a writer
 
-still : (b : Bool) (x y : Type 0) → b ≡ false → y → MatchBool b x y
-still true x y e h = cc
-still false x y e h = h
-
 module _ {W : Type 0} (files : FileKind) (contents : W → Option (List ℕ)) where
   -- after an error of writing the file, the writer has failed
   failing : (kind : FaultKind) (events : List PlainEvent) (old new : W) (refused lost : Type 0)
@@ -103,32 +99,53 @@ module _ {W S : Type 0} {g : Ghosts W} {h : SharingGhosts S} (before after : Fil
   abbrev Does : Answer → Type 0
   Does answer = IsWriterStep before event answer after
 
+  takes : (answer : Answer) → AnswersByOrder (open_events before) event answer (open_events after)
+      (failed_of after) (after ≡ before) → TakesEvent before event answer after → Does answer
+  takes answer order effect = record {
+    order = λ _. order;
+    failure = λ failed. absurd (true≢false (sym failed ∙ up));
+    effect = λ _. effect;
+  }
+
   pub takes_refused : (fault : Fault) → (CanContinue (open_events before) event → ⊥)
       → fault ≡ misplaced_fault (open_events before) event → after ≡ before → Does (Err fault)
-  takes_refused fault none is same =
-      still _ _ _ up (rw is (refl, (none, refl, same)))
+  takes_refused fault none is same = takes _ (rw is (refl, (none, same))) (rw is refl)
 
-  module _ (events : List PlainEvent) (can : CanContinue (open_events before) event)
-      (are : events ≡ open_events before ++ without_length event ∷ []) where
-    -- writing a file doesn't depend on the lengths of starts
-    sent : (answer : Answer)
-        → SendsAs h.kind g.contents events answer (sink_of before) (sink_of after)
-        → SendsAs h.kind g.contents (open_events before ++ event ∷ []) answer (sink_of before)
-        (sink_of after)
-    sent answer =
-        sends_as _ _ _ _
-        (cc (are, alike_last (open_events before) event)) (λ t alike file of. of) (λ t alike. refl) _ _ _ _
+  module _ (can : CanContinue (open_events before) event) where
+    pub takes_done : failed_of after ≡ false
+        → Completes before event after ⊎ Holds before event after → Does (Ok tt)
+    takes_done fine effect = takes (Ok tt) (can, fine, held effect) effect
+      where
+        held : Completes before event after ⊎ Holds before event after
+            → IsHeldAfter (open_events before) event (open_events after)
+        held (inl completes) = inl completes.0.1.0.0
+        held (inr holds) =
+            inr (continue_alike (open_events after) (open_events before ++ event ∷ [])
+            (ap (map without_length) holds.1 ∙ alike_last (open_events before) event))
 
-    pub takes_unsent : (fault : Fault) → failed_of after ≡ true
-        → SendsAs h.kind g.contents events (Err fault) (sink_of before) (sink_of after)
-        → Does (Err fault)
-    takes_unsent fault lost sends =
-        let s = sent (Err fault) sends in
-        still (failed_of before) _ _ up (
-          s.0,
-          failing h.kind g.contents fault.kind (open_events before ++ event ∷ [])
-              (sink_of before) (sink_of after) _ _ (can, lost, s.1) s.1,
-        )
+    module _ (events : List PlainEvent)
+        (are : events ≡ open_events before ++ without_length event ∷ []) where
+      -- writing a file doesn't depend on the lengths of starts
+      sent : (answer : Answer)
+          → SendsAs h.kind g.contents events answer (sink_of before) (sink_of after)
+          → SendsAs h.kind g.contents (open_events before ++ event ∷ []) answer (sink_of before)
+          (sink_of after)
+      sent answer =
+          sends_as _ _ _ _
+          (cc (are, alike_last (open_events before) event)) (λ t alike file of. of) (λ t alike. refl) _ _ _ _
+
+      pub takes_unsent : (fault : Fault) → failed_of after ≡ true
+          → SendsAs h.kind g.contents events (Err fault) (sink_of before) (sink_of after)
+          → Does (Err fault)
+      takes_unsent fault lost sends =
+          let s = sent (Err fault) sends in
+          takes _ (s.0, fails _ _ (can, lost) s.1) (fails _ _ s.1 s.1)
+        where
+          fails : (refused sure : Type 0) → sure
+              → FailsAs h.kind g.contents fault.kind (open_events before ++ event ∷ [])
+              (sink_of before) (sink_of after)
+              → MatchKind fault.kind refused sure ⊥
+          fails = failing h.kind g.contents fault.kind _ _ _
 
 -- a writer is unchanged if its buffered events are
 pub same_state : {W S : Type 0} {g : Ghosts W} {h : SharingGhosts S}

@@ -1,11 +1,11 @@
 -- What a call of `write` does: which events are buffered afterwards, whether the writer has failed,
 -- and what was written.
-use Rattle.std.specs.Prelude.{◌≡◌, ◌⊎◌, Bool, true, false, List, [], ◌∷◌, ◌++◌, None, Ok, Err, MatchBool}
+use Rattle.std.specs.Prelude.{◌≡◌, ◌⊎◌, Bool, true, false, List, [], ◌∷◌, ◌++◌, Ok, Err}
 use Rattle.std.specs.declared.io.traits.Write.{Ghosts}
-use Rattle.plist_base.specs.Bracketing.{without_length, AreTreeEvents, CanContinue}
+use Rattle.plist_base.specs.Bracketing.{without_length, AreTreeEvents}
 use Rattle.plist_base.specs.Events.{PlainEvent}
 use Rattle.plist_base.specs.Faults.{WriterFailed, fault_without_offset}
-use Rattle.plist_base.specs.Writing.{Answer, MatchKind}
+use Rattle.plist_base.specs.Writing.{Answer, AnswersByOrder, MatchKind}
 use Rattle.plist_binwrite.specs.declared.sharing.Sharing.{Ghosts as SharingGhosts}
 use Rattle.plist_binwrite.specs.declared.writer.FileWriter.{FileWriter}
 use Rattle.plist_binwrite.specs.SendingAs.{SendsFileAs, FailsAs}
@@ -42,26 +42,21 @@ module _ {W S : Type 0} {g : Ghosts W} {h : SharingGhosts S} where
       × (open_events after ≡ open_events before ++ without_length event ∷ [])
       × (sink_of after ≡ sink_of before)
 
-  -- what a call of `write` does if the writer hasn't failed
+  -- what a call of `write` does beyond the laws of a `Writer`, if the writer hasn't failed
   abbrev pub TakesEvent : (before : FileWriter W S g h) → PlainEvent → Answer
       → (after : FileWriter W S g h) → Type 0
-  TakesEvent before event (Ok done) after =
-      CanContinue (open_events before) event × (failed_of after ≡ false)
-      × (Completes before event after ⊎ Holds before event after)
-  TakesEvent before event (Err fault) after = (fault.offset ≡ None) × MatchKind fault.kind
-      ((CanContinue (open_events before) event → ⊥) × (fault ≡ misplaced_fault
-      (open_events before) event)
-      × (after ≡ before))
-      (CanContinue (open_events before) event × (failed_of after ≡ true)
-      × FailsAs h.kind g.contents fault.kind (open_events before ++ event ∷ [])
-      (sink_of before) (sink_of after))
+  TakesEvent before event (Ok done) after = Completes before event after ⊎ Holds before event after
+  TakesEvent before event (Err fault) after = MatchKind fault.kind
+      (fault ≡ misplaced_fault (open_events before) event)
+      (FailsAs h.kind g.contents fault.kind (open_events before ++ event ∷ []) (sink_of before)
+      (sink_of after))
       ⊥
 
-  -- what a call of `write` does: if the writer has failed, it returns `WriterFailed` and changes
-  -- nothing
-  abbrev pub IsWriterStep : (before : FileWriter W S g h) → PlainEvent → Answer
-      → (after : FileWriter W S g h) → Type 0
-  IsWriterStep before event answer after =
-      MatchBool (failed_of before)
-      ((answer ≡ Err (fault_without_offset WriterFailed)) × (after ≡ before))
-      (TakesEvent before event answer after)
+  -- what a call of `write` does; `order` and `failure` are the laws of a `Writer`
+  pub record IsWriterStep (before : FileWriter W S g h) (event : PlainEvent) (answer : Answer)
+      (after : FileWriter W S g h) : Type 0 where
+    pub order : failed_of before ≡ false → AnswersByOrder (open_events before) event answer
+        (open_events after) (failed_of after) (after ≡ before)
+    pub failure : failed_of before ≡ true
+        → (answer ≡ Err (fault_without_offset WriterFailed)) × (after ≡ before)
+    pub effect : failed_of before ≡ false → TakesEvent before event answer after

@@ -96,7 +96,6 @@ impl<W: Write, S: Sharing> Sealed for FileWriter<W, S> {}
 
 impl<W: Write, S: Sharing> Writer for FileWriter<W, S> {
     ghost use Rattle.plist_binwrite.specs.FileWriter.{IsWriterStep, open_events, failed_of};
-    ghost use Rattle.plist_binwrite.specs.inner.Laws.{takes_law, takes_failed};
 
     ghost held = { open_events };
 
@@ -129,7 +128,7 @@ impl<W: Write, S: Sharing> Writer for FileWriter<W, S> {
         Ok(())
     }
 
-    ghost law = { takes_law };
+    ghost law = { λ before event answer after step. step.order };
 
-    ghost law_of_failed = { takes_failed };
+    ghost law_of_failed = { λ before event answer after step. step.failure };
 }
