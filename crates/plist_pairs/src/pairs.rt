@@ -22,17 +22,6 @@ pub trait Discard: Drop {
     fn discard(self);
 }
 
-// Drops the values after the first `count`, the last one first.
-fn discard_after<V: Discard>(values: &mut Vec<V>, count: usize)
-    ensures { values.new.items ≡ take count values.old.items }
-{
-    while values.len() > count {
-        if let Some(value) = values.pop() {
-            value.discard();
-        }
-    }
-}
-
 /// Pairs of a key and a value, each key once.
 ///
 /// The pairs are ordered: a new key is last, and a key that is set again keeps its index. Contracts
@@ -238,14 +227,18 @@ impl<V> Pairs<V> {
         self.keys.len()
     }
 
-    // Drops the pairs after the first `count`.
+    // Drops the pairs after the first `count`, the last one first.
     fn truncate(&mut self, count: usize)
     where
         V: Discard,
         ensures { self.new ≡ take count self.old }
     {
         self.keys.truncate(count);
-        discard_after(&mut self.items, count);
+        while self.items.len() > count {
+            if let Some(value) = self.items.pop() {
+                value.discard();
+            }
+        }
     }
 
     /// Keeps the pairs for which the closure returns `true`, in their order, and drops the others.
