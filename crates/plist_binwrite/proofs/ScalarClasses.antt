@@ -2,15 +2,16 @@
 -- of a collection follows from its number.
 use Rattle.std.proofs.Common.{◌≡◌, ◌⊎◌, ◌↔◌, inl, inr, ℕ, ◌<◌, true, false, List, length, Option, None, Some, refl, ap, sym, ◌∙◌, arith, ◌+◌, ◌-◌, Bool, eqb, slice_get, unwrap_or}
 use Rattle.std.proofs.lemmas.Option.{slice_get_within}
-use Rattle.plist_base.specs.Events.{ScalarEvent, PlainEvent}
+use Rattle.plist_base.specs.Events.{EndCollection, ScalarEvent, PlainEvent}
 use Rattle.plist_base.specs.Trees.{Scalar, Tree, Leaf, Array, Dictionary}
 use Rattle.plist_buffer.specs.Occurrences.{OccursAt}
 use Rattle.plist_buffer.proofs.TreeStarts.{occurs_in, stands_single, starts_array, starts_dictionary, begins}
 use Rattle.plist_binwrite.specs.Classes.{class_by, scalar_class}
-use Rattle.plist_buffer.specs.EventTable.{EndsCollection, HasItem, collection_number, event_at, lists_in, plain_events, scalars_of, IsBracketed, count_collections}
+use Rattle.plist_buffer.specs.EventTable.{HasItem, collection_number, event_at, lists_in, plain_events, scalars_of, IsBracketed, count_collections}
 use Rattle.plist_buffer.specs.declared.event_table.EventTable.{EventTable}
 use Rattle.plist_buffer.specs.inner.Columns.{scalar_named}
 use Rattle.plist_buffer.specs.inner.Entries.{entry_at, is_leaf}
+use Rattle.plist_buffer.specs.inner.UnclosedStarts.{skip_after}
 use Rattle.plist_buffer.proofs.EntryEvents.{no_scalar, scalar_stored, scalar_is_leaf, scalar_used}
 use Rattle.plist_buffer.proofs.CollectionNumbers.{IsCollectionAt, collection_at, collection_ends, array_at, dictionary_at, number_below, number_used, numbers_apart}
 use Rattle.std.proofs.lemmas.Bool.Decides.{eqb_tells, leb_tells}
@@ -198,7 +199,8 @@ leaf_any held f g x p s = by (scalar_named (lists_in held) (entry_at held.entrie
 -- where no scalar is, a collection begins, whose number is among those of collections
 pub collection_there : (held : EventTable) → IsBracketed (plain_events held) → (p : ℕ)
     → HasItem (plain_events held) p → is_leaf (event_at (plain_events held) p) ≡ false
-    → EndsCollection held p × (collection_number held p < count_collections held)
+    → (event_at (plain_events held) (skip_after (plain_events held) p - 1) ≡ EndCollection)
+    × (collection_number held p < count_collections held)
 collection_there held whole p item other =
     let (t, s) = collection_at (plain_events held) whole p item other in
     (collection_ends held t p s, number_below held t p s)

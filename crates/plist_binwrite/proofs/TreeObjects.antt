@@ -1,6 +1,6 @@
 -- The objects of trees by their indices: what they unfold to, their forms, their sizes, and that they
 -- can be written.
-use Rattle.std.proofs.Common.{◌≡◌, ℕ, suc, ◌+◌, ◌-◌, ◌<◌, ◌≤◌, false, eqb, List, [], ◌∷◌, ◌++◌, length, map, zip, Some, Ok, refl, ap, sym, arith, length-append, inl, inr, ◌*◌, ◌^◌, flat_map, subst, ◌∙◌}
+use Rattle.std.proofs.Common.{◌≡◌, ◌⊎◌, ℕ, suc, ◌+◌, ◌-◌, ◌<◌, ◌≤◌, true, false, eqb, List, [], ◌∷◌, ◌++◌, length, map, zip, Some, Ok, refl, ap, sym, arith, length-append, inl, inr, ◌*◌, ◌^◌, flat_map, subst, ◌∙◌}
 use Rattle.std.specs.List.{list_any, flat_map, slice_get, AllByRecursion}
 use Rattle.std.proofs.lemmas.Bool.{ne_eqb}
 use Rattle.std.proofs.lemmas.Grind.{flat_map-append}
@@ -14,7 +14,7 @@ use Rattle.plist_base.specs.Trees.{number_of_trees, number_of_members, Tree, Lea
 use Rattle.plist_base.specs.Object.{children_of}
 use Rattle.plist_base.specs.Unfolding.{TableEntry, items_of, until_fault, unfolding_of, visits_within, visits_of}
 use Rattle.plist_binwrite.specs.Sizes.{collection_of, object_size}
-use Rattle.plist_buffer.specs.EventTable.{item_indices, key_indices, value_indices, HasItem, LacksItem, is_end, event_at}
+use Rattle.plist_buffer.specs.EventTable.{item_indices, key_indices, value_indices, HasItem, is_end, event_at}
 use Rattle.plist_buffer.specs.Occurrences.{event_count, OccursAt, positions, positions_in_items, positions_in_pairs}
 use Rattle.plist_buffer.proofs.TreeOccurrences.{ItemsOccurAt, PairsOccurAt, occurs_items, occurs_pairs, occurs_item, occurs_next, occurs_key, occurs_value, occurs_next_pair}
 use Rattle.plist_binwrite.specs.Classes.{object_of, events_in}
@@ -334,6 +334,7 @@ wide_length text wide =
     rw (wide) (omega (arith, head, length-table 2 (units_of text)))
 
 -- an index at which a tree begins isn't one at which none does
-pub items_apart : (es : List PlainEvent) {p k : ℕ} → HasItem es p → LacksItem es k → p ≡ k → ⊥
+pub items_apart : (es : List PlainEvent) {p k : ℕ} → HasItem es p
+    → (is_end (event_at es k) ≡ true) ⊎ (length es ≤ k) → p ≡ k → ⊥
 items_apart es item (inl end) same = cc (item.1, end, ap (λ q. is_end (event_at es q)) same)
 items_apart es item (inr past) same = omega (arith, item.0, past, same)

@@ -5,9 +5,9 @@ use Rattle.std.proofs.lemmas.List.{get_or_past}
 use Rattle.plist_base.specs.Events.{PlainEvent, EndCollection}
 use Rattle.plist_base.specs.Trees.{Tree, Leaf, Array, Dictionary, Trees, NoTrees, TreeAnd, Members, NoMembers, MemberAnd}
 use Rattle.plist_buffer.specs.Children.{child_at, last_at, children_within, children_from, children_after, half_of}
-use Rattle.plist_buffer.specs.EventTable.{HasItem, is_end, event_at, item_indices, key_indices, lists_in, plain_events, value_indices, keys_in, values_in}
+use Rattle.plist_buffer.specs.EventTable.{HasItem, is_end, event_at, item_indices, key_indices, lists_in, plain_events, value_indices}
 use Rattle.plist_buffer.specs.Occurrences.{event_count, OccursAt}
-use Rattle.plist_buffer.proofs.TreeOccurrences.{ItemsOccurAt, PairsOccurAt, occurs_items, occurs_pairs, occurs_item, occurs_next, occurs_key, occurs_value, occurs_next_pair}
+use Rattle.plist_buffer.proofs.TreeOccurrences.{ItemsOccurAt, PairsOccurAt, keys_in, values_in, occurs_items, occurs_pairs, occurs_item, occurs_next, occurs_key, occurs_value, occurs_next_pair}
 use Rattle.plist_buffer.specs.declared.children.Child.{Child}
 use Rattle.plist_buffer.specs.declared.children.Child.TheVariants.{Item, Key, Value}
 use Rattle.plist_buffer.specs.declared.children.Half.{Half}

@@ -6,7 +6,7 @@ use Rattle.std.proofs.lemmas.List.{get_or_default, length-map, take_all}
 use Rattle.plist_base.specs.Bracketing.{lengthless, lengthless_items, lengthless_pairs}
 use Rattle.plist_base.specs.Events.{PlainEvent, EndCollection, StartArray, StartDictionary}
 use Rattle.plist_base.specs.Trees.{Tree, Leaf, Array, Dictionary, Trees, NoTrees, TreeAnd, Members, NoMembers, MemberAnd}
-use Rattle.plist_buffer.specs.EventTable.{EndsCollection, HasItem, IsBracketed, collection_number, count_collections, event_at, is_end, lists_in, plain_events}
+use Rattle.plist_buffer.specs.EventTable.{HasItem, IsBracketed, collection_number, count_collections, event_at, is_end, lists_in, plain_events}
 use Rattle.plist_buffer.specs.Occurrences.{event_count, OccursAt}
 use Rattle.plist_buffer.proofs.TreeOccurrences.{ItemsOccurAt, PairsOccurAt, occurs_items, occurs_item, occurs_key, occurs_next, occurs_next_pair, occurs_pairs, occurs_value, occurs_whole, past}
 use Rattle.plist_buffer.specs.declared.entries.EntryKind.{EntryKind}
@@ -209,7 +209,8 @@ module _ (held : EventTable) where
   kinds = map kind_in held.entries
 
   -- a collection is closed
-  pub collection_ends : (t : Tree) (p : ℕ) → IsCollectionAt es t p → EndsCollection held p
+  pub collection_ends : (t : Tree) (p : ℕ) → IsCollectionAt es t p
+      → event_at es (skip_after es p - 1) ≡ EndCollection
   collection_ends t p s = last_event es t p s
 
   -- the last entry of a collection is an end

@@ -5,8 +5,20 @@ use Rattle.std.proofs.lemmas.List.{drop-drop}
 use Rattle.plist_base.specs.Trees as trees
 use Rattle.plist_base.specs.Events.{PlainEvent, EndCollection}
 use Rattle.plist_base.specs.Trees.{Tree, Leaf, Array, Dictionary, Trees, TreeAnd, Members, MemberAnd}
+use Rattle.plist_buffer.specs.EventTable.{item_indices, key_indices, value_indices}
 use Rattle.plist_base.specs.Bracketing.{lengthless, lengthless_items, lengthless_pairs}
 use Rattle.plist_buffer.specs.Occurrences.{event_count, OccursAt}
+
+-- the indices of the keys of a tree that begins at index p
+abbrev pub keys_in : Tree → ℕ → List ℕ
+keys_in (Dictionary ms) p = key_indices ms (p + 1)
+keys_in tree p = []
+
+-- the indices of the items or values of a tree that begins at index p
+abbrev pub values_in : Tree → ℕ → List ℕ
+values_in (Leaf x) p = []
+values_in (Array ts) p = item_indices ts (p + 1)
+values_in (Dictionary ms) p = value_indices ms (p + 1)
 
 -- the remaining items of an array, and its end, occur from index p on
 pub record ItemsOccurAt (es : List PlainEvent) (ts : Trees) (p : ℕ) : Type 0 where

@@ -8,8 +8,8 @@ use Rattle.plist_base.specs.Trees.{number_of_trees, number_of_members, Scalar, S
 use Rattle.plist_base.specs.Bracketing.{bracketing, bracketing_of_items, bracketing_of_pairs, lengthless, lengthless_items, lengthless_pairs}
 use Rattle.plist_base.proofs.OneTree.{split}
 use Rattle.plist_buffer.specs.Occurrences.{event_count, OccursAt, positions, positions_in_items, positions_in_pairs}
-use Rattle.plist_buffer.proofs.TreeOccurrences.{ItemsOccurAt, PairsOccurAt, occurs_items, occurs_pairs, occurs_item, occurs_next, occurs_key, occurs_value, occurs_next_pair}
-use Rattle.plist_buffer.specs.EventTable.{is_end, event_at, item_indices, key_indices, value_indices, keys_in, values_in}
+use Rattle.plist_buffer.proofs.TreeOccurrences.{ItemsOccurAt, PairsOccurAt, keys_in, values_in, occurs_items, occurs_pairs, occurs_item, occurs_next, occurs_key, occurs_value, occurs_next_pair}
+use Rattle.plist_buffer.specs.EventTable.{is_end, event_at, item_indices, key_indices, value_indices}
 use Rattle.plist_buffer.proofs.Uniques.{all_both, all_left, all_right, all_map}
 
 -- at most one tree begins at an index

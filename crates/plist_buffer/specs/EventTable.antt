@@ -1,9 +1,9 @@
 -- The events of a table, and the indices of trees among them.
-use Rattle.std.specs.Prelude.{◌≡◌, ℕ, ◌+◌, ◌-◌, ◌<◌, ◌≤◌, Bool, true, false, List, [], ◌∷◌, length, map, slice_index, slice_index_or, ◌++◌, ◌⊎◌, Some, slice_get}
+use Rattle.std.specs.Prelude.{◌≡◌, ℕ, ◌+◌, ◌-◌, ◌<◌, Bool, true, false, List, [], ◌∷◌, length, map, slice_index, slice_index_or, ◌++◌}
 use Rattle.plist_base.specs.declared.event.Event.{Event}
 use Rattle.plist_base.specs.Events.{PlainEvent, event_of, EndCollection}
 use Rattle.plist_buffer.specs.declared.event_table.EventTable.{EventTable}
-use Rattle.plist_base.specs.Trees.{Tree, Leaf, Array, Dictionary, Trees, NoTrees, TreeAnd, Members, NoMembers, MemberAnd}
+use Rattle.plist_base.specs.Trees.{Tree, Trees, NoTrees, TreeAnd, Members, NoMembers, MemberAnd}
 use Rattle.plist_base.specs.Bracketing.{without_length, lengthless}
 use Rattle.plist_buffer.specs.Occurrences.{event_count}
 use Rattle.plist_buffer.specs.inner.Columns.{ends_before, ends_in, kind_in}
@@ -40,15 +40,6 @@ event_at es p = slice_index_or es p EndCollection
 abbrev pub HasItem : List PlainEvent → (index : ℕ) → Type 0
 HasItem es p = (p < length es) × (is_end (event_at es p) ≡ false)
 
--- an end, or no event, is at an index
-abbrev pub LacksItem : List PlainEvent → (index : ℕ) → Type 0
-LacksItem es p = (is_end (event_at es p) ≡ true) ⊎ (length es ≤ p)
-
--- the event at an index is the scalar with the index `scalar` among the different scalars
-abbrev pub IsScalarAt : EventTable → (index scalar : ℕ) → Type 0
-IsScalarAt held p scalar =
-    slice_get (scalars_of held) scalar ≡ Some (event_at (plain_events held) p)
-
 -- an event was appended
 abbrev pub GrowsBy : (before : EventTable) → PlainEvent → (after : EventTable) → Type 0
 GrowsBy before event after = plain_events after ≡ plain_events before ++ event ∷ []
@@ -60,10 +51,6 @@ table_event held p = event_at (plain_events held) p
 -- the number of ends among the buffered events
 abbrev pub count_collections : EventTable → ℕ
 count_collections held = ends_in (map kind_in held.entries)
-
--- the last event of the tree that begins at an index is an end
-abbrev pub EndsCollection : EventTable → (index : ℕ) → Type 0
-EndsCollection held p = table_event held (skip_after (plain_events held) p - 1) ≡ EndCollection
 
 -- the number of ends before that of the collection that begins at an index
 abbrev pub collection_number : EventTable → (index : ℕ) → ℕ
@@ -87,17 +74,6 @@ key_indices (MemberAnd k t ms) q = q ∷ key_indices ms (q + 1 + event_count t)
 abbrev pub value_indices : Members → ℕ → List ℕ
 value_indices NoMembers q = []
 value_indices (MemberAnd k t ms) q = (q + 1) ∷ value_indices ms (q + 1 + event_count t)
-
--- the indices of the keys of a tree that begins at index p
-abbrev pub keys_in : Tree → ℕ → List ℕ
-keys_in (Dictionary ms) p = key_indices ms (p + 1)
-keys_in tree p = []
-
--- the indices of the items or values of a tree that begins at index p
-abbrev pub values_in : Tree → ℕ → List ℕ
-values_in (Leaf x) p = []
-values_in (Array ts) p = item_indices ts (p + 1)
-values_in (Dictionary ms) p = value_indices ms (p + 1)
 
 -- each number of a list is below n
 abbrev pub AllBelow : ℕ → List ℕ → Type 0

@@ -3,10 +3,10 @@
 
 ghost use Rattle.std.specs.Prelude.{List, ◌≡◌, ◌-◌, ◌^◌, ◌<◌, ◌≤◌, ◌++◌, ◌∷◌, [], length, map, true, OnOk, OnErr};
 ghost use Rattle.plist_buffer.specs.declared.entries.EventEntry.{EventEntry};
-ghost use Rattle.plist_buffer.specs.inner.Columns.{AreColumns, ends_before, ends_in, entries_from, kind_in, number_in, number_named, one_if_end, shape_of_kind, entry_of};
+ghost use Rattle.plist_buffer.specs.inner.Columns.{AreColumns, ends_before, ends_in, entries_from, kind_in, number_in, number_named, one_if_end, entry_of};
 ghost use Rattle.plist_buffer.specs.inner.Entries.{index_after_at, ended_at, entry_at, is_start};
 
-use plist_base::{CompactNumbers, EventShape};
+use plist_base::CompactNumbers;
 use std::alloc::{AllocError, Global};
 use std::marker::Model;
 
@@ -48,29 +48,18 @@ pub enum EntryKind {
     Long,
 }
 
-// Returns the kind of an entry.
+// Returns the kind of an entry, and its number, which for an end is the number of ends before it.
 #[inline(always)]
-fn kind_in(entry: EventEntry) -> EntryKind
-    ensures { result ≡ kind_in entry }
+fn columns_of(entry: EventEntry, ends: usize) -> (EntryKind, usize)
+    ensures kind { result.0 ≡ kind_in entry }
+    ensures number { result.1 ≡ number_in ends entry }
 {
     match entry {
-        EventEntry::Array(_) => EntryKind::Array,
-        EventEntry::Dictionary(_) => EntryKind::Dictionary,
-        EventEntry::Scalar(ScalarNumber::Small(_)) => EntryKind::Small,
-        EventEntry::Scalar(ScalarNumber::Long(_)) => EntryKind::Long,
-        EventEntry::End => EntryKind::End,
-    }
-}
-
-// Returns the number of an entry, which for an end is the number of ends before it.
-#[inline(always)]
-fn number_in(entry: EventEntry, ends: usize) -> usize
-    ensures { result ≡ number_in ends entry }
-{
-    match entry {
-        EventEntry::Array(following) | EventEntry::Dictionary(following) => following,
-        EventEntry::Scalar(ScalarNumber::Small(index) | ScalarNumber::Long(index)) => index,
-        EventEntry::End => ends,
+        EventEntry::Array(following) => (EntryKind::Array, following),
+        EventEntry::Dictionary(following) => (EntryKind::Dictionary, following),
+        EventEntry::Scalar(ScalarNumber::Small(index)) => (EntryKind::Small, index),
+        EventEntry::Scalar(ScalarNumber::Long(index)) => (EntryKind::Long, index),
+        EventEntry::End => (EntryKind::End, ends),
     }
 }
 
@@ -130,19 +119,6 @@ impl Entries {
         ensures { result ≡ kind_in (entry_at self.now index) }
     {
         self.kinds.as_slice()[index]
-    }
-
-    /// Returns how the event at an index affects the open collections.
-    pub fn shape_at(&self, index: usize) -> EventShape
-        requires { index < length self.now }
-        ensures { result ≡ shape_of_kind (kind_in (entry_at self.now index)) }
-    {
-        match self.kind_at(index) {
-            EntryKind::Array => EventShape::StartArray,
-            EntryKind::Dictionary => EventShape::StartDictionary,
-            EntryKind::End => EventShape::EndCollection,
-            EntryKind::Small | EntryKind::Long => EventShape::Scalar,
-        }
     }
 
     // Returns the number of the entry at an index. For an end it is unspecified.
@@ -207,9 +183,9 @@ impl Entries {
         ensures unchanged { OnErr result (self.new ≡ self.old) }
         ensures small { OnOk result (length self.new < 2 ^ 63) }
     {
-        let kind = kind_in(entry);
+        let (kind, number) = columns_of(entry, self.ends);
         self.kinds.reserve(1)?;
-        self.numbers.push(number_in(entry, self.ends))?;
+        self.numbers.push(number)?;
         self.kinds.push_reserved(kind);
         self.ends += one_if_end(kind);
         Ok(())

@@ -1,6 +1,6 @@
 //! The table of a property list's events, which stores every different scalar once.
 
-ghost use Rattle.std.specs.Prelude.{◌≡◌, ◌^◌, ◌<◌, true, length, OnOk, OnErr, ◌-◌, [], ℕ, List, None, Some, false, IfSome, ◌+◌};
+ghost use Rattle.std.specs.Prelude.{◌≡◌, ◌^◌, ◌<◌, ◌≤◌, ◌⊎◌, true, length, OnOk, OnErr, ◌-◌, [], ℕ, List, None, Some, false, IfSome, ◌+◌, slice_get};
 ghost use Rattle.std.proofs.Props.{props};
 ghost use Rattle.std.specs.Cow.{cow_slice_items, cow_str_bytes};
 ghost use Rattle.plist_base.specs.Events.{EndCollection, ScalarEvent, shape_of};
@@ -10,7 +10,7 @@ ghost use Rattle.plist_buffer.specs.inner.Entries.{is_leaf, lists_of, IsValidTab
 mod batches;
 mod copies;
 
-use crate::entries::{Entries, EventEntry, ScalarNumber};
+use crate::entries::{Entries, EntryKind, EventEntry, ScalarNumber};
 use crate::expects::Expect;
 use crate::long_scalar::{Form, LongScalar};
 use crate::stored_scalar::ScalarRef;
@@ -71,7 +71,7 @@ fn bytes_of_text<'e>(text: CowStr<'e>) -> CowSlice<'e, u8>
 impl<'e> EventTable<'e> {
     ghost use Rattle.plist_buffer.specs.StoredScalars.{IsStored, event_of_long, event_of_small, scalar_of_ref};
     ghost use Rattle.plist_base.specs.Trees.{String as StringScalar};
-    ghost use Rattle.plist_buffer.specs.EventTable.{plain_event, plain_events, scalars_of, lists_in, collection_number, count_collections, EndsCollection, GrowsBy, HasItem, IsScalarAt, LacksItem, table_event};
+    ghost use Rattle.plist_buffer.specs.EventTable.{plain_event, plain_events, scalars_of, lists_in, collection_number, count_collections, is_end, GrowsBy, HasItem, table_event};
     ghost use Rattle.plist_buffer.specs.inner.Columns.{scalar_named};
     ghost use Rattle.plist_buffer.specs.Expects.{expected_inside, innermost};
     ghost use Rattle.plist_buffer.specs.inner.UnclosedStarts.{skip_after};
@@ -174,7 +174,8 @@ impl<'e> EventTable<'e> {
     // instructions for settings.
     pub fn collection_number(&self, index: usize) -> usize
         requires start { HasItem (plain_events self.now) index }
-        requires closed { EndsCollection self.now index }
+        requires closed { table_event self.now (skip_after (plain_events self.now) index - 1)
+            ≡ EndCollection }
         ensures { result ≡ collection_number self.now index }
     {
         self.entries.collection_number(index)
@@ -185,14 +186,20 @@ impl<'e> EventTable<'e> {
         requires { index < length (plain_events self.now) }
         ensures { result ≡ shape_of (table_event self.now index) }
     {
-        self.entries.shape_at(index)
+        match self.entries.kind_at(index) {
+            EntryKind::Array => EventShape::StartArray,
+            EntryKind::Dictionary => EventShape::StartDictionary,
+            EntryKind::End => EventShape::EndCollection,
+            EntryKind::Small | EntryKind::Long => EventShape::Scalar,
+        }
     }
 
     /// Returns `true` if a tree begins at the given index. This is `false` if the event is an end,
     /// and if the index is past the last event.
     pub fn has_item(&self, index: usize) -> bool
         ensures yes { result ≡ true → HasItem (plain_events self.now) index }
-        ensures no { result ≡ false → LacksItem (plain_events self.now) index }
+        ensures no { result ≡ false → (is_end (table_event self.now index) ≡ true)
+            ⊎ (length (plain_events self.now) ≤ index) }
     {
         index < self.len() && !matches!(self.kind_at(index), EventShape::EndCollection)
     }
@@ -211,7 +218,8 @@ impl<'e> EventTable<'e> {
     /// scalars.
     pub fn scalar_index(&self, index: usize) -> Option<usize>
         requires { index < length (plain_events self.now) }
-        ensures some { IfSome result (IsScalarAt self.now index) }
+        ensures some { IfSome result (λ scalar. slice_get (scalars_of self.now) scalar
+            ≡ Some (table_event self.now index)) }
         ensures leaf { IfSome result (λ _. is_leaf (table_event self.now index) ≡ true) }
         ensures named { result
             ≡ scalar_named (lists_in self.now) (entry_at self.now.entries index) }

@@ -13,7 +13,7 @@ use Rattle.plist_binwrite.specs.declared.classes.ClassList.{ClassList}
 use Rattle.plist_buffer.specs.EventTable.{HasItem, IsBracketed, collection_number, is_end, item_indices, key_indices, value_indices, event_at, plain_events, scalars_of}
 use Rattle.plist_binwrite.proofs.TreeObjects.{pairs, references, keys_are, values_are}
 use Rattle.plist_buffer.specs.Occurrences.{event_count, OccursAt}
-use Rattle.plist_buffer.proofs.TreeOccurrences.{ItemsOccurAt, PairsOccurAt, occurs_items, occurs_pairs, occurs_item, occurs_next, occurs_key, occurs_value, occurs_next_pair}
+use Rattle.plist_buffer.proofs.TreeOccurrences.{ItemsOccurAt, PairsOccurAt, keys_in, occurs_items, occurs_pairs, occurs_item, occurs_next, occurs_key, occurs_value, occurs_next_pair, values_in}
 use Rattle.plist_base.specs.declared.event.EventShape.{EventShape}
 use Rattle.plist_base.specs.declared.event.EventShape.TheVariants as shape
 use Rattle.plist_buffer.specs.declared.event_table.EventTable.{EventTable}
@@ -23,7 +23,7 @@ use Rattle.plist_binwrite.proofs.ClassObjects.{sound}
 use Rattle.plist_binwrite.proofs.ScalarClasses.{collection_class, leaf_any, leaf_below, leaf_used, leaves_same}
 use Rattle.plist_binwrite.proofs.Reading.{dictionary_is}
 use Rattle.plist_buffer.proofs.TreeStarts.{begins, occurs_in, starts_array, starts_dictionary}
-use Rattle.plist_share.specs.inner.Nodes.{AreClassesFrom, Node, node_at, node_by, IsClass, IsClassAt, Extends, SeparatesAll}
+use Rattle.plist_share.specs.inner.Nodes.{AreClassesFrom, Node, node_at, IsClass, IsClassAt, Extends, SeparatesAll}
 
 -- ---- a dictionary's pairs by their keys and their values, and back
 
@@ -228,6 +228,10 @@ class_stays count {keys} more (Some node) c k =
     (k.0, k.1, more.keeps k.0 (slice_get_within keys k.0 _ k.2) ∙ k.2)
 
 module _ (es : List PlainEvent) (class : ℕ → ℕ) (count : ℕ) (keys : List Node) where
+  -- the node of a tree that is said to be a dictionary or an array
+  abbrev node_by : (is_dictionary : Bool) → Tree → ℕ → Node
+  node_by is_dictionary t p = (is_dictionary, map class (keys_in t p) ++ map class (values_in t p))
+
   not_dictionary : (b : Bool) (kind : EventShape) → IsTrue b ↔ (kind ≡ shape.StartDictionary)
       → kind ≡ shape.StartArray → false ≡ b
   not_dictionary false kind tells is = refl
@@ -236,13 +240,13 @@ module _ (es : List PlainEvent) (class : ℕ → ℕ) (count : ℕ) (keys : List
   -- if a collection begins at an index, its class as a collection is its class as a tree
   pub by_collection : (b : Bool) (t : Tree) (p c : ℕ) → OccursAt es t p
       → IsTrue b ↔ (shape_of (event_at es p) ≡ shape.StartDictionary)
-      → IsClass count keys (Some (node_by class b t p)) c → IsClass count keys (node_at class t p) c
+      → IsClass count keys (Some (node_by b t p)) c → IsClass count keys (node_at class t p) c
   by_collection b (Leaf x) p c s tells h = tt
   by_collection b (Array ts) p c s tells h =
-      subst (λ d. IsClass count keys (Some (node_by class d (Array ts) p)) c)
+      subst (λ d. IsClass count keys (Some (node_by d (Array ts) p)) c)
       (sym (not_dictionary b _ tells (ap shape_of (starts_array s)))) h
   by_collection b (Dictionary ms) p c s tells h =
-      subst (λ d. IsClass count keys (Some (node_by class d (Dictionary ms) p)) c)
+      subst (λ d. IsClass count keys (Some (node_by d (Dictionary ms) p)) c)
       (tells.1 (ap shape_of (starts_dictionary s))) h
 
 -- the class of the collection at index p is set

@@ -8,8 +8,6 @@ use Rattle.plist_buffer.specs.declared.entries.EntryKind.{EntryKind}
 use Rattle.plist_buffer.specs.declared.entries.EntryKind.TheVariants as kind
 use Rattle.plist_buffer.specs.declared.entries.ScalarNumber.{ScalarNumber}
 use Rattle.plist_buffer.specs.declared.entries.ScalarNumber.TheVariants.{Small, Long}
-use Rattle.plist_base.specs.declared.event.EventShape.{EventShape}
-use Rattle.plist_base.specs.declared.event.EventShape.TheVariants as shape
 
 -- the kind of an entry
 abbrev pub kind_in : EventEntry → EntryKind
@@ -26,14 +24,6 @@ number_in ends (entry.Dictionary following) = following
 number_in ends (entry.Scalar (Small index)) = index
 number_in ends (entry.Scalar (Long index)) = index
 number_in ends entry.End = ends
-
--- how an event with an entry of this kind affects the open collections
-abbrev pub shape_of_kind : EntryKind → EventShape
-shape_of_kind kind.Array = shape.StartArray
-shape_of_kind kind.Dictionary = shape.StartDictionary
-shape_of_kind kind.End = shape.EndCollection
-shape_of_kind kind.Small = shape.Scalar
-shape_of_kind kind.Long = shape.Scalar
 
 -- the number of the scalar that an entry refers to, or `None`
 abbrev pub number_named : EventEntry → Option ScalarNumber

@@ -1,7 +1,7 @@
 -- Collections, described by the classes of their children.
 use Rattle.std.specs.Prelude.{◌≡◌, ◌≢◌, ◌↔◌, ℕ, ◌+◌, ◌<◌, ◌≤◌, Bool, true, false, List, ◌++◌, length, map, Option, None, Some, slice_get, ⊤}
 use Rattle.plist_base.specs.Trees.{Tree, Leaf, Array, Dictionary}
-use Rattle.plist_buffer.specs.EventTable.{HasItem, keys_in, plain_events, values_in}
+use Rattle.plist_buffer.specs.EventTable.{HasItem, item_indices, key_indices, plain_events, value_indices}
 use Rattle.plist_buffer.specs.declared.event_table.EventTable.{EventTable}
 use Rattle.plist_buffer.specs.Occurrences.{OccursAt}
 use Rattle.plist_binwrite.specs.Classes.{AreClasses, HasEachCollection, listed_class}
@@ -22,16 +22,13 @@ pub record Extends (old : List Node) (index : ℕ) (new : List Node) : Type 0 wh
   pub keeps : (i : ℕ) → i < length old → slice_get new i ≡ slice_get old i
   pub only : (i : ℕ) → i < length new → i ≢ index → i < length old
 
--- a collection by the classes of its children, a dictionary's keys before its values
-abbrev pub node_by : (class : ℕ → ℕ) → (is_dictionary : Bool) → Tree → ℕ → Node
-node_by class is_dictionary t p =
-    (is_dictionary, map class (keys_in t p) ++ map class (values_in t p))
-
--- the tree at index p as such a collection, or `None` for a scalar
+-- the node of the tree at index p, with a dictionary's keys before its values, or `None` for a
+-- scalar
 abbrev pub node_at : (class : ℕ → ℕ) → Tree → ℕ → Option Node
 node_at class (Leaf x) p = None
-node_at class (Array items) p = Some (node_by class false (Array items) p)
-node_at class (Dictionary pairs) p = Some (node_by class true (Dictionary pairs) p)
+node_at class (Array ts) p = Some (false, map class (item_indices ts (p + 1)))
+node_at class (Dictionary ms) p =
+    Some (true, map class (key_indices ms (p + 1)) ++ map class (value_indices ms (p + 1)))
 
 -- the class of a collection is `count` plus the collection's index among those found so far;
 -- nothing is said about a scalar

@@ -12,9 +12,9 @@ invariant_of-self-2 c =
       c.push_reserved.ensures.items,
       c.in_ok-reserve.ensures.items,
       c.in_ok-push.ensures.pushed,
-      c.number_in.ensures,
+      c.columns_of-kind.ensures.number,
       c.one_if_end.ensures.value,
-      c.kind_in-kind.ensures,
+      c.columns_of-kind.ensures.kind,
     ) (columns_more c.self.invariant c.args.entry)
 
 pub returns-clause-pushed : goal.returns-clause-pushed
@@ -23,8 +23,8 @@ returns-clause-pushed c =
       c.push_reserved.ensures.items,
       c.in_ok-reserve.ensures.items,
       c.in_ok-push.ensures.pushed,
-      c.kind_in-kind.ensures,
-      c.number_in.ensures,
+      c.columns_of-kind.ensures.kind,
+      c.columns_of-kind.ensures.number,
     ) (entries_pushed c.self.invariant c.self.view_is c.args.entry)
 
 pub returns-clause-small : goal.returns-clause-small
