@@ -5,7 +5,7 @@ ghost use Rattle.plist_base.specs.Events.{event_of};
 ghost use Rattle.plist_base.specs.Faults.{kind_of};
 ghost use Rattle.plist.specs.LastWins.{with_pair};
 ghost use Rattle.plist.specs.inner.BuilderSteps.{and_tree};
-ghost use Rattle.plist.specs.Building.{NotBegun, complete_tree, kind_expected, refusal_at};
+ghost use Rattle.plist.specs.Building.{NotBegun, complete_tree, refusal_at};
 ghost use Rattle.plist.specs.UnfinishedValues.{AddsEvent, collections_of, kind_of_add_error, unfinished_of};
 ghost use Rattle.plist.specs.ValueTrees.{tree_of};
 
@@ -67,16 +67,6 @@ impl AddError {
     }
 }
 
-// Returns the kind that an error names as expected.
-fn kind_expected(expect: Expect) -> EventKind
-    ensures { result ≡ kind_expected expect }
-{
-    match expect {
-        Expect::Pairs => EventKind::DictionaryKeyOrEndCollection,
-        Expect::OneValue | Expect::Items => EventKind::ValueOrStartCollection,
-    }
-}
-
 impl UnfinishedValue {
     /// Creates an unfinished value without events.
     pub(crate) fn new(alloc: Global) -> UnfinishedValue
@@ -112,7 +102,10 @@ impl UnfinishedValue {
         let expect = self.collections.expect();
         match expect.change_by(event) {
             Transition::Refused => Some(AddError::Unexpected {
-                expected: kind_expected(expect),
+                expected: match expect {
+                    Expect::Pairs => EventKind::DictionaryKeyOrEndCollection,
+                    Expect::OneValue | Expect::Items => EventKind::ValueOrStartCollection,
+                },
                 found: EventKind::of_event(event),
             }),
             Transition::Closed
