@@ -29,10 +29,12 @@ impl<V: Drop> Pairs<V> {
         ensures unchanged { OnErr result (self.new ≡ self.old) }
     {
         let count = self.len();
-        let capacity = Vec::with_capacity(alloc, count)?;
+        let mut rows = Vec::with_capacity(alloc, count)?;
         let keys = IndexSet::with_capacity(alloc, count)?;
         let items = Vec::with_capacity(alloc, count)?;
-        let mut rows = rows_of(mem::replace(self, Pairs::new(alloc)), capacity);
+        for row in mem::replace(self, Pairs::new(alloc)).into_pairs() {
+            rows.push_reserved(row);
+        }
         rows.sort_unstable_by(
             |a: &(String, V), b: &(String, V)| -> Ordering
                 ensures { result ≡ string_cmp a.now.0 b.now.0 }
@@ -41,20 +43,6 @@ impl<V: Drop> Pairs<V> {
         *self = pairs_of_rows(rows, keys, items);
         Ok(())
     }
-}
-
-// Moves the pairs into rows, for which memory is reserved.
-fn rows_of<V: Drop>(pairs: Pairs<V>, capacity: Vec<(String, V)>) -> Vec<(String, V)>
-    requires empty { capacity.items ≡ [] }
-    requires fits { length pairs ≤ vec_capacity capacity }
-    ensures rows { map shown_owned_pair result.items ≡ pairs }
-    ensures distinct { IsDistinct bytes_eq (keys_of (map shown_owned_pair result.items)) }
-{
-    let mut rows = capacity;
-    for row in pairs.into_pairs() {
-        rows.push_reserved(row);
-    }
-    rows
 }
 
 // Moves the pairs of these rows into columns, for which memory is reserved.
