@@ -3,7 +3,6 @@
 ghost use Rattle.std.specs.Prelude.{◌≡◌, ◌<◌, length, slice_get, Some};
 ghost use Rattle.std.specs.Option.{option_and_then, option_copied};
 ghost use Rattle.plist_base.specs.Events.{event_of};
-ghost use Rattle.plist.specs.ValueTrees.{tree_of};
 ghost use Rattle.plist_keyed.specs.inner.Walks.{end_in, uid_of_event};
 ghost use Rattle.plist.specs.Accessors.{uid_in};
 
@@ -17,16 +16,6 @@ pub(crate) fn uid_of(event: &Event<'_>) -> Option<u64>
     ensures { result ≡ uid_of_event (event_of event.now) }
 {
     let Event::Uid(uid) = event else {
-        return None;
-    };
-    Some(uid.get())
-}
-
-// Returns the number of the Uid that an object is, or `None` for any other object.
-fn uid_of_object(object: &Value) -> Option<u64>
-    ensures { result ≡ uid_in (tree_of object.now) }
-{
-    let Value::Uid(uid) = object else {
         return None;
     };
     Some(uid.get())
@@ -79,6 +68,6 @@ impl<'a> ArchiveWalk<'a> {
     pub(crate) fn next_of(&self, uid: u64) -> Option<u64>
         ensures { result ≡ option_and_then uid_in (slice_get (objects_in self.now) uid) }
     {
-        uid_of_object(self.look_up(uid)?)
+        Some(self.look_up(uid)?.as_uid()?.get())
     }
 }
