@@ -7,12 +7,13 @@ use Rattle.std.proofs.lemmas.List.{drop-drop, length-map}
 use Rattle.std.proofs.lemmas.List.FromFn.{fill_by_all}
 use Rattle.std.proofs.Math.Seq.{take-append_seam, drop-append_seam}
 use Rattle.std.proofs.Math.Nat.{mul-div_cancel}
+use Rattle.std.specs.Map.{keys_of, values_of}
 use Rattle.plist_base.specs.Trees as trees
 use Rattle.plist_base.specs.Container.{number_of, number_at, numbers_spelled, magic, trailer_in, is_width, head_with, head_of}
 use Rattle.plist_base.specs.Object.{Object, Scalar, Counted, byte_of, high_half, layout_of, length_that_follows, meaning_of_front, object_in, signed, integer_in_range, Array, Dictionary, Faulty, text_of_units, dictionary, date, date_if_any}
 use Rattle.plist_base.specs.declared.marker.CountedKind.{CountedKind}
 use Rattle.plist_base.specs.declared.marker.Marker.TheVariants as mark
-use Rattle.plist_binwrite.specs.Forms.{integer_marker, unsigned_form, length_form, scalar_form, IsWritableScalar, AllFit, least_width, table_form, reference_width, form, key_numbers, value_numbers, IsWritable}
+use Rattle.plist_binwrite.specs.Forms.{integer_marker, unsigned_form, length_form, scalar_form, IsWritableScalar, AllFit, least_width, table_form, reference_width, form, IsWritable}
 use Rattle.std.specs.Int.{bytes_high_first}
 use Rattle.plist_binwrite.proofs.NumberForms.{length_short, length_long, at_width, length-big_endian, number_back}
 use Rattle.plist_binwrite.specs.Written.{table_and_trailer, trailer_of}
@@ -341,11 +342,11 @@ scalar_read width (trees.Real (Eight v)) rest is =
 scalar_read width (trees.String v) rest is = text_read width v rest is
 scalar_read width (trees.Uid v) rest is = uid_read width v rest is
 
-zip_is : (ps : List (ℕ × ℕ)) → zip (key_numbers ps) (value_numbers ps) ≡ ps
+zip_is : (ps : List (ℕ × ℕ)) → zip (keys_of ps) (values_of ps) ≡ ps
 zip_is [] = refl
 zip_is (p ∷ ps) = ap (λ l. p ∷ l) (zip_is ps)
 
-pub dictionary_is : (ps : List (ℕ × ℕ)) → dictionary (length ps) (key_numbers ps ++ value_numbers ps)
+pub dictionary_is : (ps : List (ℕ × ℕ)) → dictionary (length ps) (keys_of ps ++ values_of ps)
     ≡ Dictionary ps
 dictionary_is ps =
     rw (
@@ -363,12 +364,12 @@ form_read w positive (Array items) rest is =
     (length-table w items)
     ∙ ap Array (numbers_back w items positive is.1)
 form_read w positive (Dictionary ps) rest is =
-    let many : length (key_numbers ps ++ value_numbers ps) * w ≡ length ps * (2 * w) =
+    let many : length (keys_of ps ++ values_of ps) * w ≡ length ps * (2 * w) =
     simp (length-append, length-map) (grind arith) in
-    rw (← flat_map-append (bytes_high_first w) (key_numbers ps) (value_numbers ps))
-    (counted w kind.Dictionary (length ps) (flat_map (bytes_high_first w) (key_numbers ps ++ value_numbers ps)) rest
-    (layout-dictionary w) is.0 (length-table w (key_numbers ps ++ value_numbers ps) ∙ many)
-    ∙ ap (dictionary (length ps)) (numbers_back w (key_numbers ps ++ value_numbers ps) positive
-    (all_both _ (key_numbers ps) (value_numbers ps) is.1 is.2))
+    rw (← flat_map-append (bytes_high_first w) (keys_of ps) (values_of ps))
+    (counted w kind.Dictionary (length ps) (flat_map (bytes_high_first w) (keys_of ps ++ values_of ps)) rest
+    (layout-dictionary w) is.0 (length-table w (keys_of ps ++ values_of ps) ∙ many)
+    ∙ ap (dictionary (length ps)) (numbers_back w (keys_of ps ++ values_of ps) positive
+    (all_both _ (keys_of ps) (values_of ps) is.1 is.2))
     ∙ dictionary_is ps)
 form_read w positive (Faulty kind) rest is = absurd is

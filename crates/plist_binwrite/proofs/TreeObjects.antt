@@ -6,6 +6,7 @@ use Rattle.std.proofs.lemmas.Bool.{ne_eqb}
 use Rattle.std.proofs.lemmas.Grind.{flat_map-append}
 use Rattle.std.proofs.lemmas.List.{map-append, length-map}
 use Rattle.std.proofs.lemmas.Option.{slice_get_within}
+use Rattle.std.specs.Map.{keys_of, values_of}
 use Rattle.plist_base.proofs.Paths.{IsPath, path_none, path_push, path_fuel}
 use Rattle.plist_base.specs.Bracketing.{bracketing, bracketing_of_items, bracketing_of_pairs, lengthless, lengthless_items, lengthless_pairs}
 use Rattle.plist_base.specs.Events.{PlainEvent, Item, EndCollection, ScalarEvent, shape_of}
@@ -24,7 +25,7 @@ use Rattle.plist_base.specs.declared.event.EventShape.{EventShape}
 use Rattle.plist_base.specs.declared.event.EventShape.TheVariants as shape
 use Rattle.plist_base.specs.Utf16.{units_of}
 use Rattle.plist_buffer.specs.inner.LongContents.{is_ascii_text}
-use Rattle.plist_binwrite.specs.Forms.{length_form, scalar_form, form, key_numbers, value_numbers, IsWritable, IsWritableScalar, AllFit}
+use Rattle.plist_binwrite.specs.Forms.{length_form, scalar_form, form, IsWritable, IsWritableScalar, AllFit}
 use Rattle.std.specs.Int.{bytes_high_first}
 use Rattle.plist_buffer.specs.Children.{half_of}
 use Rattle.plist_buffer.specs.declared.children.Half.TheVariants.{Values}
@@ -226,8 +227,8 @@ module _ (es : List PlainEvent) (number : ℕ → ℕ) (count w : ℕ)
       (number_fits t q (occurs_item s), refs_fit ts _ (occurs_next s))
 
   pairs_fit : (ms : Members) (q : ℕ) → PairsOccurAt es ms q
-      → AllFit w (key_numbers (pairs number ms q))
-      × AllFit w (value_numbers (pairs number ms q))
+      → AllFit w (keys_of (pairs number ms q))
+      × AllFit w (values_of (pairs number ms q))
   pairs_fit NoMembers q s = (tt, tt)
   pairs_fit (MemberAnd k t ms) q s =
       let more = pairs_fit ms _ (occurs_next_pair s) in (
@@ -285,12 +286,12 @@ of_scalar P is h (Dictionary ms) s = let start = starts_dictionary s in cc
 -- ---- forms and sizes
 
 module _ (num : ℕ → ℕ) where
-  pub keys_are : (ms : Members) (q : ℕ) → key_numbers (pairs num ms q) ≡ map num (key_indices ms q)
+  pub keys_are : (ms : Members) (q : ℕ) → keys_of (pairs num ms q) ≡ map num (key_indices ms q)
   keys_are NoMembers q = refl
   keys_are (MemberAnd k t ms) q = ap (λ l. num q ∷ l) (keys_are ms _)
 
   pub values_are : (ms : Members) (q : ℕ)
-      → value_numbers (pairs num ms q) ≡ map num (value_indices ms q)
+      → values_of (pairs num ms q) ≡ map num (value_indices ms q)
   values_are NoMembers q = refl
   values_are (MemberAnd k t ms) q = ap (λ l. num (q + 1) ∷ l) (values_are ms _)
 

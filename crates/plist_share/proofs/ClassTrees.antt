@@ -3,12 +3,12 @@ use Rattle.std.proofs.Common.{◌≡◌, ◌≢◌, ◌⊎◌, inl, inr, ℕ, �
 use Rattle.std.proofs.lemmas.Bool.Decides.{eqb_tells, leb_tells}
 use Rattle.std.proofs.lemmas.List.{length-map, get_or-set_other, get_or-set_same}
 use Rattle.std.proofs.lemmas.Option.{slice_get_within, same_Some}
+use Rattle.std.specs.Map.{keys_of, values_of}
 use Rattle.plist_base.specs.Trees.{Scalar, Tree, Leaf, Array, Dictionary, Trees, NoTrees, TreeAnd, Members, NoMembers, MemberAnd}
 use Rattle.plist_base.specs.Events.{PlainEvent, EndCollection, ScalarEvent, shape_of}
 use Rattle.plist_base.specs.Object as obj
 use Rattle.plist_base.specs.Object.{dictionary}
 use Rattle.plist_binwrite.specs.Classes.{AreClasses, object_of, HasEachCollection, listed_class}
-use Rattle.plist_binwrite.specs.Forms.{key_numbers, value_numbers}
 use Rattle.plist_binwrite.specs.declared.classes.ClassList.{ClassList}
 use Rattle.plist_buffer.specs.EventTable.{HasItem, IsBracketed, collection_number, is_end, item_indices, key_indices, value_indices, event_at, plain_events, scalars_of}
 use Rattle.plist_binwrite.proofs.TreeObjects.{pairs, references, keys_are, values_are}
@@ -34,7 +34,7 @@ same_pairs : (class : ℕ → ℕ) (ms ns : Members) (p q : ℕ)
 same_pairs class ms ns p q e =
     let a = pairs _ ms p in
     let b = pairs _ ns q in
-    let all : key_numbers a ++ value_numbers a ≡ key_numbers b ++ value_numbers b =
+    let all : keys_of a ++ values_of a ≡ keys_of b ++ values_of b =
     (λ i. keys_are class ms p i ++ values_are class ms p i) ∙ e
     ∙ (λ i. sym (keys_are class ns q) i ++ sym (values_are class ns q) i) in
     let many : length a ≡ length b =
@@ -45,8 +45,8 @@ same_halves : (f g : ℕ → ℕ) (ms : Members) (p q : ℕ) → pairs f ms p �
     → map f (key_indices ms p) ++ map f (value_indices ms p)
     ≡ map g (key_indices ms q) ++ map g (value_indices ms q)
 same_halves f g ms p q e = λ i.
-    (sym (keys_are f ms p) ∙ ap key_numbers e ∙ keys_are g ms q) i
-    ++ (sym (values_are f ms p) ∙ ap value_numbers e ∙ values_are g ms q) i
+    (sym (keys_are f ms p) ∙ ap keys_of e ∙ keys_are g ms q) i
+    ++ (sym (values_are f ms p) ∙ ap values_of e ∙ values_are g ms q) i
 
 -- ---- all indices have their classes
 
