@@ -66,13 +66,6 @@ fn digit(byte: u8, radix: u32) -> Option<u32>
     char::from(byte).to_digit(radix)
 }
 
-// Returns whether this byte is an octal digit.
-fn is_octal(byte: u8) -> bool
-    ensures { result ≡ is_digit byte 8 }
-{
-    matches!(byte, b'0'..=b'7')
-}
-
 // Returns the character of an octal escape with this number.
 #[tactic(auto, unfolding(crate::specs::Escapes::octal_char), using(crate::proofs::Texts::to_char))]
 fn octal_char(number: u32) -> Option<char>
@@ -136,12 +129,12 @@ impl<R: ByteReader> Input<R> {
         if byte == b'U' {
             return self.unicode_escape();
         }
-        if is_octal(byte) {
-            return self.octal_escape(byte);
-        }
-        match simple_of(byte) {
-            Some(other) => Ok(Escaped::Byte(other)),
-            None => Err(TokenFault::InvalidUtf8),
+        match digit(byte, 8) {
+            Some(_) => self.octal_escape(byte),
+            None => match simple_of(byte) {
+                Some(other) => Ok(Escaped::Byte(other)),
+                None => Err(TokenFault::InvalidUtf8),
+            },
         }
     }
 
