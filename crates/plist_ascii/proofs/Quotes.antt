@@ -13,7 +13,7 @@ use Rattle.plist_ascii.specs.declared.unescape.Escaped.{Escaped}
 use Rattle.plist_ascii.specs.TokenPrefixes.{code_of, Taken, taken, past, past_one, after_byte, followed, in_sequence, run}
 use Rattle.plist_ascii.specs.Escapes.{escape}
 use Rattle.plist_ascii.specs.Texts.{prepended, ends_run, quoted_in, quoted}
-use Rattle.plist_ascii.specs.inner.Inputs.{AddsRun, GivesBy, TakesNext, TakesOneMore, escaped_bytes, kind_in_bytes}
+use Rattle.plist_ascii.specs.inner.Inputs.{GivesBy, TakesNext, TakesOneMore, TakesRun, escaped_bytes, kind_in_bytes}
 use Rattle.plist_ascii.proofs.Runs.{run_elim}
 use Rattle.plist_ascii.proofs.TokenOutcomes.{gives_after, past_more}
 
@@ -96,7 +96,7 @@ module _ {R : Type 0} {known : R → Option (List ℕ)} (quote : ℕ) (text : Li
     {old mid new : Input R} where
   module _ {X : Type 0} {view : X → List ℕ} {answer : Result X TokenFault} {longer : List ℕ} where
     -- a run was taken, and then the rest of the string
-    pub run_quoted : AddsRun known (stop.Quoted quote) old text mid longer → old.taken ≤ mid.taken
+    pub run_quoted : TakesRun known (stop.Quoted quote) (λ run. longer ≡ text ++ run) old mid → old.taken ≤ mid.taken
         → GivesBy known view (rest_from_stop quote longer) mid answer new
         → GivesBy known view (rest_of quote text) old answer new
     run_quoted took le a = gives_after a le (λ xs e.

@@ -1,7 +1,7 @@
 -- The meaning of strings, which tokens are strings, and what a slash begins.
 use Rattle.std.proofs.Common.{rules, ◌≡◌, ℕ, ◌≤◌, List, Option, Some, Ok, Err, refl, ◌<◌, None, ap, arith, zero, suc, Bool, [], ◌∷◌, ◌++◌, Result, ◌≢◌}
 use Rattle.plist_base.specs.declared.event.Event.{Event}
-use Rattle.plist_ascii.specs.inner.Inputs.{AddsRun, GivesBy, Means}
+use Rattle.plist_ascii.specs.inner.Inputs.{GivesBy, Means, TakesRun}
 use Rattle.plist_ascii.specs.declared.input.Input.{Input}
 use Rattle.plist_ascii.specs.declared.stop.Stop.{Stop}
 use Rattle.std.specs.Str.{is_utf8}
@@ -108,6 +108,6 @@ pub ruleset text_tokens = (bare_wants, quoted_wants)
 pub bare_becomes : {R : Type 0} {known : R → Option (List ℕ)} {stop : Stop} (c : ℕ)
     {none text : List ℕ} {old new : Input R} {r : Result Event TokenFault} → none ≡ []
     → Means r (bare_event text)
-    → (old.taken ≤ new.taken) × AddsRun known stop old (none ++ c ∷ []) new text
+    → (old.taken ≤ new.taken) × TakesRun known stop (λ run. text ≡ (none ++ c ∷ []) ++ run) old new
     → GivesBy known (λ e. Some (event_of e)) (bare (stops stop) c) old r new
 bare_becomes c {r} e m t = grind (arith, common_steps)

@@ -82,10 +82,6 @@ quoted_token quote rest = taken (quoted quote rest).bytes
 
 -- ---- what a slash begins
 
--- a line comment, up to the LF, which isn't taken
-abbrev pub line_comment : List ℕ → Token
-line_comment rest = taken (run (λ c. c == code_of "\n") rest) (Ok None)
-
 -- is c the first byte?
 abbrev pub begins_with : ℕ → List ℕ → Bool
 begins_with c [] = false
@@ -102,10 +98,11 @@ abbrev pub block_comment : List ℕ → Token
 block_comment rest = option_map_or (λ place. taken (suc (suc place)) (Ok None)) (close_at rest)
     (taken (length rest) (Err IncompleteComment))
 
--- the token that a slash begins: a comment, or a bare string
+-- the token that a slash begins: a line comment, up to the LF, which isn't taken, a block comment,
+-- or a bare string
 abbrev pub slash : (stops : ℕ → Bool) → List ℕ → Token
 slash stops [] = taken 0 (Err IncompleteComment)
 slash stops (c ∷ rest) =
-    if c == code_of "/" then past_one (line_comment rest)
+    if c == code_of "/" then past_one (taken (run (λ c. c == code_of "\n") rest) (Ok None))
     else if c == code_of "*" then past_one (block_comment rest)
     else bare stops (code_of "/") (c ∷ rest)

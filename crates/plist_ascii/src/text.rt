@@ -1,13 +1,13 @@
 //! Bare strings, and the meaning of strings.
 
-ghost use Rattle.std.specs.Prelude.{◌≡◌, ◌||◌, ◌≤◌, None, Some, false, true, IfOk, IfErr, OnOk, string_bytes};
+ghost use Rattle.std.specs.Prelude.{◌≡◌, ◌++◌, ◌||◌, ◌≤◌, None, Some, false, true, IfOk, IfErr, OnOk, string_bytes};
 ghost use Rattle.plist_base.specs.IntegerText.{integer_of_text};
 ghost use Rattle.plist_base.specs.Events.{event_of};
 ghost use Rattle.plist_ascii.specs.TokenPrefixes.{is_one_of};
 ghost use Rattle.plist_ascii.specs.Texts.{bare, bare_event, quoted_event};
 ghost use Rattle.plist_ascii.specs.Ascii.{IsTextEvent};
 ghost use Rattle.plist_ascii.specs.Unread.{stops};
-ghost use Rattle.plist_ascii.specs.inner.Inputs.{Means, kind_in_bytes, AddsRun, CountsFailed, GivesBy};
+ghost use Rattle.plist_ascii.specs.inner.Inputs.{Means, kind_in_bytes, CountsFailed, GivesBy, TakesRun};
 ghost use Rattle.std.specs.Char.{is_digit};
 ghost use Rattle.std.specs.Str.{is_utf8};
 
@@ -93,8 +93,8 @@ impl<R: ByteReader> Input<R> {
     #[inline(always)]
     pub fn take_run(&mut self, stop: Stop, text: &mut Vec<u8>) -> Result<(), TokenFault>
         // Result.
-        ensures value { OnOk result (AddsRun R.remaining stop self.old text.old.items self.new
-            text.new.items) }
+        ensures value { OnOk result (TakesRun R.remaining stop
+            (λ run. text.new.items ≡ text.old.items ++ run) self.old self.new) }
         // Errors.
         ensures fault { IfErr result (λ f. kind_in_bytes f ≡ None) }
         // State afterwards.

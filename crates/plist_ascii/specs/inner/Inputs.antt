@@ -152,10 +152,6 @@ module _ {R : Type 0} (known : R → Option (List ℕ)) where
       let n = run (stops stop) xs in (drop n xs ≡ []) × (unread known new ≡ Some (drop n xs))
       × (new.taken ≡ old.taken + n))
 
-  -- the whole run was taken, and follows the bytes `front` in the text
-  abbrev pub AddsRun : Stop → Input R → (front : List ℕ) → Input R → (text : List ℕ) → Type 0
-  AddsRun stop old front new text = TakesRun stop (λ run. text ≡ front ++ run) old new
-
   -- what is at the front was taken, and its meaning is the value of the result, mapped by `view`,
   -- or its fault is the error; if a read or an allocation failed, nothing is said about the bytes
   pub record GivesBy {X A : Type 0} (view : X → A) (front : List ℕ → Taken A) (old : Input R)
