@@ -96,7 +96,8 @@ module _ {R : Type 0} {known : R → Option (List ℕ)} (quote : ℕ) (text : Li
     {old mid new : Input R} where
   module _ {X : Type 0} {view : X → List ℕ} {answer : Result X TokenFault} {longer : List ℕ} where
     -- a run was taken, and then the rest of the string
-    pub run_quoted : TakesRun known (stop.Quoted quote) (λ run. longer ≡ text ++ run) old mid → old.taken ≤ mid.taken
+    pub run_quoted : TakesRun known (stop.Quoted quote) (λ run. longer ≡ text ++ run) old mid
+        → old.taken ≤ mid.taken
         → GivesBy known view (rest_from_stop quote longer) mid answer new
         → GivesBy known view (rest_of quote text) old answer new
     run_quoted took le a = gives_after a le (λ xs e.

@@ -367,7 +367,8 @@ form_read w positive (Dictionary ps) rest is =
     let many : length (keys_of ps ++ values_of ps) * w ≡ length ps * (2 * w) =
     simp (length-append, length-map) (grind arith) in
     rw (← flat_map-append (bytes_high_first w) (keys_of ps) (values_of ps))
-    (counted w kind.Dictionary (length ps) (flat_map (bytes_high_first w) (keys_of ps ++ values_of ps)) rest
+    (counted w kind.Dictionary (length ps)
+    (flat_map (bytes_high_first w) (keys_of ps ++ values_of ps)) rest
     (layout-dictionary w) is.0 (length-table w (keys_of ps ++ values_of ps) ∙ many)
     ∙ ap (dictionary (length ps)) (numbers_back w (keys_of ps ++ values_of ps) positive
     (all_both _ (keys_of ps) (values_of ps) is.1 is.2))

@@ -132,7 +132,8 @@ module _ {W S : Type 0} {g : Ghosts W} {h : SharingGhosts S} (before after : Fil
           (sink_of after)
       sent answer =
           sends_as _ _ _ _
-          (cc (are, alike_last (open_events before) event)) (λ t alike file of. of) (λ t alike. refl) _ _ _ _
+          (cc (are, alike_last (open_events before) event)) (λ t alike file of. of)
+          (λ t alike. refl) _ _ _ _
 
       pub takes_unsent : (fault : Fault) → failed_of after ≡ true
           → SendsAs h.kind g.contents events (Err fault) (sink_of before) (sink_of after)

@@ -17,7 +17,8 @@ pub returns-in-Some-simple_of-clause-answers : goal.returns-in-Some-simple_of-cl
 unfolding escape
 returns-in-Some-simple_of-clause-answers g c =
     let byte = c.in_ok-byte.ensures in
-    gives_next {mid = c.expect_byte.new.self} {back = λ _. taken 0 (Ok (c.in-Some-simple_of.other ∷ []))}
+    gives_next {mid = c.expect_byte.new.self}
+    {back = λ _. taken 0 (Ok (c.in-Some-simple_of.other ∷ []))}
     (record { rises = omega arith; gives = λ xs e. (refl, e, omega arith) }) c.in_ok-byte.byte
     byte.value byte.place (λ rest. rw (
       ne_eqb _ _ c.if-byte-eq85.false,

@@ -20,7 +20,8 @@ returns-in_err-write_file g c =
     let t = c.in-Ok.ensures.taken in
     let p = err_from_is_err_and c.from_residual.result c.from_residual.ensures.1 in
     rw (p.1, p.2) (takes_unsent c.args.self.now _ (event_of c.args.event) (search rules) t.0
-    (plain_events c.events.result.now) (c.events.ensures ∙ t.1.0) _ refl c.in_err-write_file.ensures)
+    (plain_events c.events.result.now) (c.events.ensures ∙ t.1.0) _ refl
+    c.in_err-write_file.ensures)
 
 pub returns-else-is_whole : goal.returns-else-is_whole
 returns-else-is_whole g c =
