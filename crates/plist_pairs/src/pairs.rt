@@ -1,6 +1,6 @@
 //! Pairs of a key and a value, each key once: the keys in a set, and the values in a vector.
 
-ghost use Rattle.std.specs.Prelude.{◌≡◌, ◌<◌, [], Some, IfErr, IfOk, IfSome, MatchOption, OnErr, OnOk, length, map, slice_get, string_bytes, swap, take};
+ghost use Rattle.std.specs.Prelude.{◌≡◌, ◌<◌, [], Some, IfErr, IfOk, IfSome, MatchOption, OnErr, OnOk, length, map, slice_get, string_bytes, take};
 ghost use Rattle.std.specs.Option.{option_copied, option_copied_mut};
 ghost use Rattle.std.specs.List.{zip, IsAmong, IsDistinct};
 ghost use Rattle.std.specs.Map.{keys_of, lookup, values_of};
@@ -211,16 +211,6 @@ impl<V> Pairs<V> {
         self.items.swap_remove(index)
     }
 
-    // Swaps the pairs at two indices.
-    fn swap(&mut self, first: usize, second: usize)
-        requires first { first < length self.old }
-        requires second { second < length self.old }
-        ensures { self.new ≡ swap self.old first second }
-    {
-        self.keys.swap_indices(first, second);
-        self.items.swap(first, second);
-    }
-
     fn len(&self) -> usize
         ensures { result ≡ length self.now }
     {
@@ -253,7 +243,8 @@ impl<V> Pairs<V> {
         for i in 0..self.len() {
             let (key, value) = self.pair_at(i);
             if keep(key, value) {
-                self.swap(kept, i);
+                self.keys.swap_indices(kept, i);
+                self.items.swap(kept, i);
                 kept += 1;
             }
         }

@@ -1,5 +1,6 @@
-use Rattle.std.proofs.Common.{List, ℕ, string_bytes, refl, subst, ◌∙◌, arith}
+use Rattle.std.proofs.Common.{rules, ◌≡◌, List, ℕ, string_bytes, refl, subst, swap, arith}
 use Rattle.plist_pairs.specs.Bulk.{AnswersAtPair}
+use Rattle.plist_pairs.proofs.PairColumns.{columns}
 use Rattle.plist_pairs.proofs.RetainLoop.{kept-all, step-one, step-other}
 use Rattle.plist_pairs.proofs.pairs.Pairs.retain.Goals.{then-keep, else-keep}
 use Rattle.plist_pairs.proofs.pairs.Pairs.retain.Goals as goal
@@ -16,9 +17,10 @@ loop-i-preserved g c =
       says = c.keep.ensures;
     } in
     elim c.if-keep.branch [
-      | then-keep w ↦ step-one A c.args.self.now l.self c.if-keep.self l.i l.kept x l.invariant
-          c.pair_at.ensures c.if-keep.kept (subst (A x) w.if-keep.true answered)
-          (w.self-is ∙ w.swap.ensures) w.kept-is
+      | then-keep w ↦
+          let moved : c.if-keep.self ≡ swap l.self l.kept l.i = search (rules, columns, w.self-is) in
+          step-one A c.args.self.now l.self c.if-keep.self l.i l.kept x l.invariant
+          c.pair_at.ensures c.if-keep.kept (subst (A x) w.if-keep.true answered) moved w.kept-is
       | else-keep w ↦ step-other A c.args.self.now l.self c.if-keep.self l.i l.kept x l.invariant
           c.pair_at.ensures c.if-keep.kept (subst (A x) w.if-keep.false answered) w.self-is
           w.kept-is
