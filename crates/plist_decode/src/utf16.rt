@@ -23,19 +23,6 @@ fn write_bytes(text: &mut [u8], size: usize, bytes: &[u8]) -> usize
     end
 }
 
-// Writes eight bytes after the first `size` bytes, and returns where they end. The bytes are stored
-// as a vector, which takes one instruction.
-#[inline(always)]
-fn write_block(text: &mut [u8], size: usize, block: [u8; 8]) -> usize
-    requires { size + length block ≤ length text.old }
-    ensures size { result ≡ size + length block }
-    ensures written { take result text.new ≡ take size text.old ++ block }
-    ensures length { length text.new ≡ length text.old }
-{
-    u8x8::from_array(block).copy_to_slice(&mut text[size..]);
-    size + 8
-}
-
 /// Returns the byte in UTF-8 that contains the lowest six bits of a number. It isn't the first byte
 /// of a character.
 #[inline(always)]
@@ -71,44 +58,6 @@ fn write_wide_char(text: &mut [u8], size: usize, code: u32) -> usize
     )
 }
 
-// Writes a character in UTF-8 after the first `size` bytes, and returns where it ends.
-#[inline(always)]
-fn write_char(text: &mut [u8], size: usize, c: char) -> usize
-    requires { size + len_utf8 c ≤ length text.old }
-    ensures size { result ≡ size + len_utf8 c }
-    ensures written { take result text.new ≡ take size text.old ++ encode_utf8 c }
-    ensures length { length text.new ≡ length text.old }
-{
-    let code = c as u32;
-    if code < 0x80 {
-        text[size] = code as u8;
-        return size + 1;
-    }
-    write_wide_char(text, size, code)
-}
-
-// Writes the next characters in UTF-8 after the first `size` bytes, up to the first one that isn't
-// ASCII, and returns where they end. If all characters are ASCII, writes all and returns `None`.
-#[inline(always)]
-fn write_to_wide(text: &mut [u8], size: usize, chars: &mut Utf16Chars<'_>) -> Option<usize>
-    requires { size + length (encode_utf8_all (chars_left chars.old)) ≡ length text.old }
-    ensures all { result ≡ None
-        → text.new ≡ take size text.old ++ encode_utf8_all (chars_left chars.old) }
-    ensures some { IfSome result (λ end.
-        WritesChars (size, text.old, chars_left chars.old) (end, text.new, chars_left chars.new)) }
-    ensures fewer { IfSome result (λ _.
-        length (chars_left chars.new) < length (chars_left chars.old)) }
-{
-    let mut end = size;
-    while let Some(c) = chars.next() {
-        end = write_char(text, end, c);
-        if !c.is_ascii() {
-            return Some(end);
-        }
-    }
-    None
-}
-
 // Writes the next eight characters after the first `size` bytes if all of them are ASCII, or else
 // those up to the first one that isn't ASCII, and returns where they end. So eight units are tested
 // again only after such a character. If there is none, writes all characters and returns `None`.
@@ -123,9 +72,20 @@ fn write_next(text: &mut [u8], size: usize, chars: &mut Utf16Chars<'_>) -> Optio
         length (chars_left chars.new) < length (chars_left chars.old)) }
 {
     if let Some(block) = chars.next_eight_ascii() {
-        return Some(write_block(text, size, block));
+        // The bytes are stored as a vector, which takes one instruction.
+        u8x8::from_array(block).copy_to_slice(&mut text[size..]);
+        return Some(size + 8);
     }
-    write_to_wide(text, size, chars)
+    let mut end = size;
+    while let Some(c) = chars.next() {
+        let code = c as u32;
+        if code >= 0x80 {
+            return Some(write_wide_char(text, end, code));
+        }
+        text[end] = code as u8;
+        end += 1;
+    }
+    None
 }
 
 // Writes the characters of an iterator in UTF-8. It isn't inlined, and the loop has an iterator of

@@ -1,7 +1,7 @@
 use Rattle.std.proofs.Common.{◌≡◌, length}
 use Rattle.plist_base.specs.Utf16Strings.{chars_left}
 use Rattle.plist_decode.specs.Utf16Writing.{WritesChars}
-use Rattle.plist_decode.proofs.utf16.write_to_wide.Given as goal
+use Rattle.plist_decode.proofs.utf16.write_next.Given as goal
 
 abbrev pub invariant-loop-c : goal.invariant-loop-c
 invariant-loop-c l = record {
