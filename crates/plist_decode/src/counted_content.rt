@@ -2,7 +2,7 @@
 //!
 //! Each function reads the bytes that follow the marker.
 
-ghost use Rattle.std.specs.Prelude.{◌≡◌, ◌+◌, ◌-◌, ◌*◌, ◌%◌, ◌^◌, ◌<◌, ◌≤◌, false, length, take, IfNone, IfSome, MatchOption};
+ghost use Rattle.std.specs.Prelude.{◌≡◌, ◌+◌, ◌-◌, ◌*◌, ◌%◌, ◌<◌, ◌≤◌, false, length, take, IfNone, IfSome, MatchOption};
 ghost use Rattle.std.specs.Str.{is_utf8};
 ghost use Rattle.plist_base.specs.Object.{text, wide_text};
 ghost use Rattle.plist_base.specs.Packing.{content_bytes, padded};
@@ -92,16 +92,6 @@ pub fn decode_data(low: LowHalf, rest: AfterMarker<'_>) -> Decoded
 // The tag of an empty packed string. The tag of any other one is greater by its length.
 const EMPTY_TEXT: u8 = 17;
 
-// Returns the content that begins with the first `count` of eight bytes and continues with zeros.
-#[inline(always)]
-fn first_of_eight(bytes: &[u8; 8], count: u64) -> u64
-    requires { (0 < count) × (count ≤ 8) }
-    ensures { content_bytes result ≡ padded (take count bytes.now) }
-{
-    let number = u64::from_be_bytes(*bytes);
-    number - number % (1 << (64 - 8 * count))
-}
-
 // Returns the content that begins with the first `count` bytes and continues with zeros. If there
 // are eight bytes, they are loaded at once. Otherwise the content is that of data.
 #[inline(always)]
@@ -110,7 +100,10 @@ fn short_content(bytes: &[u8], count: usize) -> u64
     ensures { content_bytes result ≡ padded (take count bytes.now) }
 {
     match bytes.first_chunk() {
-        Some(eight) if count > 0 => first_of_eight(eight, count as u64),
+        Some(eight) if count > 0 => {
+            let number = u64::from_be_bytes(*eight);
+            number - number % (1 << (64 - 8 * count))
+        }
         _ => PackedScalar::of_data(&bytes[..count]).unwrap().content(),
     }
 }
@@ -123,19 +116,6 @@ fn is_utf8(bytes: &[u8]) -> bool
     str::from_utf8(bytes).is_ok()
 }
 
-// Returns `true` if bytes are UTF-8, of which there are at most eight. They are given again in
-// `all`, where zeros follow them, so that one test of eight bytes is enough for ASCII.
-#[inline(always)]
-fn is_short_utf8(bytes: &[u8], all: [u8; 8]) -> bool
-    requires { all ≡ padded bytes.now }
-    ensures { result ≡ is_utf8 bytes.now }
-{
-    if Ascii::eight(u8x8::from_array(all)) {
-        return true;
-    }
-    is_utf8(bytes)
-}
-
 // Decodes a UTF-8 string that consists of the first `count` bytes.
 #[inline(always)]
 fn short_text(bytes: &[u8], count: usize) -> Decoded
@@ -143,7 +123,9 @@ fn short_text(bytes: &[u8], count: usize) -> Decoded
     ensures { MeansDecoded (text (take count bytes.now)) result }
 {
     let content = short_content(bytes, count);
-    if !is_short_utf8(&bytes[..count], content.to_be_bytes()) {
+    // One test of the content is enough for ASCII.
+    let is_ascii = Ascii::eight(u8x8::from_array(content.to_be_bytes()));
+    if !is_ascii && !is_utf8(&bytes[..count]) {
         return Decoded::faulty(StepFault::NotUtf8);
     }
     let tag = EMPTY_TEXT + count as u8;

@@ -58,12 +58,6 @@ impl<L: Ledger> CountedDecodings<L> {
         let (book, share) = blank.open();
         CountedDecodings { book, share }
     }
-
-    fn add_one(&mut self)
-        ensures { self.new ≡ self.old + 1 }
-    {
-        self.book.add(&mut self.share, 1);
-    }
 }
 
 impl<L: Ledger> DecodeCounter for CountedDecodings<L> {
@@ -72,6 +66,6 @@ impl<L: Ledger> DecodeCounter for CountedDecodings<L> {
     ghost count = { λ s. s };
 
     fn raise(&mut self) {
-        self.add_one();
+        self.book.add(&mut self.share, 1);
     }
 }

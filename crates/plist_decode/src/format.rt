@@ -5,7 +5,7 @@ ghost use Rattle.std.specs.List.{starts_with};
 ghost use Rattle.plist_base.specs.Faults.{Io, fault_at};
 ghost use Rattle.plist_base.specs.Outcomes.{OnlyFault, DecodesBy};
 ghost use Rattle.plist_base.specs.Sources.{CountsIo};
-ghost use Rattle.plist_decode.specs.Formats.{ReadsMeaning, is_white, byte_order_mark_length, input_front, xml_place, format_of};
+ghost use Rattle.plist_decode.specs.Formats.{ReadsMeaning, is_white, input_front, xml_place, format_of};
 
 use plist_base::marker::MAGIC;
 use plist_base::{Error, ErrorKind, Source, read_exact_at};
@@ -39,15 +39,6 @@ fn begins_with<S: Source, const N: usize>(source: &mut S, front: &[u8; N]) -> Re
             Ok(false)
         }
     }
-}
-
-// Returns the number of bytes in the byte order mark, or 0 if the source begins with none.
-fn byte_order_mark_length<S: Source>(source: &mut S) -> Result<u64, Error>
-    ensures { ReadsMeaning S.known S.failures byte_order_mark_length source.old
-        result source.new }
-{
-    let marked = begins_with(source, MARK)?;
-    Ok(if marked { 3 } else { 0 })
 }
 
 // Reads the byte at an offset, or returns `None` if the source ends before it. An I/O error has the
@@ -110,7 +101,7 @@ pub fn format_of<S: Source>(source: &mut S) -> Result<Format, Error>
     if begins_with(source, MAGIC)? {
         return Ok(Format::Binary);
     }
-    let start = byte_order_mark_length(source)?;
+    let start = if begins_with(source, MARK)? { 3 } else { 0 };
     match xml_place(source, start)? {
         Some(place) => Ok(Format::Xml(place)),
         None => Ok(Format::Ascii),

@@ -1,9 +1,6 @@
 //! Reads the head of a file, which says where the objects are and how to read them.
 
-ghost use Rattle.std.specs.Prelude.{◌≡◌, ◌^◌, ◌<◌, ◌≤◌, length, Some};
-ghost use Rattle.plist_base.specs.Outcomes.{OnlyFault, DecodesBy};
-ghost use Rattle.plist_base.specs.Faults.{Io, fault_at};
-ghost use Rattle.plist_base.specs.Sources.{CountsIo};
+ghost use Rattle.std.specs.Prelude.{◌^◌, ◌<◌, ◌≤◌};
 
 use crate::numbers::read_numbers;
 use crate::trailer::{check_trailer, has_magic, read_trailer};
@@ -53,21 +50,8 @@ impl Bounds {
     }
 }
 
-// Returns the size of the source in bytes.
-fn read_size<S: Source>(source: &mut S) -> Result<u64, Error>
-    ensures length { DecodesBy result (S.known source.old) (λ bytes. length bytes) }
-    ensures refused { OnlyFault result (fault_at Io 0) }
-    ensures unchanged { S.known source.new ≡ S.known source.old }
-    ensures failures { CountsIo (Some result) (S.failures source.old) (S.failures source.new) }
-{
-    match source.size() {
-        Ok(size) => Ok(size),
-        Err(error) => Err(ErrorKind::Io(error).with_byte_offset(0)),
-    }
-}
-
 impl Head {
-    ghost use Rattle.std.specs.Prelude.{◌≡◌, ◌+◌, ◌^◌, ◌<◌, IfOk};
+    ghost use Rattle.std.specs.Prelude.{◌≡◌, ◌+◌, ◌^◌, ◌<◌, IfOk, Some};
     ghost use Rattle.plist_base.specs.Sources.{CountsIo};
     ghost use Rattle.plist_base.specs.Outcomes.{IfRead, IfRefused};
     ghost use Rattle.plist_decode.specs.FaultOffsets.{ErrWithin};
@@ -93,7 +77,10 @@ impl Head {
         ensures unchanged { S.known source.new ≡ S.known source.old }
         ensures failures { CountsIo (Some result) (S.failures source.old) (S.failures source.new) }
     {
-        let size = read_size(source)?;
+        let size = match source.size() {
+            Ok(size) => size,
+            Err(error) => return Err(ErrorKind::Io(error).with_byte_offset(0)),
+        };
         if size < MAGIC_SIZE {
             return Err(ErrorKind::UnexpectedEof.with_byte_offset(size));
         }

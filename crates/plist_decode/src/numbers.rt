@@ -4,7 +4,7 @@ ghost use Rattle.std.specs.Prelude.{◌≡◌, ◌+◌, ◌-◌, ◌*◌, ◌^�
 ghost use Rattle.plist_base.specs.Sources.{CountsIo, FailsReading, IsIoWithin};
 ghost use Rattle.plist_base.specs.Container.{number_of, number_at};
 ghost use Rattle.plist_decode.specs.FaultOffsets.{ErrWithin};
-ghost use Rattle.plist_decode.specs.Reading.{AreFirstNumbers, AreBytesAt, AreNumbersAt, IsIoOrMemoryAt};
+ghost use Rattle.plist_decode.specs.Reading.{AreFirstNumbers, AreNumbersAt, IsIoOrMemoryAt};
 ghost use Rattle.plist_base.specs.Outcomes.{DecodesBy, IfFault, IfRead, IfRefused};
 
 use plist_base::{Error, Source, read_exact_at};
@@ -135,33 +135,4 @@ pub fn read_numbers<S: Source>(
         take_buffered(source, place, width, count, &mut numbers);
     }
     Ok(numbers)
-}
-
-/// Reads `size` bytes from an offset on.
-///
-/// # Errors
-///
-/// - `Io` if a read fails, and `UnexpectedEof` if a read returns no byte. Both have the offset of
-///   that read.
-/// - `OutOfMemory`, without an offset, if an allocation fails.
-pub fn read_bytes<S: Source>(
-    alloc: Global,
-    source: &mut S,
-    place: u64,
-    size: usize,
-) -> Result<Vec<u8>, Error>
-    requires { place + size < 2 ^ 64 }
-    // Result.
-    ensures items { IfRead result (S.known source.old) (AreBytesAt place size) }
-    ensures long { IfOk result (λ found. vec_len found ≡ size) }
-    // Errors.
-    ensures refused { IfRefused result (S.known source.old) (IsIoOrMemoryAt place size) }
-    ensures fault { ErrWithin place (place + size) result }
-    // State afterwards.
-    ensures unchanged { S.known source.new ≡ S.known source.old }
-    ensures failures { CountsIo (Some result) (S.failures source.old) (S.failures source.new) }
-{
-    let mut found = vec![in alloc; 0u8; size]?;
-    read_exact_at(source, place, &mut found)?;
-    Ok(found)
 }

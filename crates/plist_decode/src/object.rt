@@ -24,7 +24,6 @@ use crate::fixed_content::{
     decode_wide_integer,
 };
 use crate::head::Bounds;
-use crate::numbers::read_bytes;
 use crate::step_fault::{FaultDetails, StepFault};
 use plist_base::marker::{CountedKind, Marker};
 use plist_base::{PackedScalar, Source, read_exact_at};
@@ -194,9 +193,10 @@ pub fn read_object<S: Source, C: DecodeCounter>(
 ///
 /// # Errors
 ///
-/// `Kept` if the bytes can't be read. The error is `Io` if a read fails, `UnexpectedEof` if the
-/// source ends before the content does, or `OutOfMemory` if memory for the bytes can't be
-/// allocated. The first two have the offset of the read that failed or returned no byte.
+/// - `Memory` if memory for the bytes can't be allocated.
+/// - `Kept` if the bytes can't be read. The error is `Io` if a read fails, or `UnexpectedEof` if the
+///   source ends before the content does. It has the offset of the read that failed or returned no
+///   byte.
 pub fn read_content<S: Source, C: DecodeCounter>(
     source: &mut S,
     decoder: &mut Decoder<C>,
@@ -223,9 +223,10 @@ pub fn read_content<S: Source, C: DecodeCounter>(
 {
     let start = place + u64::from(content.start);
     let size = content.count * content.kind.unit_size();
-    let bytes = decoder
+    let mut bytes = vec![in decoder.alloc; 0u8; size as usize]?;
+    decoder
         .details
-        .keep_error(read_bytes(decoder.alloc, source, start, size as usize))?;
+        .keep_error(read_exact_at(source, start, &mut bytes))?;
     decoder.details.place = place;
     Ok(bytes)
 }

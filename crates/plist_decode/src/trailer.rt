@@ -1,10 +1,10 @@
 //! Reads the magic, and reads and checks the trailer.
 
-ghost use Rattle.std.specs.Prelude.{◌≡◌, ◌+◌, ◌-◌, ◌^◌, ◌<◌, ◌≤◌, length, Ok, Err, IfOk, IfErr, MatchOption, ⊤, Some};
+ghost use Rattle.std.specs.Prelude.{◌≡◌, ◌+◌, ◌-◌, ◌^◌, ◌<◌, ◌≤◌, Ok, Err, IfOk, IfErr, ⊤, Some};
 ghost use Rattle.plist_base.specs.Faults.{MatchFault, kind_of, error_kind_of};
 ghost use Rattle.plist_base.specs.Sources.{CountsIo, FailsReading, IsIoWithin};
-ghost use Rattle.plist_base.specs.Container.{is_width, trailer_in};
-ghost use Rattle.plist_decode.specs.inner.Heads.{trailer_seen, has_magic, IsTrailerAt, end_of_table, IsNumberWidth, HasHead, HasNoHead};
+ghost use Rattle.plist_base.specs.Container.{is_width};
+ghost use Rattle.plist_decode.specs.inner.Heads.{has_magic, IsTrailerAt, end_of_table, IsNumberWidth, HasHead, HasNoHead};
 ghost use Rattle.plist_decode.specs.FaultOffsets.{ErrWithin};
 ghost use Rattle.plist_base.specs.Outcomes.{DecodesBy, IfFault, IfRead, IfRefused};
 
@@ -72,14 +72,6 @@ fn is_width(width: u64) -> bool
     matches!(width, 1 | 2 | 3 | 4 | 8)
 }
 
-// Returns the offset at which the offset table ends, or `None` if it overflows.
-fn table_end(t: &Trailer) -> Option<u64>
-    ensures { MatchOption result (2 ^ 64 ≤ end_of_table t.now) (λ end. end ≡ end_of_table t.now) }
-{
-    let size = t.count.checked_mul(t.offset_width)?;
-    t.table.checked_add(size)
-}
-
 /// Checks that the widths are allowed, and that the offset table ends before the trailer.
 pub fn check_trailer(trailer: u64, t: &Trailer) -> Result<(), Error>
     // Result.
@@ -98,8 +90,8 @@ pub fn check_trailer(trailer: u64, t: &Trailer) -> Result<(), Error>
     if !is_width(t.reference_width) {
         return Err(ErrorKind::InvalidTrailerObjectReferenceSize.with_byte_offset(trailer));
     }
-    match table_end(t) {
-        Some(end) if end <= trailer => Ok(()),
+    match t.count.checked_mul(t.offset_width) {
+        Some(size) if t.table <= trailer && size <= trailer - t.table => Ok(()),
         _ => Err(ErrorKind::ObjectOffsetTooLarge.with_byte_offset(trailer)),
     }
 }

@@ -1,4 +1,4 @@
-use Rattle.std.proofs.Common.{◌≡◌, ◌+◌, ◌≤◌, arith, length, rules}
+use Rattle.std.proofs.Common.{◌≡◌, ◌+◌, arith, length, rules}
 use Rattle.std.proofs.lemmas.Simd.{take_more_put_chunk}
 use Rattle.plist_decode.proofs.Utf16Writing.{room_for_block, room_for_one, writes_block, writes_one, writes_then}
 use Rattle.plist_decode.proofs.utf16.write_next.Goals as goal

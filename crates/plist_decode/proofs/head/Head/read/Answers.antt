@@ -12,47 +12,47 @@ use Rattle.plist_decode.proofs.head.Head.read.Goals.{After-read_before}
 pub returns-then-size-lt-MAGIC_SIZE-clause-refused
     : goal.returns-then-size-lt-MAGIC_SIZE-clause-refused
 returns-then-size-lt-MAGIC_SIZE-clause-refused g c =
-    refused_short _ _ _ c.with_byte_offset.ensures.fault c.in_ok-size.ensures.length
+    refused_short _ _ _ c.with_byte_offset-then-size-lt-MAGIC_SIZE.ensures.fault c.in-Ok.ensures.length
     c.if-size-lt-MAGIC_SIZE.true
 
 pub returns-in_err-has_magic-clause-refused : goal.returns-in_err-has_magic-clause-refused
 returns-in_err-has_magic-clause-refused g c =
-    rw (passed _ c.from_residual-in_err-has_magic.ensures.1) (refused_io _ _ _
-    c.in_ok-size.ensures.unchanged c.in_ok-size.ensures.length c.if-size-lt-MAGIC_SIZE.false _
+    rw (passed _ c.from_residual.ensures.1) (refused_io _ _ _
+    c.in-Ok.ensures.unchanged c.in-Ok.ensures.length c.if-size-lt-MAGIC_SIZE.false _
     c.in_err-has_magic.ensures.refused)
 
 pub returns-in_err-has_magic-clause-fault : goal.returns-in_err-has_magic-clause-fault
 returns-in_err-has_magic-clause-fault g c =
-    rw (passed _ c.from_residual-in_err-has_magic.ensures.1) (from_reading _ 0 8 0 (2 ^ 64)
+    rw (passed _ c.from_residual.ensures.1) (from_reading _ 0 8 0 (2 ^ 64)
     c.in_err-has_magic.ensures.fault (omega arith) (omega arith))
 
 pub returns-then-not-branch-clause-refused : goal.returns-then-not-branch-clause-refused
 returns-then-not-branch-clause-refused g c =
-    refused_magic _ _ _ c.in_ok-size.ensures.unchanged c.in_ok-size.ensures.length
+    refused_magic _ _ _ c.in-Ok.ensures.unchanged c.in-Ok.ensures.length
     c.if-size-lt-MAGIC_SIZE.false _ c.in_ok-has_magic.ensures.value _
     c.with_byte_offset-then-not-branch.ensures.fault c.if-not-branch.true
 
 pub returns-then-size-lt-TRAILER_SIZE-clause-refused
     : goal.returns-then-size-lt-TRAILER_SIZE-clause-refused
 returns-then-size-lt-TRAILER_SIZE-clause-refused g c =
-    refused_cut _ _ _ c.in_ok-size.ensures.unchanged c.in_ok-size.ensures.length
+    refused_cut _ _ _ c.in-Ok.ensures.unchanged c.in-Ok.ensures.length
     c.if-size-lt-MAGIC_SIZE.false _ c.in_ok-has_magic.ensures.value _
     c.with_byte_offset-then-size-lt-TRAILER_SIZE.ensures.fault c.if-not-branch.false
     c.if-size-lt-TRAILER_SIZE.true
 
 -- what is true of the head that the trailer determines is true of the file's head
 said : (g : _) (c : After-read_before g) (P : Result Head Fault → Type 0)
-    → IfSome (g.S.Source.known c.has_magic.new.source) (HeadSaid P (c.in_ok-size.size - 32))
+    → IfSome (g.S.Source.known c.has_magic.new.source) (HeadSaid P (c.in-Ok.size - 32))
     → IfSome (g.S.Source.known c.args.source.now) (λ bytes. P (head_of bytes))
 said g c P =
-    head_whole _ _ _ c.in_ok-size.ensures.unchanged c.in_ok-size.ensures.length
+    head_whole _ _ _ c.in-Ok.ensures.unchanged c.in-Ok.ensures.length
     c.if-size-lt-MAGIC_SIZE.false _ c.in_ok-has_magic.ensures.value P _
-    (c.in_ok-has_magic.ensures.unchanged ∙ c.in_ok-size.ensures.unchanged) c.if-not-branch.false
+    (c.in_ok-has_magic.ensures.unchanged ∙ c.in-Ok.ensures.unchanged) c.if-not-branch.false
     c.if-size-lt-TRAILER_SIZE.false
 
 pub returns-clause-fault : goal.returns-clause-fault
 returns-clause-fault g c =
-    err_within c.read_before.result 0 (c.in_ok-size.size - 32 + 32) 0 (2 ^ 64)
+    err_within c.read_before.result 0 (c.in-Ok.size - 32 + 32) 0 (2 ^ 64)
     c.read_before.ensures.fault (omega arith) (omega arith)
 
 pub returns-clause-value : goal.returns-clause-value
