@@ -1,5 +1,5 @@
 -- What is decoded from the bytes at an object's front, whatever follows them.
-use Rattle.std.specs.Prelude.{◌≡◌, ℕ, ◌+◌, ◌*◌, ◌<◌, ◌≤◌, List, ◌∷◌, ◌++◌, length, take, drop, false, Option, Result, IfSome, MatchResult, ⊤}
+use Rattle.std.specs.Prelude.{◌≡◌, ℕ, ◌+◌, ◌*◌, ◌<◌, ◌≤◌, List, ◌∷◌, ◌++◌, length, take, drop, false, Option, IfSome, ⊤}
 use Rattle.plist_base.specs.declared.error.Error.{Error}
 use Rattle.plist_base.specs.Faults.{kind_of}
 use Rattle.plist_base.specs.Packing.{IsPacked, content_bytes, unpacked}
@@ -68,12 +68,6 @@ small_count other = 0
 abbrev pub CountsSmall : {C : Type 0} → (counts : Type 0) → (count : C → ℕ) → (old new : C)
     → Decoded → Type 0
 CountsSmall counts count old new decoded = counts → count new ≡ count old + small_count decoded
-
--- the counter rises by one if a small scalar was read and decoded
-abbrev pub CountsSmallRead : {C E : Type 0} → (counts : Type 0) → (count : C → ℕ) → (old new : C)
-    → Result Decoded E → Type 0
-CountsSmallRead counts count old new answer = MatchResult answer
-    (CountsSmall counts count old new) (λ _. new ≡ old)
 
 -- ---- at an offset
 

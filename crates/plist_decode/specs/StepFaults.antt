@@ -1,5 +1,5 @@
 -- The errors of steps that failed.
-use Rattle.std.specs.Prelude.{ℕ, Option, None, Some, Result, Ok, Err, ⊤}
+use Rattle.std.specs.Prelude.{ℕ, Option, None, Some, Result, Ok, Err, unwrap_or, ⊤}
 use Rattle.plist_base.specs.declared.error.Error.{Error}
 use Rattle.plist_base.specs.declared.error.ErrorKind.{ErrorKind}
 use Rattle.plist_base.specs.declared.error.ErrorKind.TheVariants as error_kind
@@ -28,15 +28,11 @@ HasPlace step.Memory = ⊥
 HasPlace step.Kept = ⊥
 HasPlace fault = ⊤
 
--- the error that was kept, or `OutOfMemory` if there is none
-abbrev pub kept_error : Option Error → Error
-kept_error None = record { kind = error_kind.OutOfMemory; offset = None }
-kept_error (Some error) = error
-
--- the error of a step that failed
+-- the error of a step that failed; if no error was kept, it is `OutOfMemory`
 abbrev pub error_of : StepFault → FaultDetails → Error
 error_of step.Memory details = record { kind = error_kind.OutOfMemory; offset = None }
-error_of step.Kept details = kept_error details.kept
+error_of step.Kept details =
+    unwrap_or details.kept (record { kind = error_kind.OutOfMemory; offset = None })
 error_of fault details = record { kind = fault_kind fault details.marker; offset = Some details.place }
 
 -- the result of a step, with the error that `error_of` returns

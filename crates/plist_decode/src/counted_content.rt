@@ -11,7 +11,6 @@ ghost use Rattle.plist_decode.specs.Decoded.{DecodesAfter, DecodesScalar, MeansD
 ghost use Rattle.plist_decode.specs.Decoding.{is_small_object};
 ghost use Rattle.plist_decode.specs.Reading.{counted_kind, object_counted};
 ghost use Rattle.plist_decode.specs.declared.decoded.ContentKind.TheVariants.{Data as KindData, Text as KindText, WideText as KindWideText};
-ghost use Rattle.plist_decode.specs.declared.decoded.Decoded.TheVariants.{Long as LongContent};
 
 use crate::decoded::{AfterMarker, CollectionKind, ContentKind, Decoded};
 use crate::numbers::number_from;
@@ -48,7 +47,6 @@ fn split_length(low: LowHalf, rest: &[u8]) -> Option<(u64, &[u8])>
 #[inline(always)]
 fn split_count<'a>(low: LowHalf, rest: AfterMarker<'a>, size: u64) -> Option<(u64, &'a [u8])>
     ensures count { IfSome result (IsCount low size rest.entry.to_trailer rest.entry.bytes.now) }
-    ensures small { IfSome result (λ found. found.0 * size ≤ rest.entry.to_trailer) }
     ensures within { IfSome result (EndsBefore size rest.entry.to_trailer rest.entry.bytes.now) }
     ensures short { IfSome result (λ found. length found.1.now ≤ length rest.entry.bytes.now) }
     ensures near { IfSome result (λ found. length rest.entry.bytes.now ≤ length found.1.now + 9) }
@@ -64,17 +62,6 @@ fn split_count<'a>(low: LowHalf, rest: AfterMarker<'a>, size: u64) -> Option<(u6
     }
 }
 
-// Describes the content of a string or data by its kind, its start and its length, without reading
-// it.
-#[inline(always)]
-fn long_content(kind: ContentKind, rest: &[u8], following: &[u8], count: u64) -> Decoded
-    requires within { length following.now ≤ length rest.now }
-    requires near { length rest.now ≤ length following.now + 9 }
-    ensures { result ≡ LongContent kind (1 + (length rest.now - length following.now)) count }
-{
-    Decoded::Long(kind, 1 + (rest.len() - following.len()) as u8, count)
-}
-
 /// Decodes data.
 #[inline(always)]
 pub fn decode_data(low: LowHalf, rest: AfterMarker<'_>) -> Decoded
@@ -84,7 +71,8 @@ pub fn decode_data(low: LowHalf, rest: AfterMarker<'_>) -> Decoded
         return Decoded::faulty(StepFault::Overrun);
     };
     if count > 8 {
-        return long_content(ContentKind::Data, rest.bytes, following, count);
+        let start = 1 + (rest.bytes.len() - following.len()) as u8;
+        return Decoded::Long(ContentKind::Data, start, count);
     }
     Decoded::small(PackedScalar::of_data(&following[..count as usize]).unwrap())
 }
@@ -141,7 +129,8 @@ pub fn decode_text(low: LowHalf, rest: AfterMarker<'_>) -> Decoded
         return Decoded::faulty(StepFault::Overrun);
     };
     if count > 8 {
-        return long_content(ContentKind::Text, rest.bytes, following, count);
+        let start = 1 + (rest.bytes.len() - following.len()) as u8;
+        return Decoded::Long(ContentKind::Text, start, count);
     }
     short_text(following, count as usize)
 }
@@ -173,7 +162,8 @@ pub fn decode_wide_text(low: LowHalf, rest: AfterMarker<'_>) -> Decoded
     let Some((count, following)) = split_count(low, rest, 2) else {
         return Decoded::faulty(StepFault::Overrun);
     };
-    let long = long_content(ContentKind::WideText, rest.bytes, following, count);
+    let start = 1 + (rest.bytes.len() - following.len()) as u8;
+    let long = Decoded::Long(ContentKind::WideText, start, count);
     if count > 8 {
         return long;
     }

@@ -51,11 +51,12 @@ impl Bounds {
 }
 
 impl Head {
-    ghost use Rattle.std.specs.Prelude.{◌≡◌, ◌+◌, ◌^◌, ◌<◌, IfOk, Some};
+    ghost use Rattle.std.specs.Prelude.{◌≡◌, ◌+◌, ◌^◌, ◌<◌, ◌≤◌, length, IfOk, Ok, Some};
+    ghost use Rattle.plist_base.specs.Container.{head_of};
     ghost use Rattle.plist_base.specs.Sources.{CountsIo};
     ghost use Rattle.plist_base.specs.Outcomes.{IfRead, IfRefused};
     ghost use Rattle.plist_decode.specs.FaultOffsets.{ErrWithin};
-    ghost use Rattle.plist_decode.specs.inner.Heads.{IsHeadOf, LiesWithin, IsFaultOfHead, IsHeadBefore, IsFaultBefore};
+    ghost use Rattle.plist_decode.specs.inner.Heads.{head_seen, IsFaultOfHead, IsHeadBefore, IsFaultBefore};
 
     /// Reads the head of a file.
     ///
@@ -68,8 +69,10 @@ impl Head {
     /// - `OutOfMemory`, without an offset, if the offsets of the objects can't be allocated.
     pub fn read<S: Source>(alloc: Global, source: &mut S) -> Result<Self, Error>
         // Result.
-        ensures value { IfRead result (S.known source.old) IsHeadOf }
-        ensures within { IfRead result (S.known source.old) LiesWithin }
+        ensures value { IfRead result (S.known source.old)
+            (λ bytes head. head_of bytes ≡ Ok (head_seen head)) }
+        ensures within { IfRead result (S.known source.old)
+            (λ bytes head. head.trailer ≤ length bytes) }
         // Errors.
         ensures refused { IfRefused result (S.known source.old) IsFaultOfHead }
         ensures fault { ErrWithin 0 (2 ^ 64) result }

@@ -7,8 +7,8 @@
 //! If an object has several faults, the first of the following is reported: the marker is invalid,
 //! the object doesn't end before the trailer, or the content is invalid.
 
-ghost use Rattle.std.specs.Prelude.{◌≡◌, ◌+◌, ◌-◌, ◌^◌, ◌<◌, ◌≤◌, IfErr, IfOk, IfSome, OnOk, Some};
-ghost use Rattle.plist_decode.specs.Decoded.{CountsSmall, DecodesAfter, DecodesSeen, content_size, CountsSmallRead, DecodesAt, FitsBefore, RefusesObjectAt};
+ghost use Rattle.std.specs.Prelude.{◌≡◌, ◌+◌, ◌-◌, ◌^◌, ◌<◌, ◌≤◌, IfErr, IfOk, IfSome, MatchResult, OnOk, Some};
+ghost use Rattle.plist_decode.specs.Decoded.{CountsSmall, DecodesAfter, DecodesSeen, content_size, DecodesAt, FitsBefore, RefusesObjectAt};
 ghost use Rattle.plist_decode.specs.Reading.{AreBytesAt, IsFront, IsFrontAt, IsIoOrMemoryAt, object_with};
 ghost use Rattle.plist_decode.specs.CountedContent.{AreUnits, unit_size};
 ghost use Rattle.plist_base.specs.Outcomes.{IfRead, IfRefused};
@@ -168,8 +168,9 @@ pub fn read_object<S: Source, C: DecodeCounter>(
     ensures fault { ErrWithin place decoder.old.bounds.trailer
         (result_with result decoder.new.details) }
     // State afterwards.
-    ensures counted { CountsSmallRead C.counts C.count decoder.old.counter decoder.new.counter
-        result }
+    ensures counted { MatchResult result
+        (CountsSmall C.counts C.count decoder.old.counter decoder.new.counter)
+        (λ _. decoder.new.counter ≡ decoder.old.counter) }
     ensures bounds { decoder.new.bounds ≡ decoder.old.bounds }
     ensures unchanged { S.known source.new ≡ S.known source.old }
     ensures failures { CountsIo (Some (result_with result decoder.new.details))
@@ -194,9 +195,9 @@ pub fn read_object<S: Source, C: DecodeCounter>(
 /// # Errors
 ///
 /// - `Memory` if memory for the bytes can't be allocated.
-/// - `Kept` if the bytes can't be read. The error is `Io` if a read fails, or `UnexpectedEof` if the
-///   source ends before the content does. It has the offset of the read that failed or returned no
-///   byte.
+/// - `Kept` if the bytes can't be read. The error is `Io` if a read fails, or `UnexpectedEof` if
+///   the source ends before the content does. It has the offset of the read that failed or returned
+///   no byte.
 pub fn read_content<S: Source, C: DecodeCounter>(
     source: &mut S,
     decoder: &mut Decoder<C>,

@@ -57,17 +57,9 @@ HasNoHead trailer t error = (bytes : List ℕ)
 
 -- ---- what is read from a head
 
--- this is the head of these bytes
-abbrev pub IsHeadOf : List ℕ → held.Head → Type 0
-IsHeadOf bytes head = head_of bytes ≡ Ok (head_seen head)
-
 -- the error is that of the bytes' head, unless a read or an allocation failed
 abbrev pub IsFaultOfHead : List ℕ → Fault → Type 0
 IsFaultOfHead bytes fault = MatchFault fault.kind ⊤ ⊤ (head_of bytes ≡ Err fault)
-
--- the offset of the trailer lies within the bytes
-abbrev pub LiesWithin : List ℕ → held.Head → Type 0
-LiesWithin bytes head = head.trailer ≤ length bytes
 
 -- if the bytes end with a trailer at this offset, this is their head
 abbrev pub IsHeadBefore : (trailer : ℕ) → List ℕ → held.Head → Type 0

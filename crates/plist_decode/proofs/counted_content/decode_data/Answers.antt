@@ -7,9 +7,9 @@ use Rattle.plist_decode.proofs.counted_content.decode_data.Goals as goal
 pub returns-then-count-gt8 : goal.returns-then-count-gt8
 returns-then-count-gt8 c = λ width first more whole.
     let found = c.in-Some.ensures.count more whole in
-    rw c.long_content.ensures (long_decoded KindData c.args.low c.in-Some.count first
+    long_decoded KindData c.args.low c.in-Some.count first
     c.args.rest.bytes.now c.in-Some.following.now more found.0 found.1 c.in-Some.ensures.short
-    c.in-Some.ensures.after (large_content KindData c.in-Some.count _ (omega arith) found.1) width)
+    c.in-Some.ensures.after (large_content KindData c.in-Some.count _ (omega arith) found.1) width
 
 pub returns : goal.returns
 returns c = λ width first more whole.

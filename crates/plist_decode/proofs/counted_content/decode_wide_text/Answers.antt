@@ -11,9 +11,9 @@ use Rattle.plist_decode.proofs.counted_content.decode_wide_text.Goals.{In-Some}
 pub returns-then-count-gt8 : goal.returns-then-count-gt8
 returns-then-count-gt8 c = λ width first more whole.
     let found = c.in-Some.ensures.count more whole in
-    rw c.long_content-long.ensures (long_decoded KindWideText c.args.low c.in-Some.count first
+    long_decoded KindWideText c.args.low c.in-Some.count first
     c.args.rest.bytes.now c.in-Some.following.now more found.0 found.1 c.in-Some.ensures.short
-    c.in-Some.ensures.after (large_content KindWideText c.in-Some.count _ (omega arith) found.1) width)
+    c.in-Some.ensures.after (large_content KindWideText c.in-Some.count _ (omega arith) found.1) width
 
 -- all units are among the bytes that were read
 units_seen : (c : In-Some) → c.in-Some.count ≤ 8
@@ -31,10 +31,10 @@ returns-in-None c = λ width first more whole.
     let two : count * 2 ≡ 2 * count = omega arith in
     let same : take (count * 2) (following ++ more) ≡ take (2 * count) following =
     ap (λ k. take k (following ++ more)) two ∙ take-append-le (2 * count) following more seen in
-    rw c.long_content-long.ensures (long_decoded KindWideText c.args.low count first
+    long_decoded KindWideText c.args.low count first
     c.args.rest.bytes.now following more found.0 found.1 c.in-Some.ensures.short
     c.in-Some.ensures.after (ap (λ content. is_small_object (wide_text content)) same ∙ c.in-None.ensures)
-    width)
+    width
 
 pub returns-in-Some-short_wide_text : goal.returns-in-Some-short_wide_text
 returns-in-Some-short_wide_text c = λ width first more whole.
