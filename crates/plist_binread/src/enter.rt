@@ -20,7 +20,7 @@ use plist_base::{EventVisitor, PackedScalar, Source};
 use plist_decode::counter::DecodeCounter;
 use plist_decode::decoded::{Content, Decoded};
 use plist_decode::object::{Decoder, buffered_front, decode_front, read_object};
-use plist_decode::packed::{cache, is_open, mark_open};
+use plist_decode::packed::{is_open, open_tag, set_tag};
 use plist_decode::step_fault::{FaultDetails, StepFault};
 use std::ops::ControlFlow;
 
@@ -94,13 +94,14 @@ fn cache_or_open(walk: &mut Walk, number: u64, decoded: Decoded) -> bool
     match decoded {
         Decoded::Small(tag, content) => {
             let number = number as usize;
-            cache(&mut walk.tags, &mut walk.contents, number, tag, content);
+            set_tag(&mut walk.tags, number, tag);
+            walk.contents[number] = content;
             true
         }
         Decoded::Collection(kind, start, count) => {
             match walk.frames.push(number, kind.children(count)) {
                 Ok(()) => {
-                    mark_open(&mut walk.tags, number as usize, kind, start);
+                    set_tag(&mut walk.tags, number as usize, open_tag(kind, start));
                     true
                 }
                 Err(_) => false,

@@ -1,14 +1,12 @@
 //! Hands decoded objects to a visitor.
 
-ghost use Rattle.std.specs.Prelude.{◌≡◌, ◌+◌, ◌<◌, ◌^◌, ℕ, List, Some, false, OnOk};
-ghost use Rattle.plist_base.specs.Object.{Scalar, date, text, wide_text};
+ghost use Rattle.std.specs.Prelude.{◌≡◌, ◌+◌, ◌<◌, ◌^◌, Some, false, OnOk};
+ghost use Rattle.plist_base.specs.Object.{date, text, wide_text};
 ghost use Rattle.plist_base.specs.Packing.{content_bytes};
 ghost use Rattle.plist_decode.specs.CountedContent.{AreUnits, content_means, unit_size};
 ghost use Rattle.plist_decode.specs.Decoded.{FitsBefore, content_size};
 ghost use Rattle.plist_binread.specs.ObjectEvents.{SetsContentAt, SetsDecoded, is_refused};
 ghost use Rattle.plist_decode.specs.FaultOffsets.{ErrWithin};
-ghost use Rattle.plist_base.specs.Trees.{String};
-ghost use Rattle.plist_base.specs.Utf16Strings.{string_of_utf16};
 ghost use Rattle.plist_binread.specs.Handovers.{HandsItem, HandsUnread};
 ghost use Rattle.plist_base.specs.Sources.{CountsIo};
 ghost use Rattle.plist_decode.specs.StepFaults.{result_with};
@@ -66,21 +64,8 @@ fn hand_text<V: EventVisitor>(bytes: &[u8], visitor: &mut V) -> Result<ControlFl
     hand_utf8(bytes, visitor)
 }
 
-// Hands over a string in UTF-16 as a string in UTF-8, in memory of its own.
-#[inline(never)]
-fn hand_in_utf8<V: EventVisitor>(
-    alloc: Global,
-    text: Utf16Str<'_>,
-    visitor: &mut V,
-) -> Result<ControlFlow<()>, StepFault>
-    ensures { (bytes : List ℕ) → wide_text bytes ≡ Scalar (String (string_of_utf16 text.entry))
-        → HandsUnread V.step visitor.old (wide_text bytes) result visitor.new }
-{
-    let decoded = to_utf8(alloc, text)?;
-    Ok(visitor.string(CowStr::Owned(decoded)))
-}
-
-// Hands over a string in UTF-16, in this form or in UTF-8, or returns a fault if it is invalid.
+// Hands over a string in UTF-16, in this form or as a string in UTF-8 in memory of its own, or
+// returns a fault if it is invalid.
 #[inline(never)]
 fn hand_wide_text<V: EventVisitor>(
     alloc: Global,
@@ -95,7 +80,7 @@ fn hand_wide_text<V: EventVisitor>(
     };
     match visitor.utf16_string(text) {
         Some(answer) => Ok(answer),
-        None => hand_in_utf8(alloc, text, visitor),
+        None => Ok(visitor.string(CowStr::Owned(to_utf8(alloc, text)?))),
     }
 }
 

@@ -130,15 +130,6 @@ impl References {
     ghost use Rattle.plist_decode.specs.Decoding.{reference_index};
     ghost use Rattle.plist_binread.specs.References.{reference_place};
 
-    // Returns whether the child with this index is a value of a dictionary.
-    #[inline(always)]
-    fn is_value(&self, index: u64) -> bool {
-        match self.kind {
-            CollectionKind::Array => false,
-            CollectionKind::Dictionary => index % 2 == 1,
-        }
-    }
-
     // Returns the index of a child's reference among those of its collection.
     //
     // The children of a dictionary alternate between keys and values, but the references to all
@@ -232,30 +223,6 @@ impl ReferenceReader {
         }
     }
 
-    // Fills a run from offset `at` on, and returns the reference there, or `None` if it isn't
-    // buffered.
-    #[inline(always)]
-    fn refill<S: Source>(
-        &mut self,
-        source: &S,
-        is_value: bool,
-        at: u64,
-        width: usize,
-    ) -> Option<u64>
-        requires width { width ≤ 8 }
-        requires runs { AreRunsOf (S.known source.now) self.old }
-        ensures value { IsNumberAt result (S.known source.now) at width }
-        ensures runs { AreRunsOf (S.known source.now) self.new }
-    {
-        if is_value {
-            self.values.fill(source, at);
-            self.values.number_at(at, width)
-        } else {
-            self.near.fill(source, at);
-            self.near.number_at(at, width)
-        }
-    }
-
     /// Reads the reference to the next child of an open collection, and returns the child's number.
     #[inline(always)]
     pub fn read_child<S: Source, C: DecodeCounter>(
@@ -298,7 +265,17 @@ impl ReferenceReader {
             return Err(StepFault::Overrun);
         }
         self.prefetcher.prefetch(source, walk, frame, width);
-        match self.refill(source, references.is_value(frame.next), at, width) {
+        let found = match references.kind {
+            CollectionKind::Dictionary if frame.next % 2 == 1 => {
+                self.values.fill(source, at);
+                self.values.number_at(at, width)
+            }
+            _ => {
+                self.near.fill(source, at);
+                self.near.number_at(at, width)
+            }
+        };
+        match found {
             Some(number) => Ok(number),
             None => read_reference(source, &mut decoder.details, at, width),
         }

@@ -7,7 +7,7 @@ ghost use Rattle.plist_binread.specs.Remaining.{ArePacked, MarksOpenPath};
 
 use crate::frames::{Frame, Frames, NextChild};
 use crate::references::References;
-use plist_decode::packed::{open_kind, open_start, unmark_open};
+use plist_decode::packed::{open_kind, open_start, set_tag};
 use std::alloc::Global;
 
 /// The state of a walk over the objects of a file.
@@ -59,7 +59,7 @@ impl Walk {
         match self.frames.next_child() {
             NextChild::Nothing => NextChild::Nothing,
             NextChild::End(object) => {
-                unmark_open(&mut self.tags, object as usize);
+                set_tag(&mut self.tags, object as usize, 0);
                 NextChild::End(object)
             }
             NextChild::Child(frame) => NextChild::Child(frame),

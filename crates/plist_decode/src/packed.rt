@@ -1,7 +1,7 @@
 //! Stores a small scalar in the tag byte and the content of its object, which is a `u64`, and the
 //! layout of an open collection in the tag byte.
 
-ghost use Rattle.std.specs.Prelude.{◌≡◌, ◌<◌, length, slice_index, slice_set};
+ghost use Rattle.std.specs.Prelude.{◌≡◌, ◌<◌, length, slice_index};
 ghost use Rattle.plist_decode.specs.Packed.{KeepsOtherTags, is_marked, open_kind, open_start, open_tag};
 
 use crate::decoded::CollectionKind;
@@ -14,10 +14,10 @@ pub fn is_open(tag: u8) -> bool
     tag >= 128
 }
 
-// Returns the tag of an open collection of this kind, whose references begin `start` bytes after
-// its offset.
+/// Returns the tag of an open collection of the given kind. Its references begin `start` bytes
+/// after its offset.
 #[inline(always)]
-fn open_tag(kind: CollectionKind, start: u8) -> u8
+pub fn open_tag(kind: CollectionKind, start: u8) -> u8
     requires { start < 16 }
     ensures { result ≡ open_tag kind start }
 {
@@ -48,36 +48,12 @@ pub fn open_start(tag: u8) -> u8
     tag % 16
 }
 
-/// Stores the tag and the content of a small scalar. Its object must not be open.
+/// Stores the tag of an object.
 #[inline(always)]
-pub fn cache(tags: &mut Vec<u8>, contents: &mut Vec<u64>, number: usize, tag: u8, content: u64)
-    requires number { number < length tags.old.items }
-    requires same { length tags.old.items ≡ length contents.old.items }
+pub fn set_tag(tags: &mut Vec<u8>, number: usize, tag: u8)
+    requires { number < length tags.old.items }
     ensures tag { slice_index tags.new.items number ≡ tag }
     ensures tags { KeepsOtherTags number tags.old.items tags.new.items }
-    ensures contents { contents.new.items ≡ slice_set contents.old.items number content }
 {
     tags[number] = tag;
-    contents[number] = content;
-}
-
-/// Marks an object as an open collection of the given kind. Its references begin `start` bytes
-/// after its offset.
-#[inline(always)]
-pub fn mark_open(tags: &mut Vec<u8>, number: usize, kind: CollectionKind, start: u8)
-    requires number { number < length tags.old.items }
-    requires start { start < 16 }
-    ensures tag { slice_index tags.new.items number ≡ open_tag kind start }
-    ensures tags { KeepsOtherTags number tags.old.items tags.new.items }
-{
-    tags[number] = open_tag(kind, start);
-}
-
-/// Removes the mark of an open object.
-pub fn unmark_open(tags: &mut Vec<u8>, number: usize)
-    requires { number < length tags.old.items }
-    ensures tag { slice_index tags.new.items number ≡ 0 }
-    ensures tags { KeepsOtherTags number tags.old.items tags.new.items }
-{
-    tags[number] = 0;
 }

@@ -11,11 +11,11 @@ use Rattle.plist_decode.specs.Packed.{is_marked, unmarked}
 use Rattle.plist_binread.specs.Remaining.{scalar_at}
 use Rattle.plist_binread.proofs.ObjectEntry.{long_opens}
 use Rattle.plist_binread.proofs.enter.cache_or_open.Goals as goal
-use Rattle.plist_binread.proofs.enter.cache_or_open.Goals.{After-cache}
+use Rattle.plist_binread.proofs.enter.cache_or_open.Goals.{After-set_tag}
 
 -- the object is cached
-here : (c : After-cache) → 0 < unmarked (get_or c.cache.new.tags.items c.args.number 0)
-here c = rw c.cache.ensures.tag (packed_cached _ _ (rw c.in-Small.is at c.requires.fits))
+here : (c : After-set_tag) → 0 < unmarked (get_or c.set_tag.new.tags.items c.args.number 0)
+here c = rw c.set_tag.ensures.tag (packed_cached _ _ (rw c.in-Small.is at c.requires.fits))
 
 pub invariant_of-walk : goal.invariant_of-walk
 invariant_of-walk c =
@@ -23,25 +23,25 @@ invariant_of-walk c =
     let fits : IsPacked c.in-Small.tag c.in-Small.content = rw c.in-Small.is at c.requires.fits in
     record {
       same = search rules;
-      path = IsOpen-kept c.args.number walk.tags.items _ _ walk.path c.cache.ensures.tags
-          (ap is_marked c.cache.ensures.tag
+      path = IsOpen-kept c.args.number walk.tags.items _ _ walk.path c.set_tag.ensures.tags
+          (ap is_marked c.set_tag.ensures.tag
           ∙ cached_closed c.in-Small.tag (packed_cached c.in-Small.tag _ fits)
           ∙ sym (ap is_marked c.requires.new));
-      packed = rw c.cache.ensures.contents (cached_packed c.args.number walk.tags.items _
+      packed = (cached_packed c.args.number walk.tags.items _
           walk.contents.items c.in-Small.tag c.in-Small.content (rw walk.same c.requires.below)
-          walk.packed c.cache.ensures.tags c.cache.ensures.tag fits);
+          walk.packed c.set_tag.ensures.tags c.set_tag.ensures.tag fits);
     }
 
 pub returns-in-Small-clause-counted : goal.returns-in-Small-clause-counted
 returns-in-Small-clause-counted c =
     rw c.in-Small.is (cached_count-more _ _ _ c.requires.below (ap unmarked c.requires.new)
-    c.cache.ensures.tags (here (goal.at.returns-in-Small-clause-counted c).After-cache))
+    c.set_tag.ensures.tags (here (goal.at.returns-in-Small-clause-counted c).After-set_tag))
 
 pub returns-in-Small-clause-cached : goal.returns-in-Small-clause-cached
-returns-in-Small-clause-cached c = λ _. here (goal.at.returns-in-Small-clause-cached c).After-cache
+returns-in-Small-clause-cached c = λ _. here (goal.at.returns-in-Small-clause-cached c).After-set_tag
 
 pub returns-in-Small-clause-falls : goal.returns-in-Small-clause-falls
-returns-in-Small-clause-falls c = λ _. omega (arith, steps_positive, c.cache.ensures.tags.size)
+returns-in-Small-clause-falls c = λ _. omega (arith, steps_positive, c.set_tag.ensures.tags.size)
 
 pub returns-in-Small-clause-yields : goal.returns-in-Small-clause-yields
 returns-in-Small-clause-yields c = λ _ bytes bounds entry k is found.
@@ -50,9 +50,9 @@ returns-in-Small-clause-yields c = λ _ bytes bounds entry k is found.
           c.args.walk.now.path c.requires.below is
           (not_open c.args.walk.now.path c.requires.below c.requires.new) event
           (named-scalar entry.object (unpacked c.in-Small.tag c.in-Small.content) event d.0 named)),
-      rw c.cache.ensures.contents (known_cached k _ c.in-Small.tag
-          c.in-Small.content _ c.requires.below c.args.walk.now.same c.cache.ensures.tags
-          c.cache.ensures.tag (packed_cached _ _ d.1) (ap scalar_at is ∙ ap scalar_in d.0)),
+      (known_cached k _ c.in-Small.tag
+          c.in-Small.content _ c.requires.below c.args.walk.now.same c.set_tag.ensures.tags
+          c.set_tag.ensures.tag (packed_cached _ _ d.1) (ap scalar_at is ∙ ap scalar_in d.0)),
     )
 
 pub returns-in-Date-clause-falls : goal.returns-in-Date-clause-falls
@@ -89,19 +89,19 @@ returns-in-Faulty-clause-yields c = λ _ bytes bounds entry k is found. (
 
 pub invariant_of-walk-in-Ok : goal.invariant_of-walk-in-Ok
 invariant_of-walk-in-Ok c = record {
-  same = c.args.walk.now.same ∙ sym c.mark_open.ensures.tags.size;
+  same = c.args.walk.now.same ∙ sym c.set_tag-in-Ok.ensures.tags.size;
   path = rw (reverse-push _ _ _ c.in-Ok.ensures.value)
       (IsOpen-push _ _ _ _ c.args.walk.now.path c.requires.below
-      (not_open c.args.walk.now.path c.requires.below c.requires.new) c.mark_open.ensures.tags
-      (ap is_marked c.mark_open.ensures.tag ∙ open_tag-marked c.in-Collection.kind c.in-Collection.start));
-  packed = uncached_packed _ _ _ _ c.args.walk.now.packed c.mark_open.ensures.tags
-      (open_uncached _ (ap is_marked c.mark_open.ensures.tag ∙ open_tag-marked c.in-Collection.kind c.in-Collection.start));
+      (not_open c.args.walk.now.path c.requires.below c.requires.new) c.set_tag-in-Ok.ensures.tags
+      (ap is_marked (c.set_tag-in-Ok.ensures.tag ∙ c.open_tag.ensures) ∙ open_tag-marked c.in-Collection.kind c.in-Collection.start));
+  packed = uncached_packed _ _ _ _ c.args.walk.now.packed c.set_tag-in-Ok.ensures.tags
+      (open_uncached _ (ap is_marked (c.set_tag-in-Ok.ensures.tag ∙ c.open_tag.ensures) ∙ open_tag-marked c.in-Collection.kind c.in-Collection.start));
 }
 
 pub returns-in-Ok-clause-counted : goal.returns-in-Ok-clause-counted
 returns-in-Ok-clause-counted c =
-    let same = cached_count-kept _ _ _ c.mark_open.ensures.tags
-    (open_uncached _ (ap is_marked c.mark_open.ensures.tag ∙ open_tag-marked c.in-Collection.kind c.in-Collection.start)
+    let same = cached_count-kept _ _ _ c.set_tag-in-Ok.ensures.tags
+    (open_uncached _ (ap is_marked (c.set_tag-in-Ok.ensures.tag ∙ c.open_tag.ensures) ∙ open_tag-marked c.in-Collection.kind c.in-Collection.start)
     ∙ sym (ap unmarked c.requires.new)) in rw c.in-Collection.is (omega (arith, same))
 
 pub returns-in-Ok-clause-falls : goal.returns-in-Ok-clause-falls
@@ -124,6 +124,6 @@ returns-in-Ok-clause-yields c = λ _ bytes bounds entry k is found.
           _ _ (reverse-push _ _ _ c.in-Ok.ensures.value) refl refl collection)),
       rw (reverse-push _ _ _ c.in-Ok.ensures.value)
           (known_opened k _ _ c.in-Collection.kind c.in-Collection.start start entry
-          c.requires.below (ap unmarked c.requires.new) c.mark_open.ensures.tags
-          c.mark_open.ensures.tag decoded.2 is collection decoded.3),
+          c.requires.below (ap unmarked c.requires.new) c.set_tag-in-Ok.ensures.tags
+          (c.set_tag-in-Ok.ensures.tag ∙ c.open_tag.ensures) decoded.2 is collection decoded.3),
     )

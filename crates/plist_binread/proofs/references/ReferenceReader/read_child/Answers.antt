@@ -1,7 +1,8 @@
-use Rattle.std.proofs.Common.{Ok}
+use Rattle.std.proofs.Common.{Ok, sym, ◌∙◌}
 use Rattle.plist_decode.specs.StepFaults.{result_with}
 use Rattle.plist_binread.proofs.ChildReferences.{known_slot}
 use Rattle.plist_binread.proofs.references.ReferenceReader.read_child.Goals as goal
+use Rattle.plist_binread.proofs.references.ReferenceReader.read_child.Goals.{in-Dictionary, in_default-kind}
 
 pub returns-in-Some-clause-child : goal.returns-in-Some-clause-child
 returns-in-Some-clause-child g c =
@@ -15,11 +16,16 @@ returns-in-Some-number_at-clause-child g c =
     (rw c.references-references.ensures at c.reference_place-at.ensures)
     (c.in-Some-number_at.ensures _ c.requires.runs.1) tt
 
-pub returns-in-Some-refill-clause-child : goal.returns-in-Some-refill-clause-child
-returns-in-Some-refill-clause-child g c =
+pub returns-in-Some-found-clause-child : goal.returns-in-Some-found-clause-child
+returns-in-Some-found-clause-child g c =
     known_slot _ c.args.decoder.now.bounds _ c.args.frame.next _ (Ok _) c.requires.references
     (rw c.references-references.ensures at c.reference_place-at.ensures)
-    c.in-Some-refill.ensures.value tt
+    (elim c.match-references.branch [
+      | in-Dictionary w ↦ rw (sym w.found-is ∙ c.in-Some-found.is) at
+          (w.number_at-found.ensures _ w.fill.ensures)
+      | in_default-kind w ↦ rw (sym w.found-is ∙ c.in-Some-found.is) at
+          (w.number_at-found-in_default-kind.ensures _ w.fill-in_default-kind.ensures)
+    ]) tt
 
 pub returns-in-None-clause-child : goal.returns-in-None-clause-child
 returns-in-None-clause-child g c =

@@ -17,8 +17,8 @@ returns-in-Nothing-clause-remaining c =
     let is = c.in-Nothing.ensures in
     λ bytes bounds k. ((is.0, is.1), rw is.1 (rw is.0 at k))
 
-pub unmark_open-requires : goal.unmark_open-requires
-unmark_open-requires c =
+pub set_tag-requires : goal.set_tag-requires
+set_tag-requires c =
     let is = c.in-End.ensures in
     first_below _ _ _ (rw is.2 at c.args.self.now.path)
 
@@ -26,24 +26,24 @@ pub invariant_of-self-in-End : goal.invariant_of-self-in-End
 invariant_of-self-in-End c =
     let is = c.in-End.ensures in
     record {
-      same = c.args.self.now.same ∙ sym c.unmark_open.ensures.tags.size;
+      same = c.args.self.now.same ∙ sym c.set_tag.ensures.tags.size;
       path = IsOpen-pop c.args.self.now.tags.items _ _ _ (rw is.2 at c.args.self.now.path)
-          c.unmark_open.ensures.tags c.unmark_open.ensures.tag;
-      packed = uncached_packed _ _ _ _ c.args.self.now.packed c.unmark_open.ensures.tags
-          (ap unmarked c.unmark_open.ensures.tag);
+          c.set_tag.ensures.tags c.set_tag.ensures.tag;
+      packed = uncached_packed _ _ _ _ c.args.self.now.packed c.set_tag.ensures.tags
+          (ap unmarked c.set_tag.ensures.tag);
     }
 
 pub returns-in-End-clause-counted : goal.returns-in-End-clause-counted
 returns-in-End-clause-counted c =
     let is = c.in-End.ensures in
-    cached_count-kept _ _ _ c.unmark_open.ensures.tags (ap unmarked c.unmark_open.ensures.tag
+    cached_count-kept _ _ _ c.set_tag.ensures.tags (ap unmarked c.set_tag.ensures.tag
     ∙ sym (open_uncached _ (first_open _ _ _ (rw is.2 at c.args.self.now.path))))
 
 pub returns-in-End-clause-remaining : goal.returns-in-End-clause-remaining
 returns-in-End-clause-remaining c =
     let is = c.in-End.ensures in
     λ bytes bounds k. rw is.2 (closed_remaining _ _ _ _ _ _ (rw is.2 at k) _
-    (rw is.2 at c.args.self.now.path) is.3 c.unmark_open.ensures.tags c.unmark_open.ensures.tag)
+    (rw is.2 at c.args.self.now.path) is.3 c.set_tag.ensures.tags c.set_tag.ensures.tag)
 
 pub returns-in-End-clause-weight : goal.returns-in-End-clause-weight
 returns-in-End-clause-weight c =
