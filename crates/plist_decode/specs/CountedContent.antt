@@ -1,5 +1,5 @@
 -- Objects that have a length, described by the marker's low half and the bytes after the marker.
-use Rattle.std.specs.Prelude.{◌≡◌, ℕ, ◌+◌, ◌-◌, ◌*◌, ◌<◌, ◌≤◌, List, ◌++◌, length, drop, None, Some}
+use Rattle.std.specs.Prelude.{◌≡◌, ℕ, ◌-◌, ◌*◌, ◌≤◌, List, ◌++◌, length, drop, Some}
 use Rattle.std.specs.Borrow.{Bor}
 use Rattle.plist_base.specs.Faults.{ObjectOffsetTooLarge}
 use Rattle.plist_base.specs.Object.{Object, Scalar, Faulty, length_in, meaning_counted, text, wide_text}
@@ -23,15 +23,6 @@ content_means kind.WideText = wide_text
 
 -- ---- what lies at the front of bytes
 
--- the length and the bytes after it are these, whatever follows `rest`
-abbrev pub IsLength : (low : ℕ) (rest : List ℕ) → ℕ × Bor (List ℕ) → Type 0
-IsLength low rest found =
-    (more : List ℕ) → length_in low (rest ++ more) ≡ Some (found.0, found.1.now ++ more)
-
--- the bytes end before the end of the length
-abbrev pub IsLengthCut : (low : ℕ) (rest : List ℕ) → Type 0
-IsLengthCut low rest = (length rest < 9) × (length_in low rest ≡ None)
-
 -- the bytes after the length are the last ones of `rest`
 abbrev pub LiesAfter : (rest : List ℕ) → ℕ × Bor (List ℕ) → Type 0
 LiesAfter rest found = drop (length rest - length found.1.now) rest ≡ found.1.now
@@ -45,10 +36,6 @@ abbrev pub IsCount : (low size to_trailer : ℕ) (rest : List ℕ) → ℕ × Bo
 IsCount low size to_trailer rest found = (more : List ℕ) → length (rest ++ more) ≡ to_trailer →
     (length_in low (rest ++ more) ≡ Some (found.0, found.1.now ++ more))
     × (found.0 * size ≤ length (found.1.now ++ more))
-
--- the elements end before the trailer
-abbrev pub EndsBefore : (size to_trailer : ℕ) (rest : List ℕ) → ℕ × Bor (List ℕ) → Type 0
-EndsBefore size to_trailer rest found = length rest - length found.1.now + found.0 * size ≤ to_trailer
 
 -- ---- what is decoded
 

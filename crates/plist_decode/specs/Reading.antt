@@ -3,7 +3,7 @@ use Rattle.std.specs.Prelude.{◌≡◌, ℕ, ◌+◌, ◌*◌, ◌<◌, ◌≤�
 use Rattle.std.specs.List.{range_with_len}
 use Rattle.plist_base.specs.Faults.{Fault, IsIoOrMemory}
 use Rattle.plist_base.specs.Sources.{LiesAt}
-use Rattle.plist_base.specs.Container.{number_at, number_of, numbers_spelled}
+use Rattle.plist_base.specs.Container.{number_at, number_of}
 use Rattle.plist_base.specs.Object.{Object, counted_layout, layout_of, meaning_of_front, object_after_marker, object_in}
 use Rattle.plist_base.specs.declared.marker.CountedKind.{CountedKind}
 use Rattle.plist_base.specs.declared.marker.CountedKind.TheVariants as counted
@@ -28,12 +28,6 @@ abbrev pub AreFirstNumbers : (known : Option (List ℕ)) → (place width : ℕ)
 AreFirstNumbers known place width numbers =
     IfSome known (λ bytes. numbers ≡ map (λ k. number_at bytes (place + k * width) width)
     (range_with_len 0 (length numbers)))
-
--- if all of them exist, these are the `count` numbers of `width` bytes each from an offset on
-abbrev pub AreNumbersAt : (place width count : ℕ) → List ℕ → Vec ℕ Global → Type 0
-AreNumbersAt place width count bytes numbers =
-    place + count * width ≤ length bytes
-    → numbers.items ≡ numbers_spelled width (take (count * width) (drop place bytes))
 
 -- ---- what the bytes at an object's front say, whatever follows them
 

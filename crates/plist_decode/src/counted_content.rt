@@ -2,11 +2,11 @@
 //!
 //! Each function reads the bytes that follow the marker.
 
-ghost use Rattle.std.specs.Prelude.{◌≡◌, ◌+◌, ◌-◌, ◌*◌, ◌%◌, ◌<◌, ◌≤◌, false, length, take, IfNone, IfSome, MatchOption};
+ghost use Rattle.std.specs.Prelude.{◌≡◌, ◌++◌, List, None, Some, ℕ, ◌+◌, ◌-◌, ◌*◌, ◌%◌, ◌<◌, ◌≤◌, false, length, take, IfNone, IfSome, MatchOption};
 ghost use Rattle.std.specs.Str.{is_utf8};
-ghost use Rattle.plist_base.specs.Object.{text, wide_text};
+ghost use Rattle.plist_base.specs.Object.{length_in, text, wide_text};
 ghost use Rattle.plist_base.specs.Packing.{content_bytes, padded};
-ghost use Rattle.plist_decode.specs.CountedContent.{EndsBefore, IsCount, IsLength, IsLengthCut, LiesAfter, RefusesCounted, counted_with};
+ghost use Rattle.plist_decode.specs.CountedContent.{IsCount, LiesAfter, RefusesCounted, counted_with};
 ghost use Rattle.plist_decode.specs.Decoded.{DecodesAfter, DecodesScalar, MeansDecoded};
 ghost use Rattle.plist_decode.specs.Decoding.{is_small_object};
 ghost use Rattle.plist_decode.specs.Reading.{counted_kind, object_counted};
@@ -24,11 +24,13 @@ use std::simd::prelude::*;
 // off.
 #[inline(always)]
 fn split_length(low: LowHalf, rest: &[u8]) -> Option<(u64, &[u8])>
-    ensures length { IfSome result (IsLength low rest.now) }
+    // Whatever follows, the length and the bytes after it are these.
+    ensures length { IfSome result (λ found. (more : List ℕ)
+        → length_in low (rest.now ++ more) ≡ Some (found.0, found.1.now ++ more)) }
     ensures short { IfSome result (λ found. length found.1.now ≤ length rest.now) }
     ensures near { IfSome result (λ found. length rest.now ≤ length found.1.now + 9) }
     ensures after { IfSome result (LiesAfter rest.now) }
-    ensures cut { IfNone result (IsLengthCut low rest.now) }
+    ensures cut { IfNone result ((length rest.now < 9) × (length_in low rest.now ≡ None)) }
 {
     if let Some(length) = low.length() {
         return Some((length, rest));
@@ -47,7 +49,8 @@ fn split_length(low: LowHalf, rest: &[u8]) -> Option<(u64, &[u8])>
 #[inline(always)]
 fn split_count<'a>(low: LowHalf, rest: AfterMarker<'a>, size: u64) -> Option<(u64, &'a [u8])>
     ensures count { IfSome result (IsCount low size rest.entry.to_trailer rest.entry.bytes.now) }
-    ensures within { IfSome result (EndsBefore size rest.entry.to_trailer rest.entry.bytes.now) }
+    ensures within { IfSome result (λ found. length rest.entry.bytes.now - length found.1.now
+        + found.0 * size ≤ rest.entry.to_trailer) }
     ensures short { IfSome result (λ found. length found.1.now ≤ length rest.entry.bytes.now) }
     ensures near { IfSome result (λ found. length rest.entry.bytes.now ≤ length found.1.now + 9) }
     ensures after { IfSome result (LiesAfter rest.entry.bytes.now) }

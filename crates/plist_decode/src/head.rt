@@ -51,12 +51,13 @@ impl Bounds {
 }
 
 impl Head {
-    ghost use Rattle.std.specs.Prelude.{◌≡◌, ◌+◌, ◌^◌, ◌<◌, ◌≤◌, length, IfOk, Ok, Some};
+    ghost use Rattle.std.specs.Prelude.{◌≡◌, ◌+◌, ◌^◌, ◌<◌, ◌≤◌, length, Err, IfOk, Ok, Some, ⊤};
+    ghost use Rattle.plist_base.specs.Faults.{MatchFault};
     ghost use Rattle.plist_base.specs.Container.{head_of};
     ghost use Rattle.plist_base.specs.Sources.{CountsIo};
     ghost use Rattle.plist_base.specs.Outcomes.{IfRead, IfRefused};
     ghost use Rattle.plist_decode.specs.FaultOffsets.{ErrWithin};
-    ghost use Rattle.plist_decode.specs.inner.Heads.{head_seen, IsFaultOfHead, IsHeadBefore, IsFaultBefore};
+    ghost use Rattle.plist_decode.specs.inner.Heads.{head_seen, IsHeadBefore, IsFaultBefore};
 
     /// Reads the head of a file.
     ///
@@ -74,7 +75,8 @@ impl Head {
         ensures within { IfRead result (S.known source.old)
             (λ bytes head. head.trailer ≤ length bytes) }
         // Errors.
-        ensures refused { IfRefused result (S.known source.old) IsFaultOfHead }
+        ensures refused { IfRefused result (S.known source.old)
+            (λ bytes fault. MatchFault fault.kind ⊤ ⊤ (head_of bytes ≡ Err fault)) }
         ensures fault { ErrWithin 0 (2 ^ 64) result }
         // State afterwards.
         ensures unchanged { S.known source.new ≡ S.known source.old }

@@ -4,8 +4,8 @@ ghost use Rattle.std.specs.Prelude.{◌≡◌, ◌+◌, ◌-◌, ◌*◌, ◌^�
 ghost use Rattle.plist_base.specs.Sources.{CountsIo, FailsReading, IsIoWithin};
 ghost use Rattle.plist_base.specs.Container.{number_of, number_at};
 ghost use Rattle.plist_decode.specs.FaultOffsets.{ErrWithin};
-ghost use Rattle.plist_decode.specs.Reading.{AreFirstNumbers, AreNumbersAt, IsIoOrMemoryAt};
-ghost use Rattle.plist_base.specs.Outcomes.{DecodesBy, IfFault, IfRead, IfRefused};
+ghost use Rattle.plist_decode.specs.Reading.{AreFirstNumbers, IsIoOrMemoryAt};
+ghost use Rattle.plist_base.specs.Outcomes.{DecodesBy, IfFault, IfRefused};
 
 use plist_base::{Error, Source, read_exact_at};
 use std::alloc::Global;
@@ -119,7 +119,8 @@ pub fn read_numbers<S: Source>(
     requires width { (0 < width) × (width ≤ 8) }
     requires fits { place + count * width < 2 ^ 64 }
     // Result.
-    ensures items { IfRead result (S.known source.old) (AreNumbersAt place width count) }
+    ensures items { IfOk result (λ numbers.
+        AreFirstNumbers (S.known source.old) place width numbers.items) }
     ensures long { IfOk result (λ numbers. vec_len numbers ≡ count) }
     // Errors.
     ensures refused { IfRefused result (S.known source.old) (IsIoOrMemoryAt place (count * width)) }

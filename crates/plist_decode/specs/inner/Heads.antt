@@ -5,7 +5,7 @@ use Rattle.plist_base.specs.declared.error.Error.{Error}
 use Rattle.plist_base.specs.Faults.{Fault, MatchFault, fault_of}
 use Rattle.plist_decode.specs.declared.trailer.Trailer as code
 use Rattle.plist_decode.specs.declared.head.Head as held
-use Rattle.plist_base.specs.Container.{Trailer, Head, head_at, head_of, head_with, magic, trailer_in}
+use Rattle.plist_base.specs.Container.{Trailer, Head, head_at, head_with, magic, trailer_in}
 
 -- what contracts see of a trailer that the code has read
 abbrev pub trailer_seen : code.Trailer → Trailer
@@ -56,10 +56,6 @@ HasNoHead trailer t error = (bytes : List ℕ)
     → head_with bytes trailer (trailer_seen t) ≡ Err (fault_of error)
 
 -- ---- what is read from a head
-
--- the error is that of the bytes' head, unless a read or an allocation failed
-abbrev pub IsFaultOfHead : List ℕ → Fault → Type 0
-IsFaultOfHead bytes fault = MatchFault fault.kind ⊤ ⊤ (head_of bytes ≡ Err fault)
 
 -- if the bytes end with a trailer at this offset, this is their head
 abbrev pub IsHeadBefore : (trailer : ℕ) → List ℕ → held.Head → Type 0

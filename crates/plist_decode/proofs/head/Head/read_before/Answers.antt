@@ -1,7 +1,8 @@
-use Rattle.std.proofs.Common.{◌+◌, ◌*◌, arith}
+use Rattle.std.proofs.Common.{◌+◌, ◌*◌, arith, rules}
 use Rattle.plist_decode.specs.inner.Heads.{trailer_seen}
 use Rattle.plist_decode.proofs.FaultOffsets.{counts_fault, from_reading, from_within, passed}
 use Rattle.plist_decode.proofs.Heads.{fault_checking, fault_placing, fault_reading, head_placed}
+use Rattle.plist_decode.proofs.NumberRuns.{numbers_whole}
 use Rattle.plist_decode.proofs.head.Head.read_before.Goals as goal
 
 pub returns-in_err-t-clause-refused : goal.returns-in_err-t-clause-refused
@@ -48,4 +49,6 @@ pub returns-clause-value : goal.returns-clause-value
 returns-clause-value g c =
     head_placed _ _ c.args.trailer (trailer_seen c.in_ok-t.t) c.in_ok-places.places.items
     c.in_ok-t.ensures.unchanged c.in_ok-check_trailer.ensures.table c.in_ok-t.ensures.value
-    c.in_ok-check_trailer.ensures.value c.in_ok-places.ensures.items
+    c.in_ok-check_trailer.ensures.value (numbers_whole _ c.in_ok-places.places.items c.in_ok-t.t.table
+    c.in_ok-t.t.offset_width _ c.in_ok-t.t.count c.in_ok-check_trailer.ensures.offset_width.0
+    (search rules) c.in_ok-places.ensures.items)
