@@ -15,7 +15,7 @@ use Rattle.plist_base.specs.Container.{Head, head_of}
 use Rattle.plist_base.specs.Object.{Object}
 use Rattle.plist_base.specs.Unfolding.{table_of, items_of, unfolding_of, until_fault, items_with, items_of_file}
 use Rattle.plist_decode.specs.declared.head.Bounds.{Bounds}
-use Rattle.plist_binread.specs.Remaining.{path_of, remaining_items, entries_of, places_with, places_of, CountsObjects, IsHeld, MatchesFile, SomeRemain, AllocatesFirst}
+use Rattle.plist_binread.specs.Remaining.{path_of, remaining_items, entries_of, places_with, CountsObjects, IsHeld, MatchesFile, SomeRemain, AllocatesFirst}
 use Rattle.plist_binread.specs.Step.{RefusesFirst, YieldsResult}
 use Rattle.plist_decode.specs.declared.step_fault.FaultDetails.{FaultDetails}
 use Rattle.plist_decode.specs.declared.step_fault.StepFault.{StepFault}
@@ -192,7 +192,7 @@ known_hidden known e count none memory = IfSome-all known (λ bytes.
     (inr none))
 
 pub known_few : (known : Option (List ℕ)) (tags : List ℕ) → length tags ≡ 0
-    → IfSome known (λ bytes. length tags ≤ length (places_of bytes))
+    → IfSome known (λ bytes. length tags ≤ length (places_with (head_of bytes)))
 known_few known tags count = IfSome-all known (λ bytes. omega arith)
 
 -- the root is cached if it is small

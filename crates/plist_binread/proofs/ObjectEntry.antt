@@ -1,5 +1,5 @@
 -- What is true when an object is entered.
-use Rattle.std.proofs.Common.{◌≡◌, ℕ, ◌<◌, ◌≤◌, false, List, length, get_or, Option, Some, Result, Ok, Err, IfSome, ap, subst, sym, ◌∙◌}
+use Rattle.std.proofs.Common.{cond, ◌≡◌, ℕ, ◌<◌, ◌≤◌, false, List, length, get_or, Option, Some, Result, Ok, Err, IfSome, ap, subst, sym, ◌∙◌}
 use Rattle.std.specs.List.{slice_get}
 use Rattle.std.specs.Option.{option_map}
 use Rattle.plist_base.specs.Events.{PlainEvent, ScalarEvent}
@@ -19,11 +19,10 @@ use Rattle.plist_binread.specs.Remaining.{Explains, entries_of}
 use Rattle.plist_decode.specs.Decoded.{DecodesAt, IsDecodedThere, RefusesObjectAt, small_count}
 use Rattle.plist_binread.specs.ObjectEvents.{SetsDecoded, SetsEvent, event_of_object, is_refused}
 use Rattle.plist_decode.specs.Decoding.{IsRefusedAs}
-use Rattle.plist_binread.specs.Step.{IsFound, YieldsResult, YieldsCurrent, OpensObject}
+use Rattle.plist_binread.specs.Step.{YieldsResult, YieldsCurrent, OpensObject}
 use Rattle.plist_base.specs.Unfolding.{until_fault}
 use Rattle.plist_base.specs.Packing.{unpacked}
 use Rattle.plist_decode.specs.Packed.{is_marked, unmarked}
-use Rattle.plist_binread.specs.declared.enter.Known.TheVariants as looked
 use Rattle.plist_binread.proofs.ObjectEvents.{decoded_small, named-long}
 use Rattle.plist_binread.proofs.OpenObjects.{not_open}
 use Rattle.plist_binread.proofs.WalkSteps.{yields_scalar}
@@ -56,6 +55,30 @@ long_opens number start count kind walk below new bytes bounds entry k is found 
   k,
 )
 
+-- the walk has stored this tag and this content for an object
+pub record IsStoredAs (walk : Walk) (number tag content : ℕ) : Type 0 where
+  pub below : number < walk_objects walk
+  pub tag_is : tag ≡ get_or walk.tags.items number 0
+  pub content_is : content ≡ get_or walk.contents.items number 0
+
+-- an object with a tag is cached unless it is open
+pub tagged : {walk : Walk} {number tag content : ℕ} → IsStoredAs walk number tag content → 0 < tag
+    → is_marked tag ≡ false → (is_marked (get_or walk.tags.items number 0) ≡ false)
+    × (0 < unmarked (get_or walk.tags.items number 0))
+tagged {tag = tag} s some free =
+    let same : unmarked tag ≡ tag = ap (λ b. cond {A = ℕ} b 0 tag) free in
+    (ap is_marked (sym s.tag_is) ∙ free, subst (λ t. 0 < unmarked t) s.tag_is (rw same some))
+
+-- an object without a tag lies at the offset that is stored for it
+pub placed : {walk : Walk} {number tag content : ℕ} → IsStoredAs walk number tag content → tag ≡ 0
+    → (number < walk_objects walk) × (is_marked (get_or walk.tags.items number 0) ≡ false)
+    × IsPlaceIn walk number content
+placed s none = (
+  s.below,
+  ap is_marked (sym s.tag_is ∙ none),
+  (ap unmarked (sym s.tag_is ∙ none), s.content_is),
+)
+
 -- a true statement is true after `Ok`
 pub always_ok : {A E : Type 0} (P : Type 0) (answer : Result A E) → P → OnOk answer P
 always_ok P (Ok value) p = p
@@ -70,15 +93,14 @@ on_answer P (Err fault) details h = tt
 module _ (known : Option (List ℕ)) (bounds : Bounds) (walk : Walk) (number : ℕ)
     (k : IsKnownWalk known bounds walk) (h : number < walk_objects walk) where
   -- the event of a scalar that is cached is the first item that remains
-  pub known_unpacked : (at tag content : ℕ) → is_marked (get_or walk.tags.items number 0) ≡ false
-      → IsFound (get_or walk.tags.items number 0) (get_or walk.contents.items number 0)
-      (looked.Small tag content)
+  pub known_unpacked : (at : ℕ) → is_marked (get_or walk.tags.items number 0) ≡ false
+      → 0 < unmarked (get_or walk.tags.items number 0)
       → IfSome known (λ bytes. YieldsCurrent (remaining_entering bytes bounds walk at number)
-      (ScalarEvent (unpacked tag content)) (remaining_in bytes bounds walk))
-  known_unpacked at tag content free is = IfSome_then known k (λ bytes k.
+      (ScalarEvent (unpacked (get_or walk.tags.items number 0) (get_or walk.contents.items number 0)))
+      (remaining_in bytes bounds walk))
+  known_unpacked at free cached = IfSome_then known k (λ bytes k.
       found_scalar k walk.path at number h free _
-      (ap (option_map ScalarEvent) (held_scalar k number h is.0)
-      ∙ (λ i. Some (ScalarEvent (unpacked (sym is.1 i) (sym is.2 i))))))
+      (ap (option_map ScalarEvent) (held_scalar k number h cached)))
 
   -- the error of an object is possible in place of its first item
   pub known_refused : (at place : ℕ) (e : Error)

@@ -1,5 +1,5 @@
 -- The event of an object that was decoded.
-use Rattle.std.proofs.Common.{◌≡◌, ℕ, ◌+◌, ◌≤◌, Bool, true, false, List, length, take, drop, Option, None, Some, Result, Ok, Err, IfSome, refl, ap, sym, subst, ◌∙◌, arith}
+use Rattle.std.proofs.Common.{◌^◌, ◌-◌, ◌≡◌, ℕ, ◌+◌, ◌≤◌, Bool, true, false, List, length, take, drop, Option, None, Some, Result, Ok, Err, IfSome, refl, ap, sym, subst, ◌∙◌, arith}
 use Rattle.std.specs.Prelude.{if◌then◌else◌, IsUtf8}
 use Rattle.std.proofs.lemmas.List.{drop-drop}
 use Rattle.std.proofs.lemmas.Option.{IfSome_then}
@@ -13,7 +13,7 @@ use Rattle.plist_decode.specs.CountedContent.{content_means}
 use Rattle.plist_decode.proofs.Contents.{text-utf8, text-not_utf8}
 use Rattle.plist_decode.proofs.Decoding.{small_counted}
 use Rattle.plist_decode.specs.Decoded.{FitsBefore, IsDecodedAs, content_size, small_count}
-use Rattle.plist_binread.specs.ObjectEvents.{FitsWalk, SetsContentAt, SetsDecoded, SetsEvent, SetsUnread, event_of_object}
+use Rattle.plist_binread.specs.ObjectEvents.{SetsContentAt, SetsDecoded, SetsEvent, SetsUnread, event_of_object}
 use Rattle.plist_decode.specs.Decoding.{IsCollection, is_small_object, scalar_event_in}
 use Rattle.plist_decode.specs.Packed.{is_small_event}
 use Rattle.plist_decode.specs.declared.decoded.Content.{Content}
@@ -26,11 +26,11 @@ use Rattle.plist_decode.specs.declared.head.Bounds.{Bounds}
 use Rattle.plist_decode.proofs.NumberRuns.{take-drop-take}
 
 pub fits_walk : (bounds : Bounds) (place : ℕ) (d : Decoded) → FitsBefore bounds.trailer place d
-    → FitsWalk d
+    → FitsBefore (2 ^ 64 - 1) 0 d
 fits_walk bounds place (decoded.Small tag content) h = h
 fits_walk bounds place (decoded.Date content) h = tt
-fits_walk bounds place (decoded.Long kind start count) h = tt
-fits_walk bounds place (decoded.Faulty fault marker) h = tt
+fits_walk bounds place (decoded.Long kind start count) h = omega (arith, h, bounds.small)
+fits_walk bounds place (decoded.Faulty fault marker) h = h
 fits_walk bounds place (decoded.Collection kind start count) h =
     let small = bounds.small in (omega (arith, h.0, small), h.1)
 

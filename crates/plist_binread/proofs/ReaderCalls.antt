@@ -1,5 +1,5 @@
 -- What is true of a reader after each call.
-use Rattle.std.proofs.Common.{◌≡◌, ℕ, ◌≤◌, arith, Bool, false, List, [], ◌∷◌, length, Option, None, Some, Result, Err, IfSome, MatchOption, refl, sym}
+use Rattle.std.proofs.Common.{◌≡◌, ℕ, ◌≤◌, arith, Bool, false, List, [], ◌∷◌, length, Option, None, Some, Result, Err, IfSome, MatchOption, refl, sym, Ok, rules, subst}
 use Rattle.std.proofs.lemmas.List.{length-reverse}
 use Rattle.plist_base.specs.declared.source.Source.{Ghosts}
 use Rattle.plist_base.specs.declared.error.Error.{Error}
@@ -7,7 +7,9 @@ use Rattle.plist_base.specs.declared.event.Event.{Event}
 use Rattle.plist_base.specs.Events.{Item, PlainEvent, event_of}
 use Rattle.plist_base.specs.Faults.{MatchFault, error_kind_of, fault_of, kind_of}
 use Rattle.plist_base.specs.FirstItems.{GivesFirst, StopsIf}
-use Rattle.plist_base.specs.Visits.{PlainItem}
+use Rattle.plist_base.specs.Visits.{Flow, PlainItem}
+use Rattle.plist_binread.specs.Handovers.{KeepsEvent}
+use Rattle.plist_binread.specs.declared.visitors.FirstEvent.{FirstEvent}
 use Rattle.plist_base.proofs.FirstItems.{first_of_known}
 use Rattle.plist_base.proofs.Refusals.{MatchFault-weaker}
 use Rattle.plist_base.proofs.VisitedItems.{Comes, comes_first}
@@ -95,3 +97,13 @@ gives_binary {g = g} old item new gives = record {
   state = record { ended = gives.ended; unasked = gives.unasked; ends = gives.ends };
   inner = gives;
 }
+
+-- the visitor kept the event of a step
+pub gives_kept : {R C : Type 0} {g : Ghosts R} {h : CounterGhosts C} (old new : BinaryReader R C g h)
+    (visitor : FirstEvent) (flow : Flow) (event : PlainEvent) (kept : Event)
+    → KeepsEvent event flow visitor → visitor.kept ≡ Some kept → Steps old (Some (Ok event)) new
+    → GivesBinary old (Some (Ok kept)) new
+gives_kept old new visitor flow event kept keeps is step =
+    let same : event_of kept ≡ event = rw is at keeps.1 in
+    let gives = (subst (λ e. Steps old (Some (Ok e)) new) (sym same) step).gives in
+    gives_binary old (Some (Ok kept)) new (search rules)

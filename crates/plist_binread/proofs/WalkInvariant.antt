@@ -22,8 +22,9 @@ use Rattle.plist_base.specs.Packing.{unpacked}
 use Rattle.plist_decode.specs.Packed.{is_marked, open_tag, unmarked, KeepsOtherTags}
 use Rattle.plist_decode.specs.declared.decoded.CollectionKind.{CollectionKind}
 use Rattle.plist_binread.proofs.Tags.{cached_closed, open_tag-kind, open_tag-marked, open_tag-start, open_uncached}
+use Rattle.plist_base.specs.Container.{head_of}
 use Rattle.plist_base.specs.Unfolding.{TableEntry, unfolding_of, until_fault}
-use Rattle.plist_binread.specs.Remaining.{children_at, place_at, scalar_at, path_of, MarksOpenPath, IsHeld, LocatesReferences, MatchesFile, places_of, entries_of, remaining_items, Explains}
+use Rattle.plist_binread.specs.Remaining.{children_at, place_at, scalar_at, path_of, MarksOpenPath, IsHeld, LocatesReferences, MatchesFile, places_with, entries_of, remaining_items, Explains}
 use Rattle.plist_decode.specs.Decoding.{AreReferencesAt, IsCollection, IsRefusedAs, children_in, scalar_event_in, scalar_in}
 use Rattle.plist_binread.proofs.WalkSteps.{collection_count, items_beyond, items_open, yields_refused, yields_scalar, refused_memory}
 use Rattle.plist_base.proofs.Tables.{slice_get-within, slice_get-beyond, length-table_of}
@@ -45,12 +46,12 @@ module _ (bytes : List ℕ) (bounds : Bounds) where
   abbrev pub entry_of : ℕ → TableEntry
   entry_of number =
       record {
-        place = get_or (places_of bytes) number 0;
+        place = get_or (places_with (head_of bytes)) number 0;
         object = object_in bounds.reference_width
-            (drop (get_or (places_of bytes) number 0) (take bounds.trailer bytes));
+            (drop (get_or (places_with (head_of bytes)) number 0) (take bounds.trailer bytes));
       }
 
-  pub found : (number : ℕ) → number < length (places_of bytes)
+  pub found : (number : ℕ) → number < length (places_with (head_of bytes))
       → slice_get table number ≡ Some (entry_of number)
   found number h =
       slice_get-within _ _ _ _ h
@@ -180,7 +181,7 @@ module _ {bytes : List ℕ} {bounds : Bounds} {tags contents : List ℕ} {fs : L
     unfound_beyond e h is =
         explained _ _ e is tt
         (items_beyond _ _ _ at number
-        (slice_get-beyond _ (places_of _) _
+        (slice_get-beyond _ (places_with (head_of bytes)) _
         _ (rw k.size h)))
 
     -- the object of this number is open

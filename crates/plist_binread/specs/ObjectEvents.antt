@@ -1,13 +1,12 @@
 -- The event that an object yields once it is decoded, and what the walk stores of the object.
-use Rattle.std.specs.Prelude.{◌≡◌, ℕ, ◌+◌, ◌^◌, ◌<◌, ◌≤◌, Bool, true, false, List, length, take, drop, Option, None, Some, Result, IfErr, IfSome, MatchResult, ⊤}
+use Rattle.std.specs.Prelude.{◌≡◌, ℕ, ◌+◌, ◌≤◌, Bool, true, false, List, length, take, drop, Option, None, Some, Result, IfErr, IfSome, MatchResult}
 use Rattle.plist_base.specs.declared.error.Error.{Error}
 use Rattle.plist_base.specs.Events.{PlainEvent, StartArray, StartDictionary, ScalarEvent}
 use Rattle.plist_base.specs.Faults.{IsNotIo, kind_of, error_kind_of}
-use Rattle.plist_base.specs.Packing.{IsPacked}
 use Rattle.plist_base.specs.Object.{Object, Scalar, Array, Dictionary, Faulty}
 use Rattle.plist_decode.specs.CountedContent.{content_means}
 use Rattle.plist_decode.specs.Decoded.{IsDecodedThere, content_size}
-use Rattle.plist_decode.specs.Decoding.{IsRefusedAs, child_count}
+use Rattle.plist_decode.specs.Decoding.{IsRefusedAs}
 use Rattle.plist_decode.specs.FaultOffsets.{ErrWithin}
 use Rattle.plist_decode.specs.Reading.{object_at}
 use Rattle.plist_decode.specs.StepFaults.{result_with}
@@ -22,13 +21,6 @@ use Rattle.plist_decode.specs.declared.head.Bounds.{Bounds}
 abbrev pub is_refused : Decoded → Bool
 is_refused (decoded.Faulty fault marker) = true
 is_refused other = false
-
--- the walk can store what was decoded: a packed scalar, or a collection whose number of children
--- isn't too large
-abbrev pub FitsWalk : Decoded → Type 0
-FitsWalk (decoded.Small tag content) = IsPacked tag content
-FitsWalk (decoded.Collection kind start count) = (child_count kind count < 2 ^ 64) × (start < 16)
-FitsWalk other = ⊤
 
 -- the first event of an object, which is its start or its scalar, or `None` if it is faulty
 abbrev pub event_of_object : Object → Option PlainEvent

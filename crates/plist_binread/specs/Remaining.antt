@@ -99,13 +99,9 @@ abbrev pub places_with : Result Head Fault → List ℕ
 places_with (Ok head) = head.places
 places_with (Err fault) = []
 
--- the offsets of a file's objects
-abbrev pub places_of : List ℕ → List ℕ
-places_of bytes = places_with (head_of bytes)
-
 -- the number of objects that the head of these bytes counts
 abbrev pub objects_in_head : List ℕ → ℕ
-objects_in_head bytes = length (places_of bytes)
+objects_in_head bytes = length (places_with (head_of bytes))
 
 -- `found` is the number of objects in the file, or perhaps 0 after a failed read or allocation
 abbrev pub CountsObjects : {A : Type 0} → List ℕ → Result A Error → (found : ℕ) → Type 0
@@ -118,7 +114,7 @@ CountsObjects bytes answer found =
 -- the table of a file's objects, which end before the trailer
 abbrev pub entries_of : List ℕ → Bounds → List TableEntry
 entries_of bytes bounds =
-    table_of (take bounds.trailer bytes) bounds.reference_width (places_of bytes)
+    table_of (take bounds.trailer bytes) bounds.reference_width (places_with (head_of bytes))
 
 -- a file with this head has these bounds
 abbrev pub AreBoundsOf : Result Head Fault → Bounds → Type 0

@@ -1,23 +1,17 @@
 -- What a step does to the walk, to the current event and to the remaining items.
-use Rattle.std.specs.Prelude.{◌≡◌, ℕ, ◌+◌, ◌-◌, ◌<◌, Bool, true, false, not, List, [], ◌∷◌, ◌++◌, length, nat_lt, slice_index, Option, Some, Result, Ok, Err, IsOkAnd, IfSome, IsSomeAnd, OnOk, MatchOption, MatchResult, ⊤}
+use Rattle.std.specs.Prelude.{◌≡◌, ℕ, ◌+◌, ◌-◌, ◌<◌, true, false, List, [], ◌∷◌, ◌++◌, length, slice_index, Option, Some, Result, Ok, Err, IfSome, OnOk, MatchOption, MatchResult, ⊤}
 use Rattle.std.specs.List.{slice_get}
 use Rattle.plist_base.specs.declared.error.Error.{Error}
 use Rattle.plist_base.specs.Events.{PlainEvent, EndCollection, Item}
 use Rattle.plist_base.specs.Faults.{MatchFault, kind_of, error_kind_of, fault_of}
 use Rattle.plist_base.specs.Container.{head_of}
-use Rattle.plist_base.specs.Packing.{IsPacked}
 use Rattle.plist_base.specs.Unfolding.{TableEntry, items_of_file, unfolding_of, until_fault}
 use Rattle.plist_decode.specs.Decoded.{IsDecodedAs}
-use Rattle.plist_decode.specs.Packed.{is_marked, open_kind, open_start, unmarked}
+use Rattle.plist_decode.specs.Packed.{is_marked, open_kind, open_start}
 use Rattle.plist_decode.specs.Reading.{bytes_at}
 use Rattle.plist_decode.specs.declared.decoded.Decoded.{Decoded}
 use Rattle.plist_decode.specs.declared.decoded.Decoded.TheVariants as decoded
-use Rattle.plist_decode.specs.StepFaults.{error_of}
-use Rattle.plist_decode.specs.declared.step_fault.FaultDetails.{FaultDetails}
-use Rattle.plist_decode.specs.declared.step_fault.StepFault.{StepFault}
 use Rattle.plist_decode.specs.declared.head.Bounds.{Bounds}
-use Rattle.plist_binread.specs.declared.enter.Known.{Known}
-use Rattle.plist_binread.specs.declared.enter.Known.TheVariants as looked
 use Rattle.plist_binread.specs.declared.frames.Frame.{Frame}
 use Rattle.plist_binread.specs.declared.frames.NextChild.{NextChild}
 use Rattle.plist_binread.specs.declared.frames.NextChild.TheVariants as child
@@ -63,11 +57,6 @@ TakesChild bytes bounds old (child.Child frame) new =
     × SomeRemain (until_fault (remaining_in bytes bounds old))
     × (next_number table (open_in old) ≡ Some number)
 
--- over the bytes of its file, the walk takes the next child as `TakesChild` says
-abbrev pub TakesNextChild : (old : Walk) → NextChild → (new : Walk) → Type 0
-TakesNextChild old child new = (bytes : List ℕ) (bounds : Bounds) → IsWalkOf bytes bounds old
-    → TakesChild bytes bounds old child new × IsWalkOf bytes bounds new
-
 -- the collection that contains the next child is open, and it has this child
 abbrev pub ParentIsOpen : Walk → NextChild → Type 0
 ParentIsOpen walk (child.Child frame) = (frame.object < walk_objects walk)
@@ -82,16 +71,6 @@ WeightFalls count old (child.End object) new =
 WeightFalls count old (child.Child frame) new = walk_weight count (open_in old)
     ≡ walk_weight count (open_in new) + walk_steps (count - length (open_in new))
 
--- whether the innermost collection has no child left
-abbrev pub closes : List Frame → Bool
-closes [] = false
-closes (frame ∷ below) = not (nat_lt frame.next frame.count)
-
--- the innermost collection was closed
-abbrev pub IsEnd : NextChild → Type 0
-IsEnd (child.End object) = ⊤
-IsEnd other = ⊥
-
 -- where the references of an open collection lie
 abbrev pub stored_references : Walk → Frame → References
 stored_references walk frame = record {
@@ -102,19 +81,6 @@ stored_references walk frame = record {
 }
 
 -- ---- an object that is entered
-
--- the tag and the content encode this: the object's offset, or a small scalar that is cached
-abbrev pub IsFound : (tag content : ℕ) → Known → Type 0
-IsFound tag content (looked.Small found packed) = (0 < unmarked tag)
-    × (found ≡ tag) × (packed ≡ content) × IsPacked found packed
-IsFound tag content (looked.At place) = (unmarked tag ≡ 0) × (place ≡ content)
-
--- the object of this number can't be entered because of this fault
-abbrev pub RefusesEntering : Walk → (at number : ℕ) → FaultDetails → StepFault → Type 0
-RefusesEntering walk at number details fault =
-    (bytes : List ℕ) (bounds : Bounds) → IsWalkOf bytes bounds walk
-    → Explains (until_fault (remaining_entering bytes bounds walk at number))
-    (error_of fault details)
 
 -- the object's first event is the first item that remained, and the walk has entered the object
 abbrev pub OpensObject : (number : ℕ) → Decoded → (old new : Walk) → Type 0
@@ -165,16 +131,13 @@ pub record YieldsEntered {A : Type 0} (known : Option (List ℕ)) (bounds : Boun
       new.tags.items)
 
 -- over known bytes, the item is the first that remained and the others remain, and the object that
--- was entered is cached if it is small; if the innermost collection has no child left, the event is
--- its end
+-- was entered is cached if it is small
 pub record YieldsItem {A : Type 0} (known : Option (List ℕ)) (bounds : Bounds) (old : Walk)
     (item : Option (Result A Error)) (event : PlainEvent) (new : Walk) : Type 0 where
   pub first : IfSome known (λ bytes.
       YieldsNext (remaining_in bytes bounds old) item event (remaining_in bytes bounds new))
   pub cached : IfSome known (λ bytes. IsCachedIfSmall (λ _. event)
       (next_number (entries_of bytes bounds) (open_in old)) item new.tags.items)
-  pub end : closes (open_in old) ≡ true
-      → IsSomeAnd item (λ answer. IsOkAnd answer (λ _. event ≡ EndCollection))
 
 -- an item is yielded only if some steps remained, and fewer steps remain after an event
 abbrev pub LightensNext : {A E : Type 0} → (old : Walk) → Option (Result A E) → Walk → Type 0

@@ -1,13 +1,11 @@
 //! Enters an object: decodes it and hands its first event to a visitor.
 
-ghost use Rattle.std.specs.Prelude.{◌≡◌, ◌+◌, ◌<◌, slice_index, true, false, Some, IfOk, IfErr, OnOk};
-ghost use Rattle.plist_base.specs.Faults.{IsNotIo, error_kind_of, kind_of};
-ghost use Rattle.plist_decode.specs.Packed.{is_marked, unmarked};
+ghost use Rattle.std.specs.Prelude.{◌≡◌, ◌+◌, ◌-◌, ◌^◌, ◌<◌, slice_index, true, false, Some, OnOk};
+ghost use Rattle.plist_decode.specs.Packed.{unmarked};
 ghost use Rattle.plist_binread.specs.Walking.{IsKnownWalk, KeepsWalk, cached_in, walk_objects};
-ghost use Rattle.plist_binread.specs.Step.{YieldsEntered, IsFound, IsLighterEntered, IsCollectionStart, OpensObject, RefusesEntering};
+ghost use Rattle.plist_binread.specs.Step.{YieldsEntered, IsLighterEntered, IsCollectionStart, OpensObject};
 ghost use Rattle.plist_decode.specs.FaultOffsets.{ErrWithin};
-ghost use Rattle.plist_decode.specs.Decoded.{small_count};
-ghost use Rattle.plist_binread.specs.ObjectEvents.{FitsWalk};
+ghost use Rattle.plist_decode.specs.Decoded.{FitsBefore, small_count};
 ghost use Rattle.plist_binread.specs.Handovers.{HandsItem};
 ghost use Rattle.plist_base.specs.Sources.{CountsIo};
 ghost use Rattle.plist_binread.specs.Tokens.{KeepsCached};
@@ -21,54 +19,8 @@ use plist_decode::counter::DecodeCounter;
 use plist_decode::decoded::{Content, Decoded};
 use plist_decode::object::{Decoder, buffered_front, decode_front, read_object};
 use plist_decode::packed::{is_open, open_tag, set_tag};
-use plist_decode::step_fault::{FaultDetails, StepFault};
+use plist_decode::step_fault::StepFault;
 use std::ops::ControlFlow;
-
-// What the walk has stored about an object that is about to be entered.
-#[derive(Clone, Copy)]
-enum Known {
-    // The offset of the object.
-    At(u64),
-    // A small scalar that is cached. The fields are the tag and the content of a `PackedScalar`.
-    Small(u8, u64),
-}
-
-// Looks up an object that is about to be entered. `at` is the offset of the collection that refers
-// to the object, or of the trailer for the root.
-#[inline(always)]
-fn look_up(
-    details: &mut FaultDetails,
-    walk: &Walk,
-    at: u64,
-    number: u64,
-) -> Result<Known, StepFault>
-    // Result.
-    ensures found { IfOk result (IsFound (slice_index walk.now.tags.items number)
-        (slice_index walk.now.contents.items number)) }
-    // Errors.
-    ensures refused { IfErr result (RefusesEntering walk.now at number details.new) }
-    ensures never_io { IfErr (result_with result details.new) (λ error.
-        IsNotIo (kind_of (error_kind_of error))) }
-    ensures fault { ErrWithin 0 0 (result_with result details.new) }
-    // State afterwards.
-    ensures below { IfOk result (λ _. number < walk_objects walk.now) }
-    ensures new { IfOk result (λ _. is_marked (slice_index walk.now.tags.items number) ≡ false) }
-{
-    if number >= walk.tags.len() as u64 {
-        details.fail_at(at);
-        return Err(StepFault::Reference);
-    }
-    let tag = walk.tags[number as usize];
-    let content = walk.contents[number as usize];
-    if tag == 0 {
-        return Ok(Known::At(content));
-    }
-    if is_open(tag) {
-        details.fail_at(content);
-        return Err(StepFault::Recursion);
-    }
-    Ok(Known::Small(tag, content))
-}
 
 // Caches a small scalar that was decoded, or opens a collection. If an allocation for the
 // collection fails, this function returns `false` and changes nothing.
@@ -76,7 +28,7 @@ fn look_up(
 fn cache_or_open(walk: &mut Walk, number: u64, decoded: Decoded) -> bool
     requires below { number < walk_objects walk.old }
     requires new { slice_index walk.old.tags.items number ≡ 0 }
-    requires fits { FitsWalk decoded }
+    requires fits { FitsBefore (2 ^ 64 - 1) 0 decoded }
     // Result.
     ensures yields { result ≡ true → OpensObject number decoded walk.old walk.new }
     ensures wanted { result ≡ false → IsCollectionStart decoded }
@@ -140,12 +92,22 @@ pub fn enter_object<S: Source, C: DecodeCounter, V: EventVisitor>(
     ensures failures { CountsIo (Some (result_with result decoder.new.details))
         (S.failures source.old) (S.failures source.new) }
 {
-    let place = match look_up(&mut decoder.details, walk, reference.at, reference.number)? {
-        Known::Small(tag, content) => {
-            return Ok(visitor.packed(PackedScalar::from_parts(tag, content)));
+    let number = reference.number as usize;
+    if reference.number >= walk.tags.len() as u64 {
+        decoder.details.fail_at(reference.at);
+        return Err(StepFault::Reference);
+    }
+    let tag = walk.tags[number];
+    // The offset of the object, or a small scalar that is cached.
+    let content = walk.contents[number];
+    if tag != 0 {
+        if is_open(tag) {
+            decoder.details.fail_at(content);
+            return Err(StepFault::Recursion);
         }
-        Known::At(place) => place,
-    };
+        return Ok(visitor.packed(PackedScalar::from_parts(tag, content)));
+    }
+    let place = content;
     let decoded = match buffered_front(source, &decoder.bounds, place) {
         Some(seen) => {
             let decoded = decode_front(decoder, place, seen);

@@ -26,10 +26,11 @@ pub struct Walk {
 }
 
 impl Walk {
-    ghost use Rattle.std.specs.Prelude.{◌≡◌, ◌<◌, ℕ, true};
-    ghost use Rattle.plist_binread.specs.Step.{IsEnd, ParentIsOpen, TakesNextChild, WeightFalls, closes, stored_references};
+    ghost use Rattle.std.specs.Prelude.{◌≡◌, ◌<◌, ℕ, List};
+    ghost use Rattle.plist_decode.specs.declared.head.Bounds.{Bounds};
+    ghost use Rattle.plist_binread.specs.Step.{ParentIsOpen, TakesChild, WeightFalls, stored_references};
     ghost use Rattle.plist_binread.specs.Tokens.{KeepsCached};
-    ghost use Rattle.plist_binread.specs.Walking.{IsEmptyWalk, cached_in, open_in, walk_objects};
+    ghost use Rattle.plist_binread.specs.Walking.{IsEmptyWalk, IsWalkOf, cached_in, walk_objects};
 
     /// Creates a walk over a file. Its objects aren't known yet.
     pub fn new(alloc: Global) -> Self
@@ -46,9 +47,9 @@ impl Walk {
     /// left.
     pub fn next_child(&mut self) -> NextChild
         // Result.
-        ensures remaining { TakesNextChild self.old result self.new }
+        ensures remaining { (bytes : List ℕ) (bounds : Bounds) → IsWalkOf bytes bounds self.old
+            → TakesChild bytes bounds self.old result self.new × IsWalkOf bytes bounds self.new }
         ensures within { ParentIsOpen self.new result }
-        ensures closes { closes (open_in self.old) ≡ true → IsEnd result }
         // State afterwards.
         ensures size { walk_objects self.new ≡ walk_objects self.old }
         ensures counted { cached_in self.new ≡ cached_in self.old }

@@ -62,7 +62,6 @@ returns-in-Err-clause-handed g c =
             c.in-Child.ensures.within (taken g t.In-Child) _
             c.in-Err.ensures.child;
         cached = IfSome-all _ (λ _. tt);
-        end = λ closes. absurd (rw c.in-Child.is at (c.next_child.ensures.closes closes));
       };
       taken = refl;
     }
@@ -94,7 +93,6 @@ returns-in-Ok-clause-handed g c =
             c.in-Child.frame c.in-Child.ensures.within (taken g t.In-Child) _
             c.in-Ok.ensures.unchanged c.in-Ok.number c.in-Ok.ensures.child answer h.event
             c.enter.new.walk.tags.items h.is.cached;
-        end = λ closes. absurd (rw c.in-Child.is at (c.next_child.ensures.closes closes));
       };
       taken = h.taken;
     }

@@ -1,16 +1,10 @@
-use Rattle.std.proofs.Common.{ap, not, sym, ◌∙◌}
-use Rattle.std.proofs.lemmas.Bool.{lt-ltb}
+use Rattle.std.proofs.Common.{ap, sym, ◌∙◌}
 use Rattle.plist_binread.specs.Remaining.{frame_of}
-use Rattle.plist_binread.specs.Step.{closes}
 use Rattle.plist_binread.proofs.InnermostChild.{next_path, child_remaining, closed_remaining, child_weight, closed_weight}
 use Rattle.plist_decode.specs.Packed.{unmarked}
 use Rattle.plist_binread.proofs.OpenObjects.{IsOpen-pop, first_below, first_open, cached_count-kept}
 use Rattle.plist_binread.proofs.Tags.{open_uncached, uncached_packed}
 use Rattle.plist_binread.proofs.walk.Walk.next_child.Goals as goal
-
-pub returns-in-Nothing-clause-closes : goal.returns-in-Nothing-clause-closes
-returns-in-Nothing-clause-closes c =
-    let no = ap closes c.in-Nothing.ensures.0 in λ e. absurd (cc)
 
 pub returns-in-Nothing-clause-remaining : goal.returns-in-Nothing-clause-remaining
 returns-in-Nothing-clause-remaining c =
@@ -65,11 +59,6 @@ returns-in-Child-clause-within c =
     let is = c.in-Child.ensures in
     let path = rw is.1 at c.args.self.now.path in
     (first_below _ _ _ path, first_open _ _ _ path, is.3)
-
-pub returns-in-Child-clause-closes : goal.returns-in-Child-clause-closes
-returns-in-Child-clause-closes c =
-    let is = c.in-Child.ensures in
-    let no = ap closes is.1 ∙ ap not (lt-ltb _ _ is.3) in λ e. absurd (cc)
 
 pub returns-in-Child-clause-remaining : goal.returns-in-Child-clause-remaining
 returns-in-Child-clause-remaining c =
