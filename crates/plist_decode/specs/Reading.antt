@@ -1,10 +1,10 @@
 -- What is read from known bytes: numbers, bytes and objects.
-use Rattle.std.specs.Prelude.{◌≡◌, ℕ, ◌+◌, ◌*◌, ◌<◌, ◌≤◌, List, ◌++◌, length, map, take, drop, Option, IfSome}
+use Rattle.std.specs.Prelude.{◌≡◌, ℕ, ◌+◌, ◌*◌, ◌<◌, ◌≤◌, List, length, map, take, drop, Option, IfSome}
 use Rattle.std.specs.List.{range_with_len}
 use Rattle.plist_base.specs.Faults.{Fault, IsIoOrMemory}
 use Rattle.plist_base.specs.Sources.{LiesAt}
-use Rattle.plist_base.specs.Container.{number_at, number_of}
-use Rattle.plist_base.specs.Object.{Object, counted_layout, layout_of, meaning_of_front, object_after_marker, object_in}
+use Rattle.plist_base.specs.Container.{number_at}
+use Rattle.plist_base.specs.Object.{Object, counted_layout, layout_of, object_after_marker, object_in}
 use Rattle.plist_base.specs.declared.marker.CountedKind.{CountedKind}
 use Rattle.plist_base.specs.declared.marker.CountedKind.TheVariants as counted
 use Rattle.plist_decode.specs.declared.decoded.CollectionKind.{CollectionKind}
@@ -30,16 +30,6 @@ AreFirstNumbers known place width numbers =
     (range_with_len 0 (length numbers)))
 
 -- ---- what the bytes at an object's front say, whatever follows them
-
--- the content of an object of a fixed size is this number, whatever follows `rest`
-abbrev pub IsNumber : (width : ℕ) (rest : List ℕ) → ℕ → Type 0
-IsNumber width rest number = (more : List ℕ) (meaning : ℕ → Object) →
-    meaning_of_front width (λ content. meaning (number_of content)) (rest ++ more) ≡ meaning number
-
--- the content of an object of a fixed size is this, whatever follows `rest`
-abbrev pub IsContent : (size : ℕ) (rest content : List ℕ) → Type 0
-IsContent size rest content = (more : List ℕ) (meaning : List ℕ → Object) →
-    meaning_of_front size meaning (rest ++ more) ≡ meaning content
 
 -- these bytes lie between an object's offset and the trailer, and reach up to the trailer or are at
 -- least 26

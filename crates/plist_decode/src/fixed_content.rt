@@ -3,13 +3,12 @@
 //! Each function reads the bytes that follow the marker. If the object ends before the trailer,
 //! they contain all of it.
 
-ghost use Rattle.std.specs.Prelude.{◌^◌, ◌<◌, ◌≤◌, length, IfNone, IfSome};
+ghost use Rattle.std.specs.Prelude.{◌≡◌, ◌++◌, ◌^◌, ◌<◌, ◌≤◌, ℕ, List, length, IfNone, IfSome};
 ghost use Rattle.plist_base.specs.Container.{number_of};
-ghost use Rattle.plist_base.specs.Object.{Scalar, date, signed_integer, unsigned_integer, wide_integer};
+ghost use Rattle.plist_base.specs.Object.{Object, Scalar, date, meaning_of_front, signed_integer, unsigned_integer, wide_integer};
 ghost use Rattle.plist_base.specs.Trees.{Real, Uid as UidScalar};
 ghost use Rattle.plist_base.specs.declared.real.RealBits.TheVariants.{Eight, Four};
 ghost use Rattle.plist_decode.specs.Decoded.{DecodesFixed};
-ghost use Rattle.plist_decode.specs.Reading.{IsContent, IsNumber};
 
 use crate::decoded::{AfterMarker, Decoded};
 use crate::numbers::number_from;
@@ -21,7 +20,10 @@ use plist_base::{PackedScalar, RealBits, Uid};
 #[inline(always)]
 fn front_number(rest: &[u8], width: usize) -> Option<u64>
     requires { width ≤ 8 }
-    ensures value { IfSome result (IsNumber width rest.now) }
+    // Whatever follows, this is the content of an object of `width` bytes.
+    ensures value { IfSome result (λ number. (more : List ℕ) (meaning : ℕ → Object) →
+        meaning_of_front width (λ content. meaning (number_of content)) (rest.now ++ more)
+        ≡ meaning number) }
     ensures small { IfSome result (λ n. n < 256 ^ width) }
     ensures short { IfNone result (length rest.now < width) }
 {
@@ -33,7 +35,9 @@ fn front_number(rest: &[u8], width: usize) -> Option<u64>
 
 // Returns the first `N` bytes, or `None` if there are fewer bytes.
 fn front_content<const N: usize>(rest: &[u8]) -> Option<[u8; N]>
-    ensures content { IfSome result (IsContent N rest.now) }
+    // Whatever follows, this is the content of an object of `N` bytes.
+    ensures content { IfSome result (λ content. (more : List ℕ) (meaning : List ℕ → Object) →
+        meaning_of_front N meaning (rest.now ++ more) ≡ meaning content) }
     ensures short { IfNone result (length rest.now < N) }
 {
     match rest.first_chunk::<N>() {

@@ -1,10 +1,10 @@
 //! Reads the magic, and reads and checks the trailer.
 
-ghost use Rattle.std.specs.Prelude.{◌≡◌, ◌+◌, ◌-◌, ◌^◌, ◌<◌, ◌≤◌, Ok, Err, IfOk, IfErr, ⊤, Some};
-ghost use Rattle.plist_base.specs.Faults.{MatchFault, kind_of, error_kind_of};
+ghost use Rattle.std.specs.Prelude.{◌≡◌, ◌+◌, ◌-◌, ◌^◌, ◌<◌, ◌≤◌, ℕ, List, length, drop, Ok, Err, IfOk, IfErr, ⊤, Some};
+ghost use Rattle.plist_base.specs.Faults.{MatchFault, fault_of, kind_of, error_kind_of};
 ghost use Rattle.plist_base.specs.Sources.{CountsIo, FailsReading, IsIoWithin};
-ghost use Rattle.plist_base.specs.Container.{is_width};
-ghost use Rattle.plist_decode.specs.inner.Heads.{has_magic, IsTrailerAt, end_of_table, IsNumberWidth, HasHead, HasNoHead};
+ghost use Rattle.plist_base.specs.Container.{head_at, head_with, is_width, trailer_in};
+ghost use Rattle.plist_decode.specs.inner.Heads.{has_magic, end_of_table, IsNumberWidth, trailer_seen};
 ghost use Rattle.plist_decode.specs.FaultOffsets.{ErrWithin};
 ghost use Rattle.plist_base.specs.Outcomes.{DecodesBy, IfFault, IfRead, IfRefused};
 
@@ -47,7 +47,8 @@ pub fn has_magic<S: Source>(source: &mut S) -> Result<bool, Error>
 pub fn read_trailer<S: Source>(source: &mut S, trailer: u64) -> Result<Trailer, Error>
     requires { trailer + 32 < 2 ^ 64 }
     // Result.
-    ensures value { IfRead result (S.known source.old) (IsTrailerAt trailer) }
+    ensures value { IfRead result (S.known source.old) (λ bytes t.
+        length bytes ≡ trailer + 32 → trailer_seen t ≡ trailer_in (drop trailer bytes)) }
     // Errors.
     ensures refused { IfRefused result (S.known source.old) (IsIoWithin trailer 32) }
     ensures fault { IfFault result (FailsReading trailer 32) }
@@ -75,12 +76,14 @@ fn is_width(width: u64) -> bool
 /// Checks that the widths are allowed, and that the offset table ends before the trailer.
 pub fn check_trailer(trailer: u64, t: &Trailer) -> Result<(), Error>
     // Result.
-    ensures value { IfOk result (λ _. HasHead trailer t.now) }
+    ensures value { IfOk result (λ _. (bytes : List ℕ) → head_with bytes trailer
+        (trailer_seen t.now) ≡ Ok (head_at bytes trailer (trailer_seen t.now))) }
     ensures offset_width { IfOk result (λ _. IsNumberWidth t.now.offset_width) }
     ensures reference_width { IfOk result (λ _. IsNumberWidth t.now.reference_width) }
     ensures table { IfOk result (λ _. end_of_table t.now ≤ trailer) }
     // Errors.
-    ensures refused { IfErr result (HasNoHead trailer t.now) }
+    ensures refused { IfErr result (λ error. (bytes : List ℕ)
+        → head_with bytes trailer (trailer_seen t.now) ≡ Err (fault_of error)) }
     ensures kinds { IfErr result (λ error. MatchFault (kind_of (error_kind_of error)) ⊥ ⊥ ⊤) }
     ensures fault { ErrWithin trailer trailer result }
 {

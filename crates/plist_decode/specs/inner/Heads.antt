@@ -1,11 +1,10 @@
 -- What contracts say about the trailer and the head that the code has read.
 use Rattle.std.specs.Prelude.{◌≡◌, ℕ, ◌+◌, ◌*◌, ◌<◌, ◌≤◌, Bool, List, length, drop, nat_eq, Ok, Err, ⊤}
 use Rattle.std.specs.List.{starts_with}
-use Rattle.plist_base.specs.declared.error.Error.{Error}
-use Rattle.plist_base.specs.Faults.{Fault, MatchFault, fault_of}
+use Rattle.plist_base.specs.Faults.{Fault, MatchFault}
 use Rattle.plist_decode.specs.declared.trailer.Trailer as code
 use Rattle.plist_decode.specs.declared.head.Head as held
-use Rattle.plist_base.specs.Container.{Trailer, Head, head_at, head_with, magic, trailer_in}
+use Rattle.plist_base.specs.Container.{Trailer, Head, head_with, magic, trailer_in}
 
 -- what contracts see of a trailer that the code has read
 abbrev pub trailer_seen : code.Trailer → Trailer
@@ -32,11 +31,6 @@ has_magic bytes = starts_with nat_eq bytes magic
 
 -- ---- what is read from a trailer
 
--- if the bytes end with a trailer at this offset, `t` is that trailer
-abbrev pub IsTrailerAt : (trailer : ℕ) → List ℕ → code.Trailer → Type 0
-IsTrailerAt trailer bytes t =
-    length bytes ≡ trailer + 32 → trailer_seen t ≡ trailer_in (drop trailer bytes)
-
 -- the offset at which the offset table ends
 abbrev pub end_of_table : code.Trailer → ℕ
 end_of_table t = t.table + t.count * t.offset_width
@@ -44,16 +38,6 @@ end_of_table t = t.table + t.count * t.offset_width
 -- the width is one to eight bytes
 abbrev pub IsNumberWidth : ℕ → Type 0
 IsNumberWidth width = (0 < width) × (width ≤ 8)
-
--- a file with this trailer at this offset has a valid head
-abbrev pub HasHead : (trailer : ℕ) → code.Trailer → Type 0
-HasHead trailer t = (bytes : List ℕ)
-    → head_with bytes trailer (trailer_seen t) ≡ Ok (head_at bytes trailer (trailer_seen t))
-
--- a file with this trailer at this offset has this error
-abbrev pub HasNoHead : (trailer : ℕ) → code.Trailer → Error → Type 0
-HasNoHead trailer t error = (bytes : List ℕ)
-    → head_with bytes trailer (trailer_seen t) ≡ Err (fault_of error)
 
 -- ---- what is read from a head
 
