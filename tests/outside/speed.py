@@ -11,10 +11,11 @@ program fails on a shape, its cell says `fails`. If the first run of a program i
 more runs, so that a difference of a few milliseconds can be seen. If it is long, there is no second
 run.
 
-A second table compares how fast `BinaryReader` (tests/outside/items, which is proved and built in a
-copy of its crates by the kit's `rt`) and the crate read a slice into events that own their strings. It
-is for one pass: the time of a run of many passes minus that of a run of one, divided by the number of
-additional passes. Between the tables are the numbers of system calls, if `strace` is installed.
+Two more tables compare how fast the library (tests/outside/items and tests/outside/values, which are
+proved and built in a copy of their crates by the kit's `rt`) and the crate read a slice: into events
+that own their strings, and into a value, which is dropped. They are for one pass: the time of a run of
+many passes minus that of a run of one, divided by the number of additional passes. After the first
+table are the numbers of system calls, if `strace` is installed.
 
 Usage: speed.py [MEGABYTES ..]      1, 10 and 50 by default
 """
@@ -196,6 +197,32 @@ def keyed_archive(size):
     return plistlib.dumps(archive, fmt=plistlib.FMT_BINARY, sort_keys=False)
 
 
+def info_of(number):
+    """Returns what an application says about itself in its Info.plist."""
+    name = f"Application{number}"
+    return {
+        "BuildMachineOSBuild": "23A344", "CFBundleDevelopmentRegion": "en", "CFBundleExecutable": name,
+        "CFBundleIdentifier": f"org.example.{name}", "CFBundleInfoDictionaryVersion": "6.0",
+        "CFBundleName": name, "CFBundlePackageType": "APPL", "CFBundleVersion": str(number),
+        "CFBundleShortVersionString": f"{number % 9}.{number % 7}", "CFBundleSupportedPlatforms": ["MacOSX"],
+        "DTCompiler": "com.apple.compilers.llvm.clang.1_0",
+        "DTPlatformName": "macosx", "DTSDKName": "macosx14.0", "LSMinimumSystemVersion": "12.0",
+        "LSRequiresNativeExecution": True, "NSHighResolutionCapable": True, "NSPrincipalClass": "NSApplication",
+        "CFBundleDocumentTypes": [
+            {"CFBundleTypeExtensions": [f"ex{number}", kind], "CFBundleTypeRole": "Editor", "LSHandlerRank": "Owner",
+             "LSItemContentTypes": [f"org.example.{name}.{kind}"]} for kind in ("text", "image")],
+        "UTExportedTypeDeclarations": [
+            {"UTTypeConformsTo": ["public.data", "public.content"], "UTTypeDescription": f"{name} document",
+             "UTTypeIdentifier": f"org.example.{name}.text",
+             "UTTypeTagSpecification": {"public.filename-extension": [f"ex{number}"]}}],
+    }
+
+
+def infos(size):
+    """Returns a list of about this size."""
+    return plistlib.dumps([info_of(number) for number in range(size // 568)], fmt=plistlib.FMT_BINARY, sort_keys=False)
+
+
 def references_of(content, width):
     """Returns where the references of an object begin, and how many it has (a scalar has none)."""
     kind, count, start = content[0] >> 4, content[0] & 15, 1
@@ -248,7 +275,8 @@ def scattered_settings(size):
 SHAPES = {"integers": integers, "distinct strings": distinct_texts, "repeated strings": repeated_texts,
           "settings": settings, "blobs": blobs, "strings beyond ASCII": texts_beyond_ascii,
           "settings by plistlib": settings_by_plistlib, "settings, renumbered": renumbered_settings,
-          "settings, scattered": scattered_settings, "a keyed archive": keyed_archive}
+          "settings, scattered": scattered_settings, "a keyed archive": keyed_archive,
+          "an Info.plist, many in a list": infos}
 if shutil.which("plistutil"):
     SHAPES["settings by plistutil"] = settings_by_plistutil
 LEVELS = {"10^5 levels": lambda: levels(10**5), "10^6 levels": lambda: levels(10**6)}
@@ -306,6 +334,13 @@ def items_program(folder):
     """Builds the program over `BinaryReader`."""
     return built(folder, "items", ("plist_base", "plist_decode", "plist_binread"),
                  "plist_base plist_binread", ["no_such_file"])
+
+
+def values_program(folder):
+    """Builds the program over `Value::from_reader`."""
+    crates = ("plist_base", "plist_decode", "plist_binread", "plist_buffer", "plist_binwrite",
+              "plist_ascii", "plist_reader", "plist_pairs", "plist")
+    return built(folder, "values", crates, "plist", ["no_such_file"])
 
 
 def programs(crate):
@@ -448,8 +483,8 @@ def print_passes(shape, path, known):
     row(shape, path, {program: one_pass(once[program], often[program]) for program in known}, 0)
 
 
-def print_items(path, size, known):
-    print(f"\nItems with texts of their own, over bytes in memory, {size} MB, one pass of {PASSES}:\n")
+def print_all_passes(what, path, size, known):
+    print(f"\n{what}, over bytes in memory, {size} MB, one pass of {PASSES}:\n")
     heading(["shape", "bytes", *known])
     for shape in SHAPES:
         make(path, shape, size)
@@ -490,9 +525,14 @@ def main(words):
         known = dict(programs(crate))
         print_table(path, sizes, known)
         print_calls(path, max(sizes), known["plist_tool"])
-        items = items_program(folder)
-        if items:
-            print_items(path, min(sizes, key=lambda size: abs(size - 10)), {"BinaryReader": [items], **({"the crate": [crate, "items"]} if crate else {})})
+        size = min(sizes, key=lambda size: abs(size - 10))
+        for what, call, program, name in (
+                ("Items with texts of their own", "BinaryReader", items_program, "items"),
+                ("Values", "Value::from_reader", values_program, "values")):
+            ours = program(folder)
+            if ours:
+                theirs = {"the crate": [crate, name]} if crate else {}
+                print_all_passes(what, path, size, {call: [ours], **theirs})
 
 
 if __name__ == "__main__":

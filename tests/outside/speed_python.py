@@ -27,39 +27,13 @@ RUNS = 7
 NO_LIMITS = {"max_depth": None, "max_events": None, "max_bytes": None}
 
 
-def info_of(number):
-    """Returns what an application says about itself in its Info.plist."""
-    name = f"Application{number}"
-    return {
-        "BuildMachineOSBuild": "23A344", "CFBundleDevelopmentRegion": "en", "CFBundleExecutable": name,
-        "CFBundleIdentifier": f"org.example.{name}", "CFBundleInfoDictionaryVersion": "6.0",
-        "CFBundleName": name, "CFBundlePackageType": "APPL", "CFBundleVersion": str(number),
-        "CFBundleShortVersionString": f"{number % 9}.{number % 7}", "CFBundleSupportedPlatforms": ["MacOSX"],
-        "DTCompiler": "com.apple.compilers.llvm.clang.1_0",
-        "DTPlatformName": "macosx", "DTSDKName": "macosx14.0", "LSMinimumSystemVersion": "12.0",
-        "LSRequiresNativeExecution": True, "NSHighResolutionCapable": True, "NSPrincipalClass": "NSApplication",
-        "CFBundleDocumentTypes": [
-            {"CFBundleTypeExtensions": [f"ex{number}", kind], "CFBundleTypeRole": "Editor", "LSHandlerRank": "Owner",
-             "LSItemContentTypes": [f"org.example.{name}.{kind}"]} for kind in ("text", "image")],
-        "UTExportedTypeDeclarations": [
-            {"UTTypeConformsTo": ["public.data", "public.content"], "UTTypeDescription": f"{name} document",
-             "UTTypeIdentifier": f"org.example.{name}.text",
-             "UTTypeTagSpecification": {"public.filename-extension": [f"ex{number}"]}}],
-    }
-
-
-def infos(size):
-    """Returns a list of about this size."""
-    return plistlib.dumps([info_of(number) for number in range(size // 568)], fmt=plistlib.FMT_BINARY, sort_keys=False)
-
-
 def small_info(_):
-    return plistlib.dumps(info_of(1), fmt=plistlib.FMT_BINARY, sort_keys=False)
+    return plistlib.dumps(speed.info_of(1), fmt=plistlib.FMT_BINARY, sort_keys=False)
 
 
 SHAPES = {
     "settings": speed.settings, "distinct strings": speed.distinct_texts, "integers": speed.integers,
-    "Info.plist, many in a list": infos, "a keyed archive": speed.keyed_archive, "blobs": speed.blobs,
+    "Info.plist, many in a list": speed.infos, "a keyed archive": speed.keyed_archive, "blobs": speed.blobs,
     "repeated strings": speed.repeated_texts, "one Info.plist": small_info,
 }
 

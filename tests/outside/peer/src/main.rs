@@ -1,7 +1,7 @@
 //! A program over the Rust crate `plist`. `peer print FILE` prints the events of a binary property
-//! list. `peer items FILE TIMES` only counts them, TIMES times. `peer events FILE` passes them to a
-//! writer over memory, and prints how many bytes it wrote. `peer convert IN OUT` reads a value and
-//! writes it.
+//! list. `peer items FILE TIMES` only counts them, TIMES times. `peer values FILE TIMES` reads a value
+//! TIMES times, and drops it each time. `peer events FILE` passes the events to a writer over memory,
+//! and prints how many bytes it wrote. `peer convert IN OUT` reads a value and writes it.
 //!
 //! It prints as fast as it can: it writes lines to one buffer, and takes digits from tables.
 use plist::stream::{BinaryReader, BinaryWriter, Event, Writer};
@@ -161,6 +161,11 @@ fn main() -> Result<(), Box<dyn std::error::Error>> {
                 }
             }
             println!("{count}");
+        }
+        "values" => {
+            for _ in 0..words[2].parse::<u64>()? {
+                plist::Value::from_reader(Cursor::new(&bytes))?;
+            }
         }
         "events" => {
             let mut file = Vec::new();
