@@ -1,5 +1,5 @@
-//! Stores a small scalar in the tag byte and the content of its object, which is a `u64`, and the
-//! layout of an open collection in the tag byte.
+//! Stores the tag of an object, a byte: that of a small scalar, or one that encodes the layout of an
+//! open collection.
 
 ghost use Rattle.std.specs.Prelude.{◌≡◌, ◌<◌, length, slice_index};
 ghost use Rattle.plist_decode.specs.Packed.{KeepsOtherTags, is_marked, open_kind, open_start, open_tag};
