@@ -270,7 +270,7 @@ impl ReferenceReader {
                 self.values.fill(source, at);
                 self.values.number_at(at, width)
             }
-            _ => {
+            CollectionKind::Array | CollectionKind::Dictionary => {
                 self.near.fill(source, at);
                 self.near.number_at(at, width)
             }

@@ -2,7 +2,7 @@ use Rattle.std.proofs.Common.{Ok, sym, ◌∙◌}
 use Rattle.plist_decode.specs.StepFaults.{result_with}
 use Rattle.plist_binread.proofs.ChildReferences.{known_slot}
 use Rattle.plist_binread.proofs.references.ReferenceReader.read_child.Goals as goal
-use Rattle.plist_binread.proofs.references.ReferenceReader.read_child.Goals.{in-Dictionary, in_default-kind}
+use Rattle.plist_binread.proofs.references.ReferenceReader.read_child.Goals.{in-Dictionary, in-Array}
 
 pub returns-in-Some-clause-child : goal.returns-in-Some-clause-child
 returns-in-Some-clause-child g c =
@@ -23,8 +23,8 @@ returns-in-Some-found-clause-child g c =
     (elim c.match-references.branch [
       | in-Dictionary w ↦ rw (sym w.found-is ∙ c.in-Some-found.is) at
           (w.number_at-found.ensures _ w.fill.ensures)
-      | in_default-kind w ↦ rw (sym w.found-is ∙ c.in-Some-found.is) at
-          (w.number_at-found-in_default-kind.ensures _ w.fill-in_default-kind.ensures)
+      | in-Array w ↦ rw (sym w.found-is ∙ c.in-Some-found.is) at
+          (w.number_at-found-in-Array.ensures _ w.fill-in-Array.ensures)
     ]) tt
 
 pub returns-in-None-clause-child : goal.returns-in-None-clause-child
