@@ -23,8 +23,8 @@ use std::ops::ControlFlow;
 /// The tokens that a visitor gave for objects during a visit.
 #[derive(Drop)]
 pub struct Tokens {
-    // The tokens by the numbers of the objects, or 0 where there is none. The list is empty until the
-    // first token is stored.
+    // The tokens by the numbers of the objects, or 0 where there is none. The list is empty until
+    // the first token is stored.
     list: Vec<u32>,
     // Whether memory for the tokens was requested. If the allocation fails, it isn't tried again.
     is_made: bool,
@@ -59,9 +59,9 @@ impl Tokens {
     }
 
     // Stores the token that the visitor gives for an object, unless it is 0, if the object's tag is
-    // still `before`, as it was before the object was entered. So the object isn't a collection, and
-    // it isn't a small scalar that was decoded now: a token serves a small scalar only if it comes a
-    // third time. If the allocation for the tokens fails, none is stored.
+    // still `before`, as it was before the object was entered. So the object isn't a collection,
+    // and it isn't a small scalar that was decoded now: a token serves a small scalar only if it
+    // comes a third time. If the allocation for the tokens fails, none is stored.
     #[inline(always)]
     fn remember<V: EventVisitor>(&mut self, walk: &Walk, number: u64, before: u8, visitor: &V)
         ensures { StoresTokenOf (NamesLast V.step V.names) self.old number visitor.now self.new }
@@ -95,8 +95,8 @@ impl Tokens {
         }
     }
 
-    /// Hands the first event of an object to a visitor, and opens the object if it is a collection. A
-    /// scalar for which the visitor gave a token is handed over by the token.
+    /// Hands the first event of an object to a visitor, and opens the object if it is a collection.
+    /// A scalar for which the visitor gave a token is handed over by the token.
     #[inline(always)]
     pub fn enter<S: Source, C: DecodeCounter, V: EventVisitor>(
         &mut self,

@@ -14,8 +14,9 @@ use std::ops::ControlFlow;
 
 /// Passes the first event of a file on to another visitor.
 ///
-/// A function that has one caller becomes part of it. So the code that enters an object becomes part of
-/// the loop over the events only if no other code enters objects with the same type of visitor.
+/// A function that has one caller becomes part of it. So the code that enters an object becomes
+/// part of the loop over the events only if no other code enters objects with the same type of
+/// visitor.
 #[derive(Drop)]
 pub struct Relay<'v, V> {
     pub visitor: &'v mut V,
@@ -107,8 +108,8 @@ impl EventVisitor for FirstEvent {
         ControlFlow::Break(())
     }
 
-    // The method of the trait isn't inlined into a visitor that inherits it. Then `next` takes a tenth
-    // more instructions for integers.
+    // The method of the trait isn't inlined into a visitor that inherits it. Then `next` takes a
+    // tenth more instructions for integers.
     #[inline(always)]
     fn packed(&mut self, scalar: PackedScalar) -> ControlFlow<()> {
         let content = scalar.content();

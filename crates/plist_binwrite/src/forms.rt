@@ -306,7 +306,8 @@ fn length_of_wide(units: &[u8]) -> u64
     size.saturating_add(length_of_count(size / 2))
 }
 
-// Returns the length of the object of a scalar that isn't a string or data of more than eight bytes.
+// Returns the length of the object of a scalar that isn't a string or data of more than eight
+// bytes.
 fn length_of_packed(scalar: PackedScalar) -> u64
     ensures value { IsCapped result (length (scalar_form (scalar_of_packed scalar))) }
     ensures writable { IsWritableScalar (scalar_of_packed scalar) }

@@ -13,8 +13,8 @@ use std::alloc::Global;
 use std::io::Write;
 
 /// Decides which equal trees of a property list share an object of its file. `plist_binwrite` and
-/// `plist_share` implement it. Like [`Writer`](plist_base::Writer), it isn't meant to be implemented
-/// elsewhere, although `Sealed` is public, so that both crates can name it.
+/// `plist_share` implement it. Like [`Writer`](plist_base::Writer), it isn't meant to be
+/// implemented elsewhere, although `Sealed` is public, so that both crates can name it.
 pub trait Sharing: Sealed + Drop {
     /// Says which bytes are a file of a tree, and how many bytes such a file has.
     ghost kind: { FileKind };

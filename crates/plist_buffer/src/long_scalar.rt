@@ -72,7 +72,8 @@ impl<'a> LongRef<'a> {
         None
     }
 
-    /// Returns `true` if a copy allocates no memory, since its bytes are stored in the value itself.
+    /// Returns `true` if a copy allocates no memory, since its bytes are stored in the value
+    /// itself.
     #[inline(always)]
     pub fn is_short(self) -> bool {
         self.bytes.len() <= MAX_SHORT

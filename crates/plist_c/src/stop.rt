@@ -54,7 +54,8 @@ fn full_number(full: Full) -> u64
 }
 
 impl Halt {
-    /// Returns the outcome of a call that stopped for this reason, after this many events and bytes.
+    /// Returns the outcome of a call that stopped for this reason, after this many events and
+    /// bytes.
     pub(crate) fn outcome(self, events: usize, bytes: usize) -> Outcome
         ensures { result ≡ outcome_of_stop self events bytes }
     {

@@ -1,5 +1,5 @@
-//! Stores the tag of an object, a byte: that of a small scalar, or one that encodes the layout of an
-//! open collection.
+//! Stores the tag of an object, a byte: that of a small scalar, or one that encodes the layout of
+//! an open collection.
 
 ghost use Rattle.std.specs.Prelude.{◌≡◌, ◌<◌, length, slice_index};
 ghost use Rattle.plist_decode.specs.Packed.{KeepsOtherTags, is_marked, open_kind, open_start, open_tag};

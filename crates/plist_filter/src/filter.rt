@@ -179,7 +179,8 @@ impl<'o, W: Writer> Filter<'o, W> {
 /// # Errors
 ///
 /// - The first error of the source or of the writer.
-/// - `TooDeep` and `TooLong` if the source exceeds a limit, and `NothingLeft` if nothing is written.
+/// - `TooDeep` and `TooLong` if the source exceeds a limit, and `NothingLeft` if nothing is
+///   written.
 pub fn filter_events<S: Source, W: Writer + Drop>(
     alloc: Global,
     source: S,

@@ -1,6 +1,6 @@
-//! Many idioms of `docs/PORTING.md`, each run once, on `settings.plist` or `lines.plist` if it needs
-//! a file. `examples/idioms.rs` runs most of the idioms on the Rust crate `plist`, and says which
-//! lines of `crates/plist_settings/stdout` it prints.
+//! Many idioms of `docs/PORTING.md`, each run once, on `settings.plist` or `lines.plist` if it
+//! needs a file. `examples/idioms.rs` runs most of the idioms on the Rust crate `plist`, and says
+//! which lines of `crates/plist_settings/stdout` it prints.
 
 use crate::{Failure, Shown, open};
 use plist::stream::reading::format_of;

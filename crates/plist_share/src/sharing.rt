@@ -1,4 +1,5 @@
-//! The writer that shares collections. It plans and writes the shared file of a whole property list.
+//! The writer that shares collections. It plans and writes the shared file of a whole property
+//! list.
 
 ghost use Rattle.plist_share.specs.SharedFiles.{shared_files};
 

@@ -1,5 +1,5 @@
-//! The program of the tutorial. It reads a settings file, raises its version by one, and writes it to
-//! another file: `plist_tutorial FROM TO`.
+//! The program of the tutorial. It reads a settings file, raises its version by one, and writes it
+//! to another file: `plist_tutorial FROM TO`.
 #![tactic(auto)]
 
 use plist::{Dictionary, Error, Limits, Value};
