@@ -10,7 +10,7 @@ use Rattle.plist_base.specs.Faults.{FaultKind, LimitReached, error_kind_of, faul
 use Rattle.plist_base.specs.FirstItems.{GivesFirst, StopsIf}
 use Rattle.plist_base.specs.Limits.{Admits, KeepsLimits, event_or_limit, limited_by}
 use Rattle.plist_base.specs.Visits.{Flow, PlainItem, TakesTurn, item_with}
-use Rattle.plist_binread.specs.BinaryReader.{HasEndedBinary, Steps, Walks, has_limits, is_new, unlimited_items}
+use Rattle.plist_binread.specs.BinaryReader.{HasEndedBinary, Steps, Walks, has_limits, is_new, remaining_now, unlimited_items}
 use Rattle.plist_base.proofs.Refusals.{MatchFault-weaker}
 use Rattle.plist_decode.specs.FaultOffsets.{ItemGivenWithin, MatchGiven}
 use Rattle.plist_binread.proofs.ReaderLimits.{not_limit}
@@ -108,7 +108,8 @@ none_left : {R C : Type 0} {g : Ghosts R} {h : CounterGhosts C} (bytes : List �
     → IfSome item (λ answer. OnErr answer (unlimited_items bytes new ≡ []))
 none_left bytes new None ends = tt
 none_left bytes new (Some (Ok event)) ends = tt
-none_left bytes new (Some (Err error)) ends = rw ends refl
+none_left bytes new (Some (Err error)) ends =
+    ap (λ state. remaining_now bytes state new.decoder.bounds new.walk.frames) ends
 
 module _ {R C : Type 0} {g : Ghosts R} {h : CounterGhosts C} (old mid new : BinaryReader R C g h)
     (limits next : LimitCounter) (was : old.limiter ≡ Some limits) (now : new.limiter ≡ Some next)

@@ -1,5 +1,5 @@
 -- What contracts say about a reader: its remaining items, its open collections and its cache.
-use Rattle.std.specs.Prelude.{◌≡◌, ℕ, ◌+◌, ◌^◌, ◌<◌, ◌≤◌, Bool, true, false, List, [], length, Option, None, Result, MatchOption, OnErr, IfSome}
+use Rattle.std.specs.Prelude.{◌≡◌, ℕ, ◌+◌, ◌^◌, ◌<◌, ◌≤◌, Bool, true, false, List, [], length, reverse, Option, None, Result, MatchOption, OnErr, IfSome}
 use Rattle.std.specs.Option.{is_some, option_map}
 use Rattle.plist_base.specs.declared.error.Error.{Error}
 use Rattle.plist_base.specs.declared.event.Event.{Event}
@@ -14,11 +14,27 @@ use Rattle.plist_base.specs.Unfolding.{items_of_file, until_fault}
 use Rattle.plist_decode.specs.FaultOffsets.{ItemGivenWithin}
 use Rattle.plist_decode.specs.declared.counter.DecodeCounter.{Ghosts as CounterGhosts}
 use Rattle.plist_binread.specs.declared.reader.BinaryReader.{BinaryReader}
-use Rattle.plist_binread.specs.declared.reader.WalkState.TheVariants.{Ended}
-use Rattle.plist_binread.specs.Remaining.{AllocatesNext, AreBoundsOf, CountsObjects, MarksOpenPath, SomeRemain, by_state, entries_of, is_fresh, is_walking, next_number, objects_in_head, walk_steps}
+use Rattle.plist_binread.specs.declared.reader.WalkState.{WalkState}
+use Rattle.plist_binread.specs.declared.reader.WalkState.TheVariants.{Ended, Fresh, Walking}
+use Rattle.plist_binread.specs.declared.frames.Frame.{Frame}
+use Rattle.plist_decode.specs.declared.head.Bounds.{Bounds}
+use Rattle.plist_binread.specs.Remaining.{AllocatesNext, AreBoundsOf, CountsObjects, MarksOpenPath, SomeRemain, by_state, entries_of, is_fresh, is_walking, next_number, objects_in_head, remaining_items, walk_steps}
 use Rattle.plist_binread.specs.Tokens.{HoldsTokens, IsEventOf}
 use Rattle.plist_binread.specs.declared.tokens.Tokens.{Tokens}
-use Rattle.plist_binread.specs.Walking.{IsCachedIfSmall, cached_in, open_in, remaining_in, root_with, weight_in}
+use Rattle.plist_binread.specs.Walking.{IsCachedIfSmall, cached_in, open_in, root_with, weight_in}
+
+-- the items that remain in this state, without regard to limits
+abbrev pub remaining_now : List ℕ → WalkState → Bounds → List Frame → List Item
+remaining_now bytes Fresh bounds frames = items_of_file bytes
+remaining_now bytes Walking bounds frames =
+    until_fault (remaining_items (entries_of bytes bounds) (reverse frames))
+remaining_now bytes Ended bounds frames = []
+
+-- the number of the object that is entered next in this state, or `None` if there is none
+abbrev pub upcoming_number : List ℕ → WalkState → Bounds → List Frame → Option ℕ
+upcoming_number bytes Fresh bounds frames = root_with (head_of bytes)
+upcoming_number bytes Walking bounds frames = next_number (entries_of bytes bounds) (reverse frames)
+upcoming_number bytes Ended bounds frames = None
 
 module _ {R C : Type 0} {g : Ghosts R} {h : CounterGhosts C} where
   -- the source of the reader
@@ -31,13 +47,8 @@ module _ {R C : Type 0} {g : Ghosts R} {h : CounterGhosts C} where
 
   -- the items of the file that remain, without regard to limits
   abbrev pub unlimited_items : List ℕ → BinaryReader R C g h → List Item
-  unlimited_items bytes reader = by_state reader.state (items_of_file bytes)
-      (until_fault (remaining_in bytes reader.decoder.bounds reader.walk)) []
-
-  -- the number of the object that is entered next, or `None` if there is none
-  abbrev pub upcoming_number : List ℕ → BinaryReader R C g h → Option ℕ
-  upcoming_number bytes reader = by_state reader.state (root_with (head_of bytes))
-      (next_number (entries_of bytes reader.decoder.bounds) (open_in reader.walk)) None
+  unlimited_items bytes reader =
+      remaining_now bytes reader.state reader.decoder.bounds reader.walk.frames
 
   -- the items of a list that the reader's limits admit, or all of them without limits
   abbrev pub admitted_by : BinaryReader R C g h → List Item → List Item
@@ -122,7 +133,8 @@ module _ {R C : Type 0} {g : Ghosts R} {h : CounterGhosts C} (old : BinaryReader
         → AreBoundsOf (head_of bytes) new.decoder.bounds
         × (objects_in_file new ≡ objects_in_head bytes))
     pub cached : IfSome (g.known (binary_source old)) (λ bytes. IsCachedIfSmall shown
-        (upcoming_number bytes old) item new.walk.tags.items)
+        (upcoming_number bytes old.state old.decoder.bounds old.walk.frames) item
+        new.walk.tags.items)
     pub leaves : KeepsInvariant old new
     -- after an event, and after an error other than `Io` and `OutOfMemory`, the reader counts as many
     -- objects as the head; after these two it counts as many, or none
