@@ -27,10 +27,10 @@ lost before after event fault true is kind step =
 pub returns-in-Err-clause-failed : goal.returns-in-Err-clause-failed
 returns-in-Err-clause-failed g c =
     let kind : kind_of (error_kind_of c.in-Err.error) ≡ OutOfMemory =
-        elim c.match-matches.branch [
-          | in-OutOfMemory w ↦ ap kind_of (sym c.kind.ensures ∙ w.in-OutOfMemory.is)
-          | in_default-matches w ↦ cc (w.matches-is, c.if-matches.true)
-        ] in
+    elim c.match-matches.branch [
+      | in-OutOfMemory w ↦ ap kind_of (sym c.kind.ensures ∙ w.in-OutOfMemory.is)
+      | in_default-matches w ↦ cc (w.matches-is, c.if-matches.true)
+    ] in
     (c.write-answer.ensures.failure
     (lost c.args.writer _ (event_of c.args.event) (fault_of c.in-Err.error) _ refl kind
     (rw c.in-Err.is at c.write.ensures)).0).0
@@ -38,10 +38,10 @@ returns-in-Err-clause-failed g c =
 pub returns-in-Err-clause-inner : goal.returns-in-Err-clause-inner
 returns-in-Err-clause-inner g c =
     let kind : kind_of (error_kind_of c.in-Err.error) ≡ OutOfMemory =
-        elim c.match-matches.branch [
-          | in-OutOfMemory w ↦ ap kind_of (sym c.kind.ensures ∙ w.in-OutOfMemory.is)
-          | in_default-matches w ↦ cc (w.matches-is, c.if-matches.true)
-        ] in
+    elim c.match-matches.branch [
+      | in-OutOfMemory w ↦ ap kind_of (sym c.kind.ensures ∙ w.in-OutOfMemory.is)
+      | in_default-matches w ↦ cc (w.matches-is, c.if-matches.true)
+    ] in
     let loss = lost c.args.writer _ (event_of c.args.event) (fault_of c.in-Err.error) _ refl kind
-        (rw c.in-Err.is at c.write.ensures) in
+    (rw c.in-Err.is at c.write.ensures) in
     c.into_inner.ensures.inner ∙ (ap sink_of (c.write-answer.ensures.failure loss.0).1 ∙ loss.1)
